@@ -1,0 +1,58 @@
+-- A guest program as it stands in memory before its first instruction.
+use Rattle.std.specs.Prelude.{◌≡◌, ◌≢◌, ℕ, ◌+◌, ◌<◌, ◌≤◌, ◌%◌, ◌&&◌, not, nat_le, nat_lt, max, min, if◌then◌else◌, Bool, true, false, Option, Some, None, IsTrue, List, length, AllPairs, All, ◌⊎◌}
+use Rattle.std.specs.List.{list_any}
+use Rattle.llsc_base.specs.Memory.{size_bytes, is_aligned, value_at}
+use Rattle.llsc_base.specs.declared.access.Size.{Size}
+use Rattle.llsc_base.specs.declared.access.Size.TheVariants.{B4}
+use Rattle.llsc_base.specs.declared.access.Place.{Place}
+use Rattle.llsc_base.specs.declared.access.Bar.{Bar}
+use Rattle.llsc_base.specs.declared.access.Bar.TheVariants.{Alignment, Outside, ReadOnly}
+use Rattle.llsc_base.specs.declared.images.Span.{Span}
+
+-- memory at the start, the segments that lie in it, and the address of the first instruction
+pub record Program : Type 0 where
+  pub bytes : List ℕ
+  pub spans : List Span
+  pub entry : ℕ
+
+-- four bytes at an address lie in one span that may be run
+abbrev pub runs_at : List Span → ℕ → Bool
+runs_at spans addr = list_any (λ span. span.run && nat_le span.start addr && nat_le (addr + 4) span.end) spans
+
+-- the instruction word at an address, where one may be run there
+abbrev pub word_at : Program → ℕ → Option ℕ
+word_at program addr =
+    if runs_at program.spans addr
+    then Some (value_at program.bytes (record { addr = addr; size = B4 }))
+    else None
+
+-- some byte from one address up to another lies in a span that isn't written
+abbrev pub touches_read_only : List Span → ℕ → ℕ → Bool
+touches_read_only spans from to =
+    list_any (λ span. not span.write && nat_lt (max span.start from) (min span.end to)) spans
+
+-- what stands against an access of a place, the first that does
+abbrev pub bar_of : Program → Place → Bool → Option Bar
+bar_of program place store =
+    if not (is_aligned place) then Some Alignment else
+    if nat_lt (length program.bytes) (place.addr + size_bytes place.size) then Some Outside else
+    if store && touches_read_only program.spans place.addr (place.addr + size_bytes place.size) then Some ReadOnly else
+    None
+
+-- a span is not empty, lies within so many bytes, and none is both run and written
+pub record IsSpan (count : ℕ) (span : Span) : Type 0 where
+  pub filled : span.start < span.end
+  pub inside : span.end ≤ count
+  pub apart : span.run ≡ true → span.write ≡ false
+
+-- two spans share no address
+abbrev pub AreApart : Span → Span → Type 0
+AreApart one other = max one.start other.start < min one.end other.end → ⊥
+
+-- what holds of every program: its entry is a word's address, its memory is no larger than the greatest machine's,
+-- each span is sound, and no two share an address
+pub record IsProgram (program : Program) : Type 0 where
+  pub aligned : program.entry % 4 ≡ 0
+  pub sized : length program.bytes ≤ 16777216
+  pub spans : All (IsSpan (length program.bytes)) program.spans
+  pub apart : AllPairs AreApart program.spans

@@ -1,0 +1,4 @@
+pub mod Memory
+pub mod Sizes
+pub mod Images
+pub mod Flat

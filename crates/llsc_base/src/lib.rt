@@ -1,0 +1,19 @@
+//! What every other crate speaks of: sizes and places of accesses, the numbers of a machine, and the
+//! image of a guest program.
+//!
+//! An access has a [`Place`]: an address and a [`Size`]. A [`MachineSize`] holds the numbers of a
+//! machine, all in range. An [`Image`] is a program as it stands in memory before its first
+//! instruction; [`Image::fetch`] and [`Image::test`] say what a guest may run and access.
+#![tactic(auto)]
+
+mod access;
+mod flat;
+mod images;
+mod lines;
+mod sizes;
+
+pub use access::{Bar, Place, Size};
+pub use flat::FlatFault;
+pub use images::{Image, Span};
+pub use lines::Line;
+pub use sizes::{MachineSize, SizeFault};
