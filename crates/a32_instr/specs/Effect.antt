@@ -1,0 +1,31 @@
+-- What an instruction does, from its start state and the replies to its accesses so far.
+use Rattle.std.specs.Prelude.{ℕ, if◌then◌else◌, List, [], ◌∷◌}
+use Rattle.llsc_base.specs.Images.{Program}
+use Rattle.a32_instr.specs.declared.instructions.Instr.{Instr}
+use Rattle.a32_instr.specs.declared.instructions.Instr.TheVariants.{Alu, Word, Branch, Svc}
+use Rattle.a32_instr.specs.Condition.{passes}
+use Rattle.a32_instr.specs.State.{State, Effect, completes, advanced}
+use Rattle.a32_instr.specs.DataProcessing.{alu}
+use Rattle.a32_instr.specs.LoadStore.{word}
+use Rattle.a32_instr.specs.Branch.{branches, supervisor_call}
+
+-- the condition of an instruction
+abbrev pub condition_of : Instr → ℕ
+condition_of (Alu cond op s rd rn operand) = cond
+condition_of (Word cond load byte index rn rt offset) = cond
+condition_of (Branch cond link words) = cond
+condition_of (Svc cond imm) = cond
+
+-- what an instruction does whose condition has passed
+abbrev pub acts : Instr → Program → List ℕ → State → Effect
+acts (Alu cond op s rd rn operand) program replies state = alu op s rd rn operand state
+acts (Word cond load byte index rn rt offset) program replies state = word program load byte rn rt offset replies state
+acts (Branch cond link words) program replies state = branches link words state
+acts (Svc cond imm) program replies state = supervisor_call imm state
+
+-- An instruction whose condition fails is complete and does nothing (DDI 0406C A8.3.1). The condition is tested
+-- before the first access is asked for.
+abbrev pub effect_of : Instr → Program → List ℕ → State → Effect
+effect_of instr program [] state =
+    if passes (condition_of instr) state.flags then acts instr program [] state else completes (advanced state)
+effect_of instr program (reply ∷ replies) state = acts instr program (reply ∷ replies) state

@@ -1,0 +1,9 @@
+pub mod Bits
+pub mod Table
+pub mod State
+pub mod Condition
+pub mod Sum
+pub mod DataProcessing
+pub mod LoadStore
+pub mod Branch
+pub mod Effect

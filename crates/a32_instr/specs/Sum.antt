@@ -1,0 +1,28 @@
+-- Sums of 32-bit numbers (DDI 0406C A2.2.1, AddWithCarry), in unbounded whole numbers.
+use Rattle.std.specs.Prelude.{ℕ, ◌+◌, ◌-◌, ◌^◌, ◌%◌, nat_le, nat_lt, if◌then◌else◌, ◌||◌, Bool, ℤ, pos, negsuc, ◌+ℤ◌, ◌-ℤ◌, int_lt}
+
+-- a sum, whether it is at least 2 to the 32, and whether the signed sum is out of its range
+pub record Sum : Type 0 where
+  pub value : ℕ
+  pub carry : Bool
+  pub overflow : Bool
+
+-- a 32-bit number read as signed
+abbrev pub signed : ℕ → ℤ
+signed x = if nat_lt x (2 ^ 31) then pos x else pos x -ℤ pos (2 ^ 32)
+
+-- a signed number is below minus 2 to the 31, or above 2 to the 31 less 1
+abbrev pub is_out_of_range : ℤ → Bool
+is_out_of_range z = int_lt z (negsuc 2147483647) || int_lt (pos 2147483647) z
+
+-- every bit of a 32-bit number turned round
+abbrev pub complement : ℕ → ℕ
+complement x = 2 ^ 32 - 1 - x
+
+-- two numbers and a carry, which is 0 or 1
+unfoldable pub sum_of : ℕ → ℕ → ℕ → Sum
+sum_of x y carry = record {
+  value = (x + y + carry) % 2 ^ 32;
+  carry = nat_le (2 ^ 32) (x + y + carry);
+  overflow = is_out_of_range (signed x +ℤ signed y +ℤ pos carry);
+}

@@ -1,0 +1,20 @@
+//! The A32 instructions that a guest may have: their types, the table of their words, and what each
+//! of them does.
+//!
+//! Everything here is from the Arm Architecture Reference Manual, Armv7-A and Armv7-R (DDI 0406C),
+//! chapters A5 and A8. What is to be believed stands in `specs/`: the table of instruction words
+//! (`Table`), the condition codes (`Condition`), and the effects (`Effect`, with one file for each
+//! class of instructions). The decoder and the interpreter are proved against them.
+#![tactic(auto)]
+
+mod conditions;
+mod instructions;
+mod laws;
+mod outside;
+mod registers;
+
+pub use conditions::{Cond, Flags};
+pub use instructions::{AluOp, DecodeFault, Index, Instr, Offset, Operand2};
+pub use laws::{meanings_of_words, no_word_fits_two_rows, rows_have_32_bits};
+pub use outside::{Ask, CallAsk, Stop};
+pub use registers::Reg;

@@ -1,0 +1,43 @@
+use llsc_base::Place;
+
+/// An access to memory that an instruction asks for.
+#[derive(Clone, Copy, Debug, PartialEq, Eq)]
+pub enum Ask {
+    /// The value of a place. The reply is that value.
+    Load(Place),
+    /// A store of a value, which fits the place. The reply is 0.
+    Store(Place, u64),
+}
+
+/// A guest call: the immediate of the SVC, the call number in r7, and r0, r1 and r2.
+#[derive(Clone, Copy, Debug, PartialEq, Eq)]
+pub struct CallAsk {
+    pub imm: u32,
+    pub number: u32,
+    pub a: u32,
+    pub b: u32,
+    pub c: u32,
+}
+
+/// Why a guest thread runs no further.
+#[derive(Clone, Copy, Debug, PartialEq, Eq)]
+pub enum Stop {
+    /// The exit call, with r0 modulo 256.
+    Exit(u8),
+    /// The word at this address is no instruction.
+    Undefined(u32),
+    /// The instruction at this address is unpredictable, or writes a PC with bits 1:0 equal to 10.
+    Unpredictable(u32),
+    /// An access at this address, which is no multiple of its size.
+    Alignment(u32),
+    /// An access at this address reaches past memory, or no instruction may be run there.
+    Outside(u32),
+    /// A store at this address has a byte in a span that isn't written.
+    ReadOnly(u32),
+    /// The instruction at this address writes a PC with bit 0 set.
+    Thumb(u32),
+    /// The thread has used up its steps.
+    Budget,
+    /// The class of this address has no write left.
+    TagLimit(u32),
+}
