@@ -7,12 +7,10 @@ use Rattle.a32_instr.specs.declared.instructions.Operand2.{Operand2}
 use Rattle.a32_instr.specs.declared.instructions.Operand2.TheVariants.{Imm}
 use Rattle.a32_instr.specs.Table.{is_compare}
 use Rattle.a32_instr.specs.State.{State, Effect, completes, register, advanced, writes}
-use Rattle.a32_instr.specs.Sum.{Sum, sum_of, complement}
-
--- a value and a carry
-pub record Shifted : Type 0 where
-  pub value : ℕ
-  pub carry : Bool
+use Rattle.a32_instr.specs.declared.arithmetic.Sum.{Sum}
+use Rattle.a32_instr.specs.declared.arithmetic.Shifted.{Shifted}
+use Rattle.a32_instr.specs.declared.arithmetic.Computed.{Computed}
+use Rattle.a32_instr.specs.Sum.{sum_of, complement}
 
 -- bit 31 of a 32-bit number
 abbrev pub top_bit : ℕ → Bool
@@ -28,11 +26,6 @@ operand_of (Imm turn imm8) state = record {
   value = rotated_right imm8 (2 * turn);
   carry = if turn == 0 then state.flags.c else top_bit (rotated_right imm8 (2 * turn));
 }
-
--- a result, and the flags that it sets
-pub record Computed : Type 0 where
-  pub value : ℕ
-  pub flags : Flags
 
 -- a sum sets all four flags
 abbrev pub summed : Sum → Computed

@@ -29,10 +29,10 @@ abbrev pub asks_unless : Option Bar → ℕ → Ask → Effect
 asks_unless None addr ask = asks ask
 asks_unless (Some bar) addr ask = stops (barred bar addr)
 
--- a load asks for its place, and writes the reply to its register
+-- a load asks for its place, and writes the reply to its register, which has 32 bits
 abbrev pub loads : Program → Place → ℕ → List ℕ → State → Effect
 loads program place rt [] state = asks_unless (bar_of program place false) place.addr (Load place)
-loads program place rt (value ∷ _) state = writes state rt value
+loads program place rt (value ∷ _) state = writes state rt (low32 value)
 
 -- a store asks for its place with a value, and is complete with the reply
 abbrev pub stores : Program → Place → ℕ → List ℕ → State → Effect

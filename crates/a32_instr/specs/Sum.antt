@@ -1,11 +1,6 @@
 -- Sums of 32-bit numbers (DDI 0406C A2.2.1, AddWithCarry), in unbounded whole numbers.
 use Rattle.std.specs.Prelude.{ℕ, ◌+◌, ◌-◌, ◌^◌, ◌%◌, nat_le, nat_lt, if◌then◌else◌, ◌||◌, Bool, ℤ, pos, negsuc, ◌+ℤ◌, ◌-ℤ◌, int_lt}
-
--- a sum, whether it is at least 2 to the 32, and whether the signed sum is out of its range
-pub record Sum : Type 0 where
-  pub value : ℕ
-  pub carry : Bool
-  pub overflow : Bool
+use Rattle.a32_instr.specs.declared.arithmetic.Sum.{Sum}
 
 -- a 32-bit number read as signed
 abbrev pub signed : ℕ → ℤ
@@ -19,7 +14,8 @@ is_out_of_range z = int_lt z (negsuc 2147483647) || int_lt (pos 2147483647) z
 abbrev pub complement : ℕ → ℕ
 complement x = 2 ^ 32 - 1 - x
 
--- two numbers and a carry, which is 0 or 1
+-- The sum of two numbers and a carry, which is 0 or 1: modulo 2 to the 32, with a carry where it is at least that,
+-- and an overflow where the signed sum is out of range.
 unfoldable pub sum_of : ℕ → ℕ → ℕ → Sum
 sum_of x y carry = record {
   value = (x + y + carry) % 2 ^ 32;

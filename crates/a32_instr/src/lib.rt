@@ -7,12 +7,14 @@
 //! class of instructions). The decoder and the interpreter are proved against them.
 #![tactic(auto)]
 
+mod arithmetic;
 mod conditions;
 mod instructions;
 mod laws;
 mod outside;
 mod registers;
 
+pub use arithmetic::{Computed, Shifted, Sum};
 pub use conditions::{Cond, Flags};
 pub use instructions::{AluOp, DecodeFault, Index, Instr, Offset, Operand2};
 pub use laws::{meanings_of_words, no_word_fits_two_rows, rows_have_32_bits};
