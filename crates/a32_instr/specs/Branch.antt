@@ -1,6 +1,7 @@
 -- Branches (DDI 0406C A8.8.18, A8.8.25) and the supervisor call (A8.8.228).
 use Rattle.std.specs.Prelude.{ℕ, ◌+◌, ◌^◌, if◌then◌else◌, Bool, ℤ, pos, ◌+ℤ◌, ◌*ℤ◌, unsigned_abs, slice_index}
 use Rattle.std.specs.Int.{int_rem_euclid}
+use Rattle.a32_instr.specs.declared.outside.CallAsk.{CallAsk}
 use Rattle.a32_instr.specs.State.{State, Effect, completes, calls, low32, with_register}
 
 -- so many words from the address of the instruction plus 8, modulo 2 to the 32
@@ -11,15 +12,22 @@ target_of pc words = unsigned_abs (int_rem_euclid (pos (pc + 8) +ℤ (pos 4 *ℤ
 abbrev pub linked : Bool → State → State
 linked link state = if link then with_register state 14 (low32 (state.pc + 4)) else state
 
+-- the state after a branch
+abbrev pub branched : Bool → ℤ → State → State
+branched link words state = record (linked link state) { pc = target_of state.pc words }
+
 abbrev pub branches : Bool → ℤ → State → Effect
-branches link words state = completes (record (linked link state) { pc = target_of state.pc words })
+branches link words state = completes (branched link words state)
 
 -- a guest call has its number in r7, and r0 to r2 as its arguments
-abbrev pub supervisor_call : ℕ → State → Effect
-supervisor_call imm state = calls (record {
+abbrev pub call_of : ℕ → State → CallAsk
+call_of imm state = record {
   imm = imm;
   number = slice_index state.regs 7;
   a = slice_index state.regs 0;
   b = slice_index state.regs 1;
   c = slice_index state.regs 2;
-})
+}
+
+abbrev pub supervisor_call : ℕ → State → Effect
+supervisor_call imm state = calls (call_of imm state)

@@ -16,16 +16,23 @@ use Rattle.a32_instr.specs.Sum.{sum_of, complement}
 abbrev pub top_bit : ℕ → Bool
 top_bit x = nat_le (2 ^ 31) x
 
--- a 32-bit number rotated right by an amount below 32
-unfoldable pub rotated_right : ℕ → ℕ → ℕ
-rotated_right x amount = x / 2 ^ amount + x % 2 ^ amount * 2 ^ (32 - amount)
+-- a 32-bit number rotated right, by an amount below 32
+unfoldable pub turned : ℕ → ℕ → ℕ
+turned x amount = x / 2 ^ amount + x % 2 ^ amount * 2 ^ (32 - amount)
 
--- the second operand and the shifter's carry: an immediate that isn't turned keeps the carry (DDI 0406C A5.2.4)
-abbrev pub operand_of : Operand2 → State → Shifted
-operand_of (Imm turn imm8) state = record {
+-- a rotation by 32 turns a number all the way round
+abbrev pub rotated_right : ℕ → ℕ → ℕ
+rotated_right x amount = turned x (amount % 32)
+
+-- an immediate and the shifter's carry: one that isn't turned keeps the carry (DDI 0406C A5.2.4, ARMExpandImm_C)
+abbrev pub immediate : ℕ → ℕ → Bool → Shifted
+immediate turn imm8 carry = record {
   value = rotated_right imm8 (2 * turn);
-  carry = if turn == 0 then state.flags.c else top_bit (rotated_right imm8 (2 * turn));
+  carry = if turn == 0 then carry else top_bit (rotated_right imm8 (2 * turn));
 }
+
+abbrev pub operand_of : Operand2 → State → Shifted
+operand_of (Imm turn imm8) state = immediate turn imm8 state.flags.c
 
 -- a sum sets all four flags
 abbrev pub summed : Sum → Computed

@@ -1,5 +1,5 @@
 -- The numbers of a machine and their ranges.
-use Rattle.std.specs.Prelude.{◌≡◌, ◌-◌, ◌*◌, ◌^◌, ◌%◌, ◌==◌, ◌||◌, ◌&&◌, not, nat_le, if◌then◌else◌, Bool, Option, Some, None, IsTrue, List, codes, ℕ}
+use Rattle.std.specs.Prelude.{◌≡◌, ◌-◌, ◌*◌, ◌^◌, ◌%◌, ◌==◌, ◌&&◌, not, nat_le, if◌then◌else◌, Bool, Option, Some, None, List, codes, ℕ}
 use Rattle.std.specs.Int.{is_power_of_two}
 use Rattle.llsc_base.specs.declared.sizes.SizeFault.{SizeFault}
 use Rattle.llsc_base.specs.declared.sizes.SizeFault.TheVariants as fault
@@ -10,6 +10,10 @@ pub record Numbers : Type 0 where
   pub threads : ℕ
   pub classes : ℕ
   pub limit : ℕ
+
+-- four numbers as one machine's
+abbrev pub numbers : ℕ → ℕ → ℕ → ℕ → Numbers
+numbers mem threads classes limit = record { mem = mem; threads = threads; classes = classes; limit = limit }
 
 -- from 65,536 to 16,777,216 bytes, in pages of 4096
 abbrev pub is_mem : ℕ → Bool

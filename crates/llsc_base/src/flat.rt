@@ -1,7 +1,17 @@
-ghost use Rattle.std.specs.Prelude.{◌≡◌};
-ghost use Rattle.llsc_base.specs.Flat.{flat_fault_name};
+ghost use Rattle.std.specs.Prelude.{◌≡◌, ◌⊎◌, ◌+◌, ◌<◌, ◌≤◌, IfErr, IfOk, IfSome, None, Some, length};
+ghost use Rattle.llsc_base.specs.Flat.{flat_byte, flat_fault, flat_fault_name, flat_image, flat_start, values_below};
 
+use crate::images::{Image, Span};
+use crate::memory::put;
+use crate::sizes::MachineSize;
+use std::alloc::{AllocError, Global};
 use thiserror::Error;
+
+/// Where a flat file's bytes begin in memory.
+const FLAT_START: u32 = 0x1000;
+
+/// The four bytes with which an ELF file begins (System V gABI, ELF identification).
+const ELF_MAGIC: [u8; 4] = [0x7f, b'E', b'L', b'F'];
 
 /// Why a flat file gives no image.
 #[derive(Clone, Copy, Debug, PartialEq, Eq, Error)]
@@ -31,5 +41,139 @@ impl FlatFault {
             FlatFault::TooLong => "TooLong",
             FlatFault::Memory => "Memory",
         }
+    }
+}
+
+impl Image {
+    /// The image of a flat file: instruction words and nothing else, which stand in memory from 0x1000 up,
+    /// in one span that runs and isn't written. The first word is the first instruction.
+    ///
+    /// # Errors
+    ///
+    /// The first of [`FlatFault`]'s variants that holds: `Elf` where the file begins with 7F 45 4C 46,
+    /// `Length` where it is empty or its length is no multiple of 4, `TooLong` where 0x1000 and its length
+    /// are more than the size's room, and `Memory` where there is no memory for the image.
+    pub fn flat(alloc: Global, bytes: &[u8], size: &MachineSize) -> Result<Image, FlatFault>
+        ensures ok { IfOk result (λ image. (flat_fault bytes.now size.now ≡ None) × (image ≡ flat_image bytes.now size.now)) }
+        ensures err { IfErr result (λ fault. (flat_fault bytes.now size.now ≡ Some fault) ⊎ (fault ≡ FlatFault.Memory)) }
+        ensures refused { IfSome (flat_fault bytes.now size.now) (λ fault. result ≡ Err fault) }
+    {
+        if let Some(fault) = flat_fault(bytes, size) {
+            return Err(fault);
+        }
+        let Ok(memory) = flat_memory(alloc, bytes, size.mem()) else {
+            return Err(FlatFault::Memory);
+        };
+        let span = Span {
+            start: FLAT_START,
+            end: FLAT_START + bytes.len() as u32,
+            run: true,
+            write: false,
+        };
+        let Ok(spans) = vec![in alloc; span] else {
+            return Err(FlatFault::Memory);
+        };
+        Ok(Image::new(memory, spans, FLAT_START))
+    }
+}
+
+// The first fault of a flat file.
+fn flat_fault(bytes: &[u8], size: &MachineSize) -> Option<FlatFault>
+    ensures { result ≡ flat_fault bytes.now size.now }
+{
+    if bytes.starts_with(&ELF_MAGIC) {
+        return Some(FlatFault::Elf);
+    }
+    if bytes.len() == 0 || bytes.len() % 4 != 0 {
+        return Some(FlatFault::Length);
+    }
+    let room = size.room() as usize;
+    if room < FLAT_START as usize || room - (FLAT_START as usize) < bytes.len() {
+        return Some(FlatFault::TooLong);
+    }
+    None
+}
+
+// All of memory, with the file's bytes in it and 0 elsewhere.
+fn flat_memory(alloc: Global, file: &[u8], mem: u32) -> Result<Vec<u8>, AllocError>
+    requires { flat_start + length file.now ≤ mem }
+    ensures { IfOk result (λ memory. memory.items ≡ values_below mem (flat_byte file.now)) }
+{
+    let mut memory = vec![in alloc; 0; mem as usize]?;
+    put(&mut memory, FLAT_START as usize, file);
+    Ok(memory)
+}
+
+#[cfg(test)]
+mod tests {
+    use super::*;
+    use crate::access::{Bar, Place, Size};
+
+    // Three words: mov r0, #0; mov r7, #1; svc #0.
+    const EXIT: [u8; 12] = [0, 0, 0xa0, 0xe3, 1, 0x70, 0xa0, 0xe3, 0, 0, 0, 0xef];
+
+    #[derive(Debug, Drop, Error)]
+    #[error("no image")]
+    struct NoImage;
+
+    fn image(alloc: Global) -> Result<Image, NoImage> {
+        let size = MachineSize::new(1_048_576, 1, 4096, 1 << 62).map_err(|_| NoImage)?;
+        Image::flat(alloc, &EXIT, &size).map_err(|_| NoImage)
+    }
+
+    #[test]
+    fn words(rt: HostRuntime) -> Result<(), NoImage> {
+        let image = image(rt.alloc())?;
+        assert_eq!(rt; image.entry(), 0x1000);
+        assert_eq!(rt; image.bytes().len(), 1_048_576);
+        let cases = [
+            (0x1000, Some(0xe3a0_0000)),
+            (0x1008, Some(0xef00_0000)),
+            (0x100c, None),
+            (0, None),
+        ];
+        for (addr, word) in cases {
+            assert_eq!(rt; image.fetch(addr), word, "at {addr}");
+        }
+        assert_eq!(rt; image.byte(0x1003), 0xe3);
+        Ok(())
+    }
+
+    #[test]
+    fn bars(rt: HostRuntime) -> Result<(), NoImage> {
+        let image = image(rt.alloc())?;
+        let cases = [
+            (0x1001, Size::B4, false, Some(Bar::Alignment)),
+            (0x10_0000, Size::B4, false, Some(Bar::Outside)),
+            (0x1000, Size::B4, true, Some(Bar::ReadOnly)),
+            (0x1000, Size::B4, false, None),
+            (0xffc, Size::B4, true, None),
+            (0x1008, Size::B8, true, Some(Bar::ReadOnly)),
+        ];
+        for (addr, size, store, bar) in cases {
+            assert_eq!(rt; image.test(Place { addr, size }, store), bar, "at {addr}");
+        }
+        Ok(())
+    }
+
+    #[test]
+    fn faults(rt: HostRuntime) -> Result<(), NoImage> {
+        let size = MachineSize::new(65_536, 14, 1, 1).map_err(|_| NoImage)?;
+        let long = [1; 4100];
+        assert_eq!(rt;
+            Image::flat(rt.alloc(), &[], &size).err(),
+            Some(FlatFault::Length)
+        );
+        assert_eq!(rt;
+            Image::flat(rt.alloc(), &ELF_MAGIC, &size).err(),
+            Some(FlatFault::Elf)
+        );
+        assert_eq!(rt;
+            Image::flat(rt.alloc(), &long, &size).err(),
+            Some(FlatFault::TooLong)
+        );
+        assert_eq!(rt; Image::flat(rt.alloc(), &long[..4096], &size).err(), None);
+        assert_eq!(rt; FlatFault::TooLong.name(), "TooLong");
+        Ok(())
     }
 }

@@ -1,0 +1,150 @@
+-- A guest thread that may be in the middle of an instruction.
+use Rattle.std.specs.Prelude.{◌≡◌, ℕ, ◌%◌, ◌<◌, List, [], ◌∷◌, ◌++◌, Bool, true, false, Option, Some, None, Result, Ok, Err, length, take}
+use Rattle.llsc_base.specs.Images.{Program, word_at, bar_of}
+use Rattle.llsc_base.specs.declared.access.Place.{Place}
+use Rattle.a32_instr.specs.declared.instructions.Instr.{Instr}
+use Rattle.a32_instr.specs.declared.instructions.DecodeFault.{DecodeFault}
+use Rattle.a32_instr.specs.declared.instructions.DecodeFault.TheVariants as fault
+use Rattle.a32_instr.specs.declared.conditions.Flags.{Flags}
+use Rattle.a32_instr.specs.declared.outside.Ask.{Ask}
+use Rattle.a32_instr.specs.declared.outside.Ask.TheVariants.{Load, Store}
+use Rattle.a32_instr.specs.declared.outside.CallAsk.{CallAsk}
+use Rattle.a32_instr.specs.declared.outside.Stop.{Stop}
+use Rattle.a32_instr.specs.declared.outside.Stop.TheVariants as stop
+use Rattle.a32_instr.specs.State.{State, Effect, asks, calls, completes, stops, answered}
+use Rattle.a32_instr.specs.Table.{table, meaning}
+use Rattle.a32_instr.specs.Effect.{effect_of}
+use Rattle.a32_step.specs.declared.phases.Phase.{Phase}
+use Rattle.a32_step.specs.declared.phases.Phase.TheVariants.{Between, Inside, Awaiting, Calling, Stopped}
+use Rattle.a32_step.specs.declared.phases.Wanted.{Wanted}
+use Rattle.a32_step.specs.declared.phases.Wanted.TheVariants as wanted
+
+-- The state is that from which the instruction in hand began; the replies are those that it has had.
+pub record Machine : Type 0 where
+  pub state : State
+  pub phase : Phase
+  pub replies : List ℕ
+
+-- the instruction that a decoded word means, or the stop at a word that means none
+abbrev pub decoded : ℕ → Result Instr DecodeFault → Result Instr Stop
+decoded pc (Ok instr) = Ok instr
+decoded pc (Err fault.Undefined) = Err (stop.Undefined pc)
+decoded pc (Err fault.Unpredictable) = Err (stop.Unpredictable pc)
+
+-- the instruction at an address, or the stop where there is none
+abbrev pub instr_of_word : ℕ → Option ℕ → Result Instr Stop
+instr_of_word pc None = Err (stop.Outside pc)
+instr_of_word pc (Some word) = decoded pc (meaning table word)
+
+abbrev pub instr_at : Program → ℕ → Result Instr Stop
+instr_at program pc = instr_of_word pc (word_at program pc)
+
+-- what an instruction does next in a machine, if there is one
+abbrev pub effect_in : Program → Machine → Result Instr Stop → Effect
+effect_in program machine (Ok instr) = effect_of instr program machine.replies machine.state
+effect_in program machine (Err stop) = stops stop
+
+-- What a machine does next: between two instructions that of the instruction at its PC, inside one that of the
+-- instruction in hand. One that waits still waits for the same, and one that has stopped stays so.
+abbrev pub next_in : Program → Machine → Phase → Effect
+next_in program machine Between = effect_in program machine (instr_at program machine.state.pc)
+next_in program machine (Inside instr) = effect_of instr program machine.replies machine.state
+next_in program machine (Awaiting instr ask) = asks ask
+next_in program machine (Calling call) = calls call
+next_in program machine (Stopped stop) = stops stop
+
+abbrev pub next_effect : Program → Machine → Effect
+next_effect program machine = next_in program machine machine.phase
+
+-- what is wanted from outside for an effect
+abbrev pub wanted_of : Effect → Wanted
+wanted_of (asks ask) = wanted.Access ask
+wanted_of (calls call) = wanted.Call call
+wanted_of (completes state) = wanted.Done
+wanted_of (stops stop) = wanted.Stopped stop
+
+-- between two instructions, in this state
+abbrev pub between : State → Machine
+between state = record { state = state; phase = Between; replies = [] }
+
+-- the machine after an effect of this instruction
+abbrev pub moved_on : Instr → Machine → Effect → Machine
+moved_on instr machine (asks ask) = record machine { phase = Awaiting instr ask }
+moved_on instr machine (calls call) = record machine { phase = Calling call }
+moved_on instr machine (completes state) = between state
+moved_on instr machine (stops stop) = record machine { phase = Stopped stop }
+
+abbrev pub after_instr : Program → Machine → Result Instr Stop → Machine
+after_instr program machine (Ok instr) = moved_on instr machine (effect_of instr program machine.replies machine.state)
+after_instr program machine (Err stop) = record machine { phase = Stopped stop }
+
+abbrev pub after_in : Program → Machine → Phase → Machine
+after_in program machine Between = after_instr program machine (instr_at program machine.state.pc)
+after_in program machine (Inside instr) = moved_on instr machine (effect_of instr program machine.replies machine.state)
+after_in program machine (Awaiting instr ask) = machine
+after_in program machine (Calling call) = machine
+after_in program machine (Stopped stop) = machine
+
+-- the machine after its next effect
+abbrev pub after_next : Program → Machine → Machine
+after_next program machine = after_in program machine machine.phase
+
+-- the machine after the reply to the access that it waits for
+abbrev pub given_in : Machine → ℕ → Phase → Machine
+given_in machine reply Between = machine
+given_in machine reply (Inside instr) = machine
+given_in machine reply (Awaiting instr ask) = record machine { phase = Inside instr; replies = machine.replies ++ reply ∷ [] }
+given_in machine reply (Calling call) = machine
+given_in machine reply (Stopped stop) = machine
+
+abbrev pub given : Machine → ℕ → Machine
+given machine reply = given_in machine reply machine.phase
+
+-- no access and no call is awaited
+abbrev pub IsReady : Phase → Type 0
+IsReady Between = Unit {0}
+IsReady (Inside instr) = Unit {0}
+IsReady (Awaiting instr ask) = ⊥
+IsReady (Calling call) = ⊥
+IsReady (Stopped stop) = Unit {0}
+
+-- an access is awaited
+abbrev pub IsAwaiting : Phase → Type 0
+IsAwaiting Between = ⊥
+IsAwaiting (Inside instr) = ⊥
+IsAwaiting (Awaiting instr ask) = Unit {0}
+IsAwaiting (Calling call) = ⊥
+IsAwaiting (Stopped stop) = ⊥
+
+-- a call is awaited
+abbrev pub IsCalling : Phase → Type 0
+IsCalling Between = ⊥
+IsCalling (Inside instr) = ⊥
+IsCalling (Awaiting instr ask) = ⊥
+IsCalling (Calling call) = Unit {0}
+IsCalling (Stopped stop) = ⊥
+
+-- the place of an access, and whether it is a store
+abbrev pub place_of : Ask → Place
+place_of (Load place) = place
+place_of (Store place value) = place
+
+abbrev pub is_store : Ask → Bool
+is_store (Load place) = false
+is_store (Store place value) = true
+
+-- an access that is wanted has passed its tests
+abbrev pub HasPassed : Program → Wanted → Type 0
+HasPassed program (wanted.Access ask) = bar_of program (place_of ask) (is_store ask) ≡ None
+HasPassed program (wanted.Call call) = Unit {0}
+HasPassed program wanted.Done = Unit {0}
+HasPassed program (wanted.Stopped stop) = Unit {0}
+
+-- The start of thread t of n: r0 has t, r1 has n, r13 has the top of the stack, every other register is 0 and every
+-- flag is clear.
+abbrev pub start_of : ℕ → ℕ → ℕ → ℕ → Machine
+start_of entry t n sp = between (record {
+  regs = t ∷ n ∷ 0 ∷ 0 ∷ 0 ∷ 0 ∷ 0 ∷ 0 ∷ 0 ∷ 0 ∷ 0 ∷ 0 ∷ 0 ∷ sp ∷ 0 ∷ [];
+  flags = record { n = false; z = false; c = false; v = false };
+  pc = entry;
+})

@@ -1,0 +1,117 @@
+//! Sums and rotations of 32-bit numbers, and the data-processing operations on them.
+ghost use Rattle.std.specs.Prelude.{◌≡◌, ◌<◌, ◌≤◌, ◌*◌, ℤ, ◌+ℤ◌, ◌^◌, ◌-◌, pos};
+ghost use Rattle.a32_instr.specs.Sum.{signed, is_out_of_range, sum_of, complement};
+ghost use Rattle.a32_instr.specs.Table.{is_compare};
+ghost use Rattle.a32_instr.specs.DataProcessing.{top_bit, rotated_right, immediate, summed, logical, computed};
+
+use a32_instr::{AluOp, Computed, Flags, Shifted, Sum};
+
+/// A 32-bit number read as signed.
+fn as_signed(x: u32) -> i64
+    ensures { result ≡ signed x }
+{
+    if x < 1 << 31 {
+        i64::from(x)
+    } else {
+        i64::from(x) - (1 << 32)
+    }
+}
+
+/// Whether the signed sum of two numbers and a carry is out of range.
+fn overflows(x: u32, y: u32, carry: u32) -> bool
+    requires { carry < 2 }
+    ensures { result ≡ is_out_of_range (signed x +ℤ signed y +ℤ pos carry) }
+{
+    let sum = as_signed(x) + as_signed(y) + i64::from(carry);
+    sum < -(1 << 31) || sum > (1 << 31) - 1
+}
+
+/// The sum of two numbers and a carry, which is 0 or 1 (DDI 0406C A2.2.1, AddWithCarry).
+#[tactic(auto, unfolding(a32_instr::specs::Sum::sum_of))]
+pub fn sum(x: u32, y: u32, carry: u32) -> Sum
+    requires { carry < 2 }
+    ensures { result ≡ sum_of x y carry }
+{
+    let wide = u64::from(x) + u64::from(y) + u64::from(carry);
+    Sum {
+        value: (wide & 0xffff_ffff) as u32,
+        carry: wide >= 1 << 32,
+        overflow: overflows(x, y, carry),
+    }
+}
+
+/// Bit 31.
+pub fn is_negative(x: u32) -> bool
+    ensures { result ≡ top_bit x }
+{
+    x >= 1 << 31
+}
+
+/// A number rotated right (DDI 0406C A2.2.1, ROR).
+pub fn rotate_right(x: u32, amount: u32) -> u32
+    ensures { result ≡ rotated_right x amount }
+{
+    x.rotate_right(amount)
+}
+
+/// Whether an operation only sets the flags.
+pub fn is_compare(op: AluOp) -> bool
+    ensures { result ≡ is_compare op }
+{
+    match op {
+        AluOp::Cmp => true,
+        AluOp::Sub | AluOp::Add | AluOp::Mov => false,
+    }
+}
+
+/// An immediate operand: one that isn't turned keeps the carry (DDI 0406C A5.2.4).
+pub fn immediate(turn: u8, imm8: u8, carry: bool) -> Shifted
+    ensures { result ≡ immediate turn imm8 carry }
+{
+    let value = rotate_right(u32::from(imm8), 2 * u32::from(turn));
+    Shifted {
+        value,
+        carry: if turn == 0 { carry } else { is_negative(value) },
+    }
+}
+
+/// A sum with the flags that it sets.
+fn of_sum(sum: Sum) -> Computed
+    ensures { result ≡ summed sum }
+{
+    Computed {
+        value: sum.value,
+        flags: Flags {
+            n: is_negative(sum.value),
+            z: sum.value == 0,
+            c: sum.carry,
+            v: sum.overflow,
+        },
+    }
+}
+
+/// A logical result with the flags that it sets.
+fn of_logic(value: u32, carry: bool, flags: Flags) -> Computed
+    ensures { result ≡ logical value carry flags }
+{
+    Computed {
+        value,
+        flags: Flags {
+            n: is_negative(value),
+            z: value == 0,
+            c: carry,
+            v: flags.v,
+        },
+    }
+}
+
+/// A data-processing operation (DDI 0406C A8.8) on its first operand and its second.
+pub fn compute(op: AluOp, x: u32, y: Shifted, flags: Flags) -> Computed
+    ensures { result ≡ computed op x y flags }
+{
+    match op {
+        AluOp::Sub | AluOp::Cmp => of_sum(sum(x, !y.value, 1)),
+        AluOp::Add => of_sum(sum(x, y.value, 0)),
+        AluOp::Mov => of_logic(y.value, y.carry, flags),
+    }
+}

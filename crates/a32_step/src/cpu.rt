@@ -1,0 +1,254 @@
+//! One guest thread's core.
+ghost use Rattle.std.specs.Prelude.{◌≡◌, ◌≢◌, ◌<◌, ◌≤◌, ◌%◌, ◌+◌, ◌^◌, length, slice_index, IsTrue, if◌then◌else◌, false, [], None, Some};
+ghost use Rattle.a32_instr.specs.State.{register, advanced, jumps, writes, answered, stops};
+ghost use Rattle.a32_instr.specs.Effect.{acts, effect_of};
+ghost use Rattle.llsc_base.specs.Images.{word_at};
+ghost use Rattle.a32_step.specs.Machine.{start_of, given, next_effect, wanted_of, after_next, after_instr, effect_in, moved_on, instr_at, between, IsReady, IsAwaiting, IsCalling};
+
+use std::marker::Model;
+
+use crate::fake::decode;
+use a32_instr::{DecodeFault, Flags, Instr, Reg, Stop};
+use llsc_base::Image;
+use load_store::Access;
+
+use crate::conditions::{condition, passes};
+use crate::phases::{Phase, Wanted};
+use crate::replies::Replies;
+
+mod branches;
+mod data_processing;
+mod load_store;
+
+/// The core of one guest thread: r0 to r14, the flags, the PC, and where it stands in its
+/// instruction. Registers, flags and PC keep their values until an instruction is complete.
+#[derive(Debug, Drop)]
+pub struct Cpu {
+    regs: [u32; 15],
+    flags: Flags,
+    pc: u32,
+    phase: Phase,
+    replies: Replies,
+    /// The span that served the last fetch.
+    near: usize,
+}
+
+impl Model for Cpu {
+    ghost use Rattle.a32_step.specs.Machine.{Machine};
+
+    ghost Value = { Machine };
+
+    ghost use Rattle.a32_step.specs.Inside.{machine_of, IsSound};
+
+    ghost view = { machine_of };
+
+    ghost invariant = { IsSound };
+}
+
+impl Cpu {
+    /// The start of guest thread `t` of `n`: r0 is `t`, r1 is `n`, r13 is `sp`, all other registers
+    /// are 0 and all flags clear.
+    pub fn start(entry: u32, t: u32, n: u32, sp: u32) -> Cpu
+        requires { entry % 4 ≡ 0 }
+        ensures { result ≡ start_of entry t n sp }
+    {
+        Cpu {
+            regs: [t, n, 0, 0, 0, 0, 0, 0, 0, 0, 0, 0, 0, sp, 0],
+            flags: Flags { n: false, z: false, c: false, v: false },
+            pc: entry,
+            phase: Phase::Between,
+            replies: Replies::new(),
+            near: 0,
+        }
+    }
+
+    /// One of r0 to r14.
+    pub fn reg(&self, i: u32) -> u32
+        requires { i ≤ 14 }
+        ensures { result ≡ slice_index self.now.state.regs i }
+    {
+        self.regs[i as usize]
+    }
+
+    /// The address of the instruction in hand, or of the next one.
+    pub fn pc(&self) -> u32
+        ensures { result ≡ self.now.state.pc }
+    {
+        self.pc
+    }
+
+    /// The condition flags.
+    pub fn flags(&self) -> Flags
+        ensures { result ≡ self.now.state.flags }
+    {
+        self.flags
+    }
+
+    /// The reply to the access that is awaited.
+    pub fn give(&mut self, reply: u64)
+        requires { IsAwaiting self.old.phase }
+        ensures { self.new ≡ given self.old reply }
+    {
+        if let Phase::Awaiting(instr, _) = self.phase {
+            self.replies.push(reply);
+            self.phase = Phase::Inside(instr);
+        }
+    }
+
+    /// The answer of the guest call that is awaited: it goes to r0, and the call is over.
+    pub fn answer(&mut self, r0: u32)
+        requires { IsCalling self.old.phase }
+        ensures { self.new ≡ between (answered self.old.state r0) }
+    {
+        self.regs[0] = r0;
+        self.pc = self.pc.wrapping_add(4);
+        self.finish();
+    }
+
+    /// Where the thread stands in its instruction.
+    fn phase(&self) -> Phase
+        ensures { result ≡ self.now.phase }
+    {
+        self.phase
+    }
+
+    /// A register as an operand.
+    fn operand(&self, r: Reg) -> u32
+        ensures { result ≡ register self.now.state r }
+    {
+        let num = r.num();
+        if num == 15 {
+            self.pc.wrapping_add(8)
+        } else {
+            self.regs[num as usize]
+        }
+    }
+
+    /// The instruction is over.
+    fn finish(&mut self)
+        ensures { self.new ≡ between self.old.state }
+    {
+        self.phase = Phase::Between;
+        self.replies.clear();
+    }
+
+    /// The thread stops.
+    fn stop(&mut self, stop: Stop) -> Wanted
+        ensures wanted { result ≡ wanted_of (stops stop) }
+        ensures state { self.new ≡ record self.old { phase = Phase.Stopped stop } }
+    {
+        self.phase = Phase::Stopped(stop);
+        Wanted::Stopped(stop)
+    }
+
+    /// The instruction is complete, and wrote no PC.
+    fn advance(&mut self) -> Wanted
+        ensures wanted { result ≡ Wanted.Done }
+        ensures state { self.new ≡ between (advanced self.old.state) }
+    {
+        self.pc = self.pc.wrapping_add(4);
+        self.finish();
+        Wanted::Done
+    }
+
+    /// The instruction is complete with a write to the PC, if the value is one that the PC may have.
+    fn jump(&mut self, flags: Flags, value: u32) -> Wanted
+        ensures wanted { result ≡ wanted_of (jumps (record self.old.state { flags = flags }) value) }
+        ensures state { (instr : Instr) → self.new ≡ moved_on instr self.old (jumps (record self.old.state { flags = flags }) value) }
+    {
+        if value % 2 == 1 {
+            return self.stop(Stop::Thumb(self.pc));
+        }
+        if value % 4 == 2 {
+            return self.stop(Stop::Unpredictable(self.pc));
+        }
+        self.flags = flags;
+        self.pc = value;
+        self.finish();
+        Wanted::Done
+    }
+
+    /// The instruction is complete with a value in a register, and with these flags.
+    fn write(&mut self, flags: Flags, r: Reg, value: u32) -> Wanted
+        ensures wanted { result ≡ wanted_of (writes (record self.old.state { flags = flags }) r value) }
+        ensures state { (instr : Instr) → self.new ≡ moved_on instr self.old (writes (record self.old.state { flags = flags }) r value) }
+    {
+        let num = r.num();
+        if num == 15 {
+            return self.jump(flags, value);
+        }
+        self.flags = flags;
+        self.regs[num as usize] = value;
+        self.advance()
+    }
+}
+
+impl Cpu {
+    /// Goes on until something is wanted from outside.
+    pub fn next(&mut self, image: &Image) -> Wanted
+        requires { IsReady self.old.phase }
+        ensures wanted { result ≡ wanted_of (next_effect image.now self.old) }
+        ensures state { self.new ≡ after_next image.now self.old }
+    {
+        match self.phase() {
+            Phase::Between => self.start_next(image),
+            Phase::Inside(instr) => self.act(instr, image),
+            Phase::Stopped(stop) => Wanted::Stopped(stop),
+            Phase::Awaiting(..) | Phase::Calling(_) => unreachable!(),
+        }
+    }
+
+    /// The instruction at the PC is fetched, decoded and begun.
+    fn start_next(&mut self, image: &Image) -> Wanted
+        requires { self.old.replies ≡ [] }
+        ensures wanted { result ≡ wanted_of (effect_in image.now self.old (instr_at image.now self.old.state.pc)) }
+        ensures state { self.new ≡ after_instr image.now self.old (instr_at image.now self.old.state.pc) }
+    {
+        let Some(word) = self.fetch(image) else {
+            return self.stop(Stop::Outside(self.pc));
+        };
+        match decode(word) {
+            Ok(instr) => self.begin(instr, image),
+            Err(DecodeFault::Undefined) => self.stop(Stop::Undefined(self.pc)),
+            Err(DecodeFault::Unpredictable) => self.stop(Stop::Unpredictable(self.pc)),
+        }
+    }
+
+    /// The word at the PC.
+    fn fetch(&mut self, image: &Image) -> Option<u32>
+        ensures word { result ≡ word_at image.now self.old.state.pc }
+        ensures same { self.new ≡ self.old }
+    {
+        let mut near = self.near;
+        let word = image.fetch_near(self.pc, &mut near);
+        self.near = near;
+        word
+    }
+
+    /// The instruction begins.
+    fn begin(&mut self, instr: Instr, image: &Image) -> Wanted
+        requires { self.old.replies ≡ [] }
+        ensures wanted { result ≡ wanted_of (effect_of instr image.now self.old.replies self.old.state) }
+        ensures state { self.new ≡ moved_on instr self.old (effect_of instr image.now self.old.replies self.old.state) }
+    {
+        if !passes(condition(&instr), self.flags) {
+            return self.advance();
+        }
+        self.act(instr, image)
+    }
+
+    /// What the instruction does, its condition passed.
+    fn act(&mut self, instr: Instr, image: &Image) -> Wanted
+        ensures wanted { result ≡ wanted_of (acts instr image.now self.old.replies self.old.state) }
+        ensures state { self.new ≡ moved_on instr self.old (acts instr image.now self.old.replies self.old.state) }
+    {
+        match instr {
+            Instr::Alu { op, s, rd, rn, operand, .. } => self.alu(op, s, rd, rn, operand),
+            Instr::Word { load, byte, rn, rt, offset, .. } => {
+                self.word(instr, image, Access { load, byte, rn, rt, offset })
+            }
+            Instr::Branch { link, words, .. } => self.branch(link, words),
+            Instr::Svc { imm, .. } => self.call(imm),
+        }
+    }
+}

@@ -1,0 +1,36 @@
+//! Data processing (DDI 0406C A5.2).
+ghost use Rattle.std.specs.Prelude.{◌≡◌};
+ghost use Rattle.a32_instr.specs.DataProcessing.{operand_of, alu};
+ghost use Rattle.a32_step.specs.Machine.{wanted_of, moved_on};
+
+use a32_instr::{AluOp, Instr, Operand2, Reg, Shifted};
+
+use super::Cpu;
+use crate::arithmetic::{compute, immediate, is_compare};
+use crate::phases::Wanted;
+
+impl Cpu {
+    /// The second operand of a data-processing instruction.
+    fn second_operand(&self, operand: Operand2) -> Shifted
+        ensures { result ≡ operand_of operand self.now.state }
+    {
+        match operand {
+            Operand2::Imm { turn, imm8 } => immediate(turn, imm8, self.flags.c),
+        }
+    }
+
+    /// Data processing (DDI 0406C A5.2).
+    pub(super) fn alu(&mut self, op: AluOp, sets: bool, rd: Reg, rn: Reg, operand: Operand2) -> Wanted
+        ensures wanted { result ≡ wanted_of (alu op sets rd rn operand self.old.state) }
+        ensures state { (instr : Instr) → self.new ≡ moved_on instr self.old (alu op sets rd rn operand self.old.state) }
+    {
+        let second = self.second_operand(operand);
+        let computed = compute(op, self.operand(rn), second, self.flags);
+        let flags = if sets { computed.flags } else { self.flags };
+        if is_compare(op) {
+            self.flags = flags;
+            return self.advance();
+        }
+        self.write(flags, rd, computed.value)
+    }
+}

@@ -1,0 +1,20 @@
+//! The interpreter of one guest thread: its registers, flags and PC, moved one access at a time.
+//!
+//! [`Cpu::next`] goes on until the instruction at the PC wants something from outside: an access to
+//! memory, a guest call, or nothing, since it is complete or the thread has stopped. The caller
+//! answers an access by [`Cpu::give`] and a call by [`Cpu::answer`]. Each of them is proved to be
+//! what the effect of the instruction says (`a32_instr`, `specs/Effect`); `specs/Machine` here says
+//! it of a machine that is in the middle of an instruction.
+#![tactic(auto)]
+
+mod arithmetic;
+mod conditions;
+mod fake;
+mod cpu;
+mod operands;
+mod phases;
+mod replies;
+
+pub use a32_instr::{Ask, CallAsk, Flags, Stop};
+pub use cpu::Cpu;
+pub use phases::{Phase, Wanted};

@@ -1,0 +1,51 @@
+//! Addresses: of loads and stores, and of branches.
+ghost use Rattle.std.specs.Prelude.{◌≡◌, ◌%◌, ◌^◌, ◌<◌};
+ghost use Rattle.llsc_base.specs.Memory.{size_bytes};
+ghost use Rattle.a32_instr.specs.LoadStore.{moved, access_size, part_of};
+ghost use Rattle.a32_instr.specs.Branch.{target_of};
+
+use a32_instr::Offset;
+use llsc_base::Size;
+
+/// An address moved by an offset (DDI 0406C A8.5).
+pub fn moved_by(base: u32, offset: Offset) -> u32
+    ensures { result ≡ moved base offset }
+{
+    match offset {
+        Offset::Imm { add, imm } => {
+            if add {
+                base.wrapping_add(u32::from(imm))
+            } else {
+                base.wrapping_sub(u32::from(imm))
+            }
+        }
+    }
+}
+
+/// The size of a byte's access, or of a word's.
+pub fn size_of_access(byte: bool) -> Size
+    ensures { result ≡ access_size byte }
+{
+    if byte { Size::B1 } else { Size::B4 }
+}
+
+/// What of a register a byte's store has, or a word's.
+pub fn part_stored(byte: bool, value: u32) -> u64
+    ensures part { result ≡ part_of byte value }
+{
+    if byte {
+        u64::from(value & 0xff)
+    } else {
+        u64::from(value)
+    }
+}
+
+/// The target of a branch by so many words from two words after the instruction.
+#[tactic(auto, unfolding(a32_instr::specs::Branch::target_of))]
+pub fn branch_target(pc: u32, words: i32) -> u32
+    ensures target { result ≡ target_of pc words }
+    ensures aligned { pc % 4 ≡ 0 → result % 4 ≡ 0 }
+{
+    let target = i64::from(pc) + 8 + 4 * i64::from(words);
+    target.rem_euclid(1 << 32) as u32
+}
