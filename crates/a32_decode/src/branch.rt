@@ -9,7 +9,7 @@ use a32_instr::{DecodeFault, Instr};
 
 /// A branch: a word whose bits 27:25 are 101 (DDI 0406C A5.5).
 #[inline]
-pub fn branch_to(word: u32) -> Result<Instr, DecodeFault>
+pub fn immediate(word: u32) -> Result<Instr, DecodeFault>
     requires group { bits_of word 25 3 ≡ 5 }
     requires cond { bits_of word 28 4 < 15 }
     ensures branch { Fits branch word → Means branch word result }

@@ -3,8 +3,7 @@ ghost use Rattle.a32_instr.specs.Table.{alu_imm, branch, meaning, svc, table, wo
 ghost use Rattle.a32_decode.specs.Rows.{Fits, Means, NoneFits};
 
 use crate::bits::bits;
-use crate::branch::{branch_to, supervisor_call};
-use crate::{data_processing, load_store};
+use crate::{branch, data_processing, load_store};
 use a32_instr::{DecodeFault, Instr};
 
 /// The instruction that a word is, or why it is none: what the table of words says of it.
@@ -29,10 +28,13 @@ fn by_class(word: u32) -> Result<Instr, DecodeFault>
         return Err(DecodeFault::Undefined);
     }
     match bits(word, 25, 3) {
-        1 => return data_processing::immediate(word),
-        2 => return load_store::immediate(word),
-        5 => return branch_to(word),
-        7 => return supervisor_call(word),
-        _ => return Err(DecodeFault::Undefined),
+        1 => data_processing::immediate(word),
+        2 => load_store::immediate(word),
+        5 => branch::immediate(word),
+        7 => branch::supervisor_call(word),
+        _ => Err(DecodeFault::Undefined),
     }
 }
+
+#[cfg(test)]
+mod tests;

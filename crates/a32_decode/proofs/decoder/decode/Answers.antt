@@ -1,4 +1,3 @@
-use Rattle.std.proofs.Common.{◌∷◌, []}
 use Rattle.a32_instr.specs.Table.{table}
 use Rattle.a32_decode.proofs.Rows.{meaning_by}
 use Rattle.a32_decode.proofs.decoder.decode.Goals as goal
