@@ -1,0 +1,8 @@
+use Rattle.a32_instr.specs.Table.{table}
+use Rattle.a32_decode.proofs.Rows.{meaning_by}
+use Rattle.a32_decode.proofs.decoder.decode.Goals as goal
+
+pub returns : goal.returns
+returns c =
+    let e = c.by_class.ensures in
+    meaning_by table c.args.word c.by_class.result (e.alu_imm, (e.word_imm, (e.branch, (e.svc, tt)))) e.none

@@ -1,0 +1,43 @@
+//! The fields of a word. Shifts and masks stand here and nowhere else.
+ghost use Rattle.std.specs.Prelude.{◌≡◌, ◌<◌, ◌==◌, ◌^◌};
+ghost use Rattle.a32_instr.specs.Bits.{bits_of};
+
+use a32_instr::{Cond, Reg};
+
+/// The `width` bits of a word from bit `low` up.
+#[inline(always)]
+pub fn bits(word: u32, low: u32, width: u32) -> u32
+    requires low { low < 32 }
+    requires width { width < 32 }
+    ensures value { result ≡ bits_of word low width }
+    ensures bound { result < 2 ^ width }
+{
+    (word >> low) & ((1 << width) - 1)
+}
+
+/// Whether a bit of a word is set.
+#[inline(always)]
+pub fn bit(word: u32, low: u32) -> bool
+    requires { low < 32 }
+    ensures { result ≡ (bits_of word low 1 == 1) }
+{
+    bits(word, low, 1) == 1
+}
+
+/// The register that the four bits of a word from bit `low` up name.
+#[inline(always)]
+pub fn register(word: u32, low: u32) -> Reg
+    requires { low < 32 }
+    ensures { result ≡ bits_of word low 4 }
+{
+    Reg::new(bits(word, low, 4) as u8)
+}
+
+/// The condition code of a word that has one, bits 31:28 (DDI 0406C A8.3).
+#[inline(always)]
+pub fn condition(word: u32) -> Cond
+    requires { bits_of word 28 4 < 15 }
+    ensures { result ≡ bits_of word 28 4 }
+{
+    Cond::new(bits(word, 28, 4) as u8)
+}

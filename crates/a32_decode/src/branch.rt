@@ -1,0 +1,58 @@
+//! Branches and supervisor calls (DDI 0406C A5.5, A5.6).
+ghost use Rattle.std.specs.Prelude.{◌≡◌, ◌<◌, ◌^◌, ◌∷◌, []};
+ghost use Rattle.a32_instr.specs.Bits.{bits_of};
+ghost use Rattle.a32_instr.specs.Table.{branch, svc, signed24};
+ghost use Rattle.a32_decode.specs.Rows.{Fits, Means, NoneFits};
+
+use crate::bits::{bit, bits, condition};
+use a32_instr::{DecodeFault, Instr};
+
+/// A branch: a word whose bits 27:25 are 101 (DDI 0406C A5.5).
+#[inline]
+pub fn immediate(word: u32) -> Result<Instr, DecodeFault>
+    requires group { bits_of word 25 3 ≡ 5 }
+    requires cond { bits_of word 28 4 < 15 }
+    ensures branch { Fits branch word → Means branch word result }
+    ensures none { NoneFits (branch ∷ []) word → result ≡ Err DecodeFault.Undefined }
+{
+    let link = bit(word, 24);
+    if link {
+        return Err(DecodeFault::Undefined);
+    }
+    Ok(Instr::Branch {
+        cond: condition(word),
+        link,
+        words: signed(bits(word, 0, 24)),
+    })
+}
+
+/// A supervisor call, or a coprocessor's instruction: a word whose bits 27:25 are 111 (DDI 0406C A5.6).
+#[inline]
+pub fn supervisor_call(word: u32) -> Result<Instr, DecodeFault>
+    requires group { bits_of word 25 3 ≡ 7 }
+    requires cond { bits_of word 28 4 < 15 }
+    ensures svc { Fits svc word → Means svc word result }
+    ensures none { NoneFits (svc ∷ []) word → result ≡ Err DecodeFault.Undefined }
+{
+    if !bit(word, 24) {
+        return Err(DecodeFault::Undefined);
+    }
+    Ok(Instr::Svc {
+        cond: condition(word),
+        imm: bits(word, 0, 24),
+    })
+}
+
+// A number of 24 bits, read as signed.
+#[inline]
+#[tactic(auto, unfolding(a32_instr::specs::Table::signed24))]
+fn signed(field: u32) -> i32
+    requires { field < 2 ^ 24 }
+    ensures { result ≡ signed24 field }
+{
+    if field < 0x80_0000 {
+        field as i32
+    } else {
+        field as i32 - 0x100_0000
+    }
+}

@@ -1,0 +1,105 @@
+//! Words and what they are, encoded by hand from the manual (DDI 0406C A5, A8.8).
+ghost use Rattle.std.specs.Prelude.{◌<◌};
+
+use super::*;
+use a32_instr::{AluOp, Cond, Index, Offset, Operand2, Reg};
+
+const UNDEFINED: Result<Instr, DecodeFault> = Err(DecodeFault::Undefined);
+
+const UNPREDICTABLE: Result<Instr, DecodeFault> = Err(DecodeFault::Unpredictable);
+
+// Data processing under the condition AL.
+fn alu(op: AluOp, s: bool, rd: u8, rn: u8, turn: u8, imm8: u8) -> Result<Instr, DecodeFault>
+    requires rd { rd < 16 }
+    requires rn { rn < 16 }
+{
+    let operand = Operand2::Imm { turn, imm8 };
+    Ok(Instr::Alu {
+        cond: Cond::new(14),
+        op,
+        s,
+        rd: Reg::new(rd),
+        rn: Reg::new(rn),
+        operand,
+    })
+}
+
+// A load or a store of a word under the condition AL.
+fn word(load: bool, rt: u8, rn: u8, add: bool, imm: u16) -> Result<Instr, DecodeFault>
+    requires rt { rt < 16 }
+    requires rn { rn < 16 }
+{
+    let offset = Offset::Imm { add, imm };
+    let index = Index::Plain;
+    Ok(Instr::Word {
+        cond: Cond::new(14),
+        load,
+        byte: false,
+        index,
+        rn: Reg::new(rn),
+        rt: Reg::new(rt),
+        offset,
+    })
+}
+
+fn branch(cond: u8, words: i32) -> Result<Instr, DecodeFault>
+    requires { cond < 15 }
+{
+    Ok(Instr::Branch {
+        cond: Cond::new(cond),
+        link: false,
+        words,
+    })
+}
+
+fn svc(imm: u32) -> Result<Instr, DecodeFault> {
+    Ok(Instr::Svc {
+        cond: Cond::new(14),
+        imm,
+    })
+}
+
+#[test]
+fn decodes_words_of_each_row(rt: HostRuntime) {
+    let words = [
+        // mov r0, #0; mov r7, #1; add r3, r1, #0x1000; subs r2, r2, #1; cmp r1, #3
+        (0xE3A00000, alu(AluOp::Mov, false, 0, 0, 0, 0)),
+        (0xE3A07001, alu(AluOp::Mov, false, 7, 0, 0, 1)),
+        (0xE2813A01, alu(AluOp::Add, false, 3, 1, 10, 1)),
+        (0xE2522001, alu(AluOp::Sub, true, 2, 2, 0, 1)),
+        (0xE3510003, alu(AluOp::Cmp, true, 0, 1, 0, 3)),
+        // str r0, [r1]; ldr r0, [r1]; str r0, [r1, #-4]; ldr r3, [r4, #-2052]
+        (0xE5810000, word(false, 0, 1, true, 0)),
+        (0xE5910000, word(true, 0, 1, true, 0)),
+        (0xE5010004, word(false, 0, 1, false, 4)),
+        (0xE5143804, word(true, 3, 4, false, 2052)),
+        // bne, three words back; b, two words on; svc #0; svc #0x123456
+        (0x1AFFFFFD, branch(1, -3)),
+        (0xEA000002, branch(14, 2)),
+        (0xEF000000, svc(0)),
+        (0xEF123456, svc(0x123456)),
+    ];
+    for (word, want) in words {
+        assert_eq!(rt; decode(word), want, "at {word:#x}");
+    }
+}
+
+#[test]
+fn refuses_words_of_no_row(rt: HostRuntime) {
+    let words = [
+        // A condition field of 15; cmp without S; mov with rn 1; cmp with rd 1; movs pc, #0
+        (0xFFFFFFFF, UNDEFINED),
+        (0xE3410003, UNDEFINED),
+        (0xE3A10000, UNDEFINED),
+        (0xE3511003, UNDEFINED),
+        (0xE3B0F000, UNPREDICTABLE),
+        // Not in the table yet: bl; andeq r0, r0, r0; ldr r0, [r1, #4]!; ldrb r0, [r1]
+        (0xEBFFFFFE, UNDEFINED),
+        (0x00000000, UNDEFINED),
+        (0xE5B10004, UNDEFINED),
+        (0xE5D10000, UNDEFINED),
+    ];
+    for (word, want) in words {
+        assert_eq!(rt; decode(word), want, "at {word:#x}");
+    }
+}

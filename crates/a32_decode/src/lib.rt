@@ -1,0 +1,16 @@
+//! The decoder of A32 words: what the table of instruction words says of a word, found by branching
+//! on its bits (DDI 0406C A5).
+//!
+//! The table stands in `a32_instr`'s `specs/Table.antt`. The decoder goes by the manual's groups of
+//! encodings, with one private function for each group; its contract has a clause for each row of
+//! the group, and one for the words that fit none of them. `decode` is the whole of it.
+#![tactic(auto)]
+
+mod bits;
+mod branch;
+mod data_processing;
+mod decoder;
+mod load_store;
+
+pub use a32_instr::DecodeFault;
+pub use decoder::decode;
