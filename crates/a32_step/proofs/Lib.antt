@@ -1,1 +1,2 @@
 mod Rotation
+pub mod Tested

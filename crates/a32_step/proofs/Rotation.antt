@@ -1,5 +1,5 @@
 -- Rotations as sums of a quotient and a remainder.
-use Rattle.std.proofs.Common.{◌≡◌, ◌<◌, ◌*◌, ◌^◌, ◌-◌, ℕ, suc, ◌+◌, ◌/◌, ◌%◌, zero, bit_or, arith, refl, sym, ◌∙◌, subst, ap, add_comm, add-zero}
+use Rattle.std.proofs.Common.{◌≡◌, ◌<◌, ◌*◌, ◌^◌, ◌-◌, ℕ, suc, ◌+◌, ◌/◌, ◌%◌, zero, bit_or, arith, refl, ◌∙◌, subst, ap, add_comm, add-zero}
 use Rattle.std.specs.Int.Bits.{or_shifted_r, or_self}
 use Rattle.std.proofs.lemmas.Nat.{mod-pow-add, shl-shr, pow-add, pow_pos}
 use Rattle.std.proofs.Math.Nat.{mul-mod_left, div-lt_iff_lt-mul}

@@ -1,6 +1,5 @@
 -- What the fields of a `Cpu` stand for, and what holds of them.
 use Rattle.std.specs.Prelude.{◌≡◌, ℕ, ◌%◌, ◌<◌, List, [], length}
-use Rattle.a32_instr.specs.State.{State}
 use Rattle.a32_step.specs.declared.phases.Phase.{Phase}
 use Rattle.a32_step.specs.declared.phases.Phase.TheVariants.{Between, Inside, Awaiting, Calling, Stopped}
 use Rattle.a32_step.specs.Machine.{Machine}

@@ -1,19 +1,17 @@
 -- A guest thread that may be in the middle of an instruction.
-use Rattle.std.specs.Prelude.{◌≡◌, ℕ, ◌%◌, ◌<◌, List, [], ◌∷◌, ◌++◌, Bool, true, false, Option, Some, None, Result, Ok, Err, length, take}
+use Rattle.std.specs.Prelude.{◌≡◌, ℕ, ◌<◌, List, [], ◌∷◌, ◌++◌, Bool, true, false, Option, Some, None, Result, Ok, Err, length}
 use Rattle.llsc_base.specs.Images.{Program, word_at, bar_of}
 use Rattle.llsc_base.specs.declared.access.Place.{Place}
 use Rattle.a32_instr.specs.declared.instructions.Instr.{Instr}
 use Rattle.a32_instr.specs.declared.instructions.DecodeFault.{DecodeFault}
 use Rattle.a32_instr.specs.declared.instructions.DecodeFault.TheVariants as fault
-use Rattle.a32_instr.specs.declared.conditions.Flags.{Flags}
 use Rattle.a32_instr.specs.declared.outside.Ask.{Ask}
 use Rattle.a32_instr.specs.declared.outside.Ask.TheVariants.{Load, Store}
-use Rattle.a32_instr.specs.declared.outside.CallAsk.{CallAsk}
 use Rattle.a32_instr.specs.declared.outside.Stop.{Stop}
 use Rattle.a32_instr.specs.declared.outside.Stop.TheVariants as stop
-use Rattle.a32_instr.specs.State.{State, Effect, asks, calls, completes, stops, answered}
+use Rattle.a32_instr.specs.State.{State, Effect, asks, calls, completes, stops}
 use Rattle.a32_instr.specs.Table.{table, meaning}
-use Rattle.a32_instr.specs.Effect.{effect_of}
+use Rattle.a32_instr.specs.Effect.{acts, effect_of}
 use Rattle.a32_step.specs.declared.phases.Phase.{Phase}
 use Rattle.a32_step.specs.declared.phases.Phase.TheVariants.{Between, Inside, Awaiting, Calling, Stopped}
 use Rattle.a32_step.specs.declared.phases.Wanted.{Wanted}
@@ -39,16 +37,17 @@ instr_of_word pc (Some word) = decoded pc (meaning table word)
 abbrev pub instr_at : Program → ℕ → Result Instr Stop
 instr_at program pc = instr_of_word pc (word_at program pc)
 
--- what an instruction does next in a machine, if there is one
-abbrev pub effect_in : Program → Machine → Result Instr Stop → Effect
-effect_in program machine (Ok instr) = effect_of instr program machine.replies machine.state
-effect_in program machine (Err stop) = stops stop
+-- what an instruction does first, if there is one
+abbrev pub begins : Program → State → Result Instr Stop → Effect
+begins program state (Ok instr) = effect_of instr program [] state
+begins program state (Err stop) = stops stop
 
--- What a machine does next: between two instructions that of the instruction at its PC, inside one that of the
--- instruction in hand. One that waits still waits for the same, and one that has stopped stays so.
+-- What a machine does next: between two instructions what the instruction at its PC does first; inside one, whose
+-- condition has passed, what it does with its replies so far. One that waits still waits for the same, and one that
+-- has stopped stays so.
 abbrev pub next_in : Program → Machine → Phase → Effect
-next_in program machine Between = effect_in program machine (instr_at program machine.state.pc)
-next_in program machine (Inside instr) = effect_of instr program machine.replies machine.state
+next_in program machine Between = begins program machine.state (instr_at program machine.state.pc)
+next_in program machine (Inside instr) = acts instr program machine.replies machine.state
 next_in program machine (Awaiting instr ask) = asks ask
 next_in program machine (Calling call) = calls call
 next_in program machine (Stopped stop) = stops stop
@@ -75,12 +74,12 @@ moved_on instr machine (completes state) = between state
 moved_on instr machine (stops stop) = record machine { phase = Stopped stop }
 
 abbrev pub after_instr : Program → Machine → Result Instr Stop → Machine
-after_instr program machine (Ok instr) = moved_on instr machine (effect_of instr program machine.replies machine.state)
+after_instr program machine (Ok instr) = moved_on instr machine (effect_of instr program [] machine.state)
 after_instr program machine (Err stop) = record machine { phase = Stopped stop }
 
 abbrev pub after_in : Program → Machine → Phase → Machine
 after_in program machine Between = after_instr program machine (instr_at program machine.state.pc)
-after_in program machine (Inside instr) = moved_on instr machine (effect_of instr program machine.replies machine.state)
+after_in program machine (Inside instr) = moved_on instr machine (acts instr program machine.replies machine.state)
 after_in program machine (Awaiting instr ask) = machine
 after_in program machine (Calling call) = machine
 after_in program machine (Stopped stop) = machine
@@ -133,12 +132,12 @@ abbrev pub is_store : Ask → Bool
 is_store (Load place) = false
 is_store (Store place value) = true
 
--- an access that is wanted has passed its tests
-abbrev pub HasPassed : Program → Wanted → Type 0
-HasPassed program (wanted.Access ask) = bar_of program (place_of ask) (is_store ask) ≡ None
-HasPassed program (wanted.Call call) = Unit {0}
-HasPassed program wanted.Done = Unit {0}
-HasPassed program (wanted.Stopped stop) = Unit {0}
+-- an access that is wanted has passed its tests, and fewer than 16 of its instruction came before it
+abbrev pub IsTested : Program → List ℕ → Wanted → Type 0
+IsTested program replies (wanted.Access ask) = (bar_of program (place_of ask) (is_store ask) ≡ None) × (length replies < 16)
+IsTested program replies (wanted.Call call) = Unit {0}
+IsTested program replies wanted.Done = Unit {0}
+IsTested program replies (wanted.Stopped stop) = Unit {0}
 
 -- The start of thread t of n: r0 has t, r1 has n, r13 has the top of the stack, every other register is 0 and every
 -- flag is clear.

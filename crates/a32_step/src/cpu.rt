@@ -3,18 +3,16 @@ ghost use Rattle.std.specs.Prelude.{◌≡◌, ◌≢◌, ◌<◌, ◌≤◌, �
 ghost use Rattle.a32_instr.specs.State.{register, advanced, jumps, writes, answered, stops};
 ghost use Rattle.a32_instr.specs.Effect.{acts, effect_of};
 ghost use Rattle.llsc_base.specs.Images.{word_at};
-ghost use Rattle.a32_step.specs.Machine.{start_of, given, next_effect, wanted_of, after_next, after_instr, effect_in, moved_on, instr_at, between, IsReady, IsAwaiting, IsCalling};
-
-use std::marker::Model;
-
-use crate::fake::decode;
-use a32_instr::{DecodeFault, Flags, Instr, Reg, Stop};
-use llsc_base::Image;
-use load_store::Access;
+ghost use Rattle.a32_step.specs.Machine.{start_of, given, next_effect, wanted_of, after_next, after_instr, begins, moved_on, instr_at, between, IsReady, IsTested, IsAwaiting, IsCalling};
 
 use crate::conditions::{condition, passes};
 use crate::phases::{Phase, Wanted};
 use crate::replies::Replies;
+use a32_decode::decode;
+use a32_instr::{DecodeFault, Flags, Instr, Reg, Stop};
+use llsc_base::Image;
+use load_store::Access;
+use std::marker::Model;
 
 mod branches;
 mod data_processing;
@@ -54,7 +52,12 @@ impl Cpu {
     {
         Cpu {
             regs: [t, n, 0, 0, 0, 0, 0, 0, 0, 0, 0, 0, 0, sp, 0],
-            flags: Flags { n: false, z: false, c: false, v: false },
+            flags: Flags {
+                n: false,
+                z: false,
+                c: false,
+                v: false,
+            },
             pc: entry,
             phase: Phase::Between,
             replies: Replies::new(),
@@ -107,7 +110,8 @@ impl Cpu {
 
     /// Where the thread stands in its instruction.
     fn phase(&self) -> Phase
-        ensures { result ≡ self.now.phase }
+        ensures same { result ≡ self.now.phase }
+        ensures begins { result ≡ Phase.Between → self.now.replies ≡ [] }
     {
         self.phase
     }
@@ -185,10 +189,12 @@ impl Cpu {
 
 impl Cpu {
     /// Goes on until something is wanted from outside.
+    #[tactic(auto, using(crate::proofs::Tested::act_tested, crate::proofs::Tested::begin_tested))]
     pub fn next(&mut self, image: &Image) -> Wanted
         requires { IsReady self.old.phase }
         ensures wanted { result ≡ wanted_of (next_effect image.now self.old) }
         ensures state { self.new ≡ after_next image.now self.old }
+        ensures tested { IsTested image.now self.old.replies result }
     {
         match self.phase() {
             Phase::Between => self.start_next(image),
@@ -201,7 +207,7 @@ impl Cpu {
     /// The instruction at the PC is fetched, decoded and begun.
     fn start_next(&mut self, image: &Image) -> Wanted
         requires { self.old.replies ≡ [] }
-        ensures wanted { result ≡ wanted_of (effect_in image.now self.old (instr_at image.now self.old.state.pc)) }
+        ensures wanted { result ≡ wanted_of (begins image.now self.old.state (instr_at image.now self.old.state.pc)) }
         ensures state { self.new ≡ after_instr image.now self.old (instr_at image.now self.old.state.pc) }
     {
         let Some(word) = self.fetch(image) else {
@@ -228,8 +234,8 @@ impl Cpu {
     /// The instruction begins.
     fn begin(&mut self, instr: Instr, image: &Image) -> Wanted
         requires { self.old.replies ≡ [] }
-        ensures wanted { result ≡ wanted_of (effect_of instr image.now self.old.replies self.old.state) }
-        ensures state { self.new ≡ moved_on instr self.old (effect_of instr image.now self.old.replies self.old.state) }
+        ensures wanted { result ≡ wanted_of (effect_of instr image.now [] self.old.state) }
+        ensures state { self.new ≡ moved_on instr self.old (effect_of instr image.now [] self.old.state) }
     {
         if !passes(condition(&instr), self.flags) {
             return self.advance();
@@ -243,9 +249,33 @@ impl Cpu {
         ensures state { self.new ≡ moved_on instr self.old (acts instr image.now self.old.replies self.old.state) }
     {
         match instr {
-            Instr::Alu { op, s, rd, rn, operand, .. } => self.alu(op, s, rd, rn, operand),
-            Instr::Word { load, byte, rn, rt, offset, .. } => {
-                self.word(instr, image, Access { load, byte, rn, rt, offset })
+            Instr::Alu {
+                op,
+                s,
+                rd,
+                rn,
+                operand,
+                ..
+            } => self.alu(op, s, rd, rn, operand),
+            Instr::Word {
+                load,
+                byte,
+                rn,
+                rt,
+                offset,
+                ..
+            } => {
+                self.word(
+                    instr,
+                    image,
+                    Access {
+                        load,
+                        byte,
+                        rn,
+                        rt,
+                        offset,
+                    },
+                )
             }
             Instr::Branch { link, words, .. } => self.branch(link, words),
             Instr::Svc { imm, .. } => self.call(imm),

@@ -9,7 +9,6 @@
 
 mod arithmetic;
 mod conditions;
-mod fake;
 mod cpu;
 mod operands;
 mod phases;

@@ -3,11 +3,10 @@ ghost use Rattle.std.specs.Prelude.{◌≡◌};
 ghost use Rattle.a32_instr.specs.Branch.{branched, call_of};
 ghost use Rattle.a32_step.specs.Machine.{between};
 
-use a32_instr::CallAsk;
-
 use super::Cpu;
 use crate::operands::branch_target;
 use crate::phases::{Phase, Wanted};
+use a32_instr::CallAsk;
 
 impl Cpu {
     /// B and BL (DDI 0406C A8.8.18, A8.8.25).

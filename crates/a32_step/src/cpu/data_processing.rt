@@ -3,11 +3,10 @@ ghost use Rattle.std.specs.Prelude.{◌≡◌};
 ghost use Rattle.a32_instr.specs.DataProcessing.{operand_of, alu};
 ghost use Rattle.a32_step.specs.Machine.{wanted_of, moved_on};
 
-use a32_instr::{AluOp, Instr, Operand2, Reg, Shifted};
-
 use super::Cpu;
 use crate::arithmetic::{compute, immediate, is_compare};
 use crate::phases::Wanted;
+use a32_instr::{AluOp, Instr, Operand2, Reg, Shifted};
 
 impl Cpu {
     /// The second operand of a data-processing instruction.
@@ -20,7 +19,14 @@ impl Cpu {
     }
 
     /// Data processing (DDI 0406C A5.2).
-    pub(super) fn alu(&mut self, op: AluOp, sets: bool, rd: Reg, rn: Reg, operand: Operand2) -> Wanted
+    pub(super) fn alu(
+        &mut self,
+        op: AluOp,
+        sets: bool,
+        rd: Reg,
+        rn: Reg,
+        operand: Operand2,
+    ) -> Wanted
         ensures wanted { result ≡ wanted_of (alu op sets rd rn operand self.old.state) }
         ensures state { (instr : Instr) → self.new ≡ moved_on instr self.old (alu op sets rd rn operand self.old.state) }
     {

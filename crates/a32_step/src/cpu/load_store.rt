@@ -4,12 +4,11 @@ ghost use Rattle.llsc_base.specs.Images.{bar_of};
 ghost use Rattle.a32_instr.specs.LoadStore.{loads, stores, word, asks_unless, barred};
 ghost use Rattle.a32_step.specs.Machine.{wanted_of, moved_on};
 
-use a32_instr::{Ask, Instr, Offset, Reg, Stop};
-use llsc_base::{Bar, Image, Place};
-
 use super::Cpu;
 use crate::operands::{moved_by, part_stored, size_of_access};
 use crate::phases::{Phase, Wanted};
+use a32_instr::{Ask, Instr, Offset, Reg, Stop};
+use llsc_base::{Bar, Image, Place};
 
 /// The fields of a load or a store.
 #[derive(Clone, Copy)]
