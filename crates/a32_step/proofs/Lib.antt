@@ -1,2 +1,3 @@
 mod Rotation
 pub mod Tested
+pub mod Words

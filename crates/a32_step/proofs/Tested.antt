@@ -1,5 +1,6 @@
 -- What a machine asks for has passed its tests.
-use Rattle.std.proofs.Common.{◌≡◌, ℕ, Bool, true, false, List, [], ◌∷◌, Option, None, Some, Result, Ok, Err, arith, refl, sym, subst, if◌then◌else◌, ◌==◌, ◌%◌}
+use Rattle.std.proofs.Common.{◌≡◌, ◌<◌, ◌+◌, ◌^◌, slice_index, ℕ, Bool, true, false, List, [], ◌∷◌, Option, None, Some, Result, Ok, Err, arith, refl, sym, subst, if◌then◌else◌, ◌==◌, ◌%◌}
+use Rattle.llsc_base.specs.Memory.{size_bytes}
 use Rattle.llsc_base.specs.Images.{Program, bar_of}
 use Rattle.llsc_base.specs.declared.access.Bar.{Bar}
 use Rattle.llsc_base.specs.declared.access.Place.{Place}
@@ -17,7 +18,8 @@ use Rattle.a32_instr.specs.DataProcessing.{operand_of, computed, with_flags, alu
 use Rattle.a32_instr.specs.LoadStore.{asks_unless, loads, stores, accesses, moved, access_size, part_of}
 use Rattle.a32_instr.specs.Effect.{acts, condition_of}
 use Rattle.a32_step.specs.declared.phases.Wanted.{Wanted}
-use Rattle.a32_step.specs.Machine.{wanted_of, begins, IsTested, place_of, is_store}
+use Rattle.a32_step.specs.Words.{AreWords}
+use Rattle.a32_step.specs.Machine.{wanted_of, begins, ValueFits, IsTested, place_of, is_store}
 
 -- of two effects that are tested, the chosen one is
 chosen : (program : Program) (replies : List ℕ) (b : Bool) (x y : Effect) → IsTested program replies (wanted_of x) → IsTested program replies (wanted_of y) → IsTested program replies (wanted_of (if b then x else y))
@@ -28,21 +30,35 @@ writes_tested : (program : Program) (replies : List ℕ) (state : State) (r valu
 writes_tested program replies state r value =
     chosen program replies (r == 15) _ _ (chosen program replies (value % 2 == 1) _ _ tt (chosen program replies (value % 4 == 2) _ _ tt tt)) tt
 
-unless_tested : (program : Program) (ask : Ask) (found : Option Bar) (addr : ℕ) → bar_of program (place_of ask) (is_store ask) ≡ found → IsTested program [] (wanted_of (asks_unless found addr ask))
-unless_tested program ask None addr none = (none, omega arith)
-unless_tested program ask (Some bar) addr some = tt
+choose_below : (b : Bool) (x y : ℕ) → x < 2 ^ 32 → y < 2 ^ 32 → (if b then x else y) < 2 ^ 32
+choose_below true x y p q = p
+choose_below false x y p q = q
+
+unless_tested : (program : Program) (ask : Ask) (found : Option Bar) (addr : ℕ) → ValueFits ask → bar_of program (place_of ask) (is_store ask) ≡ found → IsTested program [] (wanted_of (asks_unless found addr ask))
+unless_tested program ask None addr fit none = record { passes = none; fits = fit; room = omega arith }
+unless_tested program ask (Some bar) addr fit some = tt
 
 loads_tested : (program : Program) (place : Place) (rt : ℕ) (replies : List ℕ) (state : State) → IsTested program replies (wanted_of (loads program place rt replies state))
-loads_tested program place rt [] state = unless_tested program (Load place) (bar_of program place false) place.addr refl
+loads_tested program place rt [] state = unless_tested program (Load place) (bar_of program place false) place.addr tt refl
 loads_tested program place rt (value ∷ values) state = writes_tested program (value ∷ values) state rt (low32 value)
 
-stores_tested : (program : Program) (place : Place) (value : ℕ) (replies : List ℕ) (state : State) → IsTested program replies (wanted_of (stores program place value replies state))
-stores_tested program place value [] state = unless_tested program (Store place value) (bar_of program place true) place.addr refl
-stores_tested program place value (reply ∷ replies) state = tt
+stores_tested : (program : Program) (place : Place) (value : ℕ) (replies : List ℕ) (state : State) → value < 256 ^ size_bytes place.size → IsTested program replies (wanted_of (stores program place value replies state))
+stores_tested program place value [] state fit = unless_tested program (Store place value) (bar_of program place true) place.addr fit refl
+stores_tested program place value (reply ∷ replies) state fit = tt
 
-accesses_tested : (program : Program) (load byte : Bool) (place : Place) (rt : ℕ) (replies : List ℕ) (state : State) → IsTested program replies (wanted_of (accesses program load byte place rt replies state))
-accesses_tested program true byte place rt replies state = loads_tested program place rt replies state
-accesses_tested program false byte place rt replies state = stores_tested program place (part_of byte (register state rt)) replies state
+-- what is stored of a register fits
+part_fits : (byte : Bool) (value : ℕ) → value < 2 ^ 32 → part_of byte value < 256 ^ size_bytes (access_size byte)
+part_fits true value small = omega arith
+part_fits false value small = small
+
+register_fits : (state : State) (r : ℕ) → AreWords state.regs → register state r < 2 ^ 32
+register_fits state r words = choose_below (r == 15) (low32 (state.pc + 8)) (slice_index state.regs r) (omega arith) (words r)
+
+word_tested : (program : Program) (load byte : Bool) (addr rt : ℕ) (replies : List ℕ) (state : State) → AreWords state.regs → IsTested program replies (wanted_of (accesses program load byte (record { addr = addr; size = access_size byte }) rt replies state))
+word_tested program true byte addr rt replies state words = loads_tested program (record { addr = addr; size = access_size byte }) rt replies state
+word_tested program false byte addr rt replies state words =
+    stores_tested program (record { addr = addr; size = access_size byte }) (part_of byte (register state rt)) replies state
+    (part_fits byte (register state rt) (register_fits state rt words))
 
 alu_tested : (program : Program) (replies : List ℕ) (op : AluOp) (sets : Bool) (rd : ℕ) (result : Computed) (state : State) → IsTested program replies (wanted_of (alu_done op sets rd result state))
 alu_tested program replies op sets rd result state =
@@ -50,24 +66,24 @@ alu_tested program replies op sets rd result state =
     tt (writes_tested program replies (with_flags sets result.flags state) rd result.value)
 
 -- what an instruction asks for is tested
-acts_tested : (instr : Instr) (program : Program) (replies : List ℕ) (state : State) → IsTested program replies (wanted_of (acts instr program replies state))
-acts_tested (Alu cond op s rd rn operand) program replies state =
+acts_tested : (instr : Instr) (program : Program) (replies : List ℕ) (state : State) → AreWords state.regs → IsTested program replies (wanted_of (acts instr program replies state))
+acts_tested (Alu cond op s rd rn operand) program replies state words =
     alu_tested program replies op s rd (computed op (register state rn) (operand_of operand state) state.flags) state
-acts_tested (Word cond load byte index rn rt offset) program replies state =
-    accesses_tested program load byte (record { addr = moved (register state rn) offset; size = access_size byte }) rt replies state
-acts_tested (Branch cond link words) program replies state = tt
-acts_tested (Svc cond imm) program replies state = tt
+acts_tested (Word cond load byte index rn rt offset) program replies state words =
+    word_tested program load byte (moved (register state rn) offset) rt replies state words
+acts_tested (Branch cond link distance) program replies state words = tt
+acts_tested (Svc cond imm) program replies state words = tt
 
-begins_tested : (program : Program) (state : State) (found : Result Instr Stop) → IsTested program [] (wanted_of (begins program state found))
-begins_tested program state (Ok instr) =
-    chosen program [] (passes (condition_of instr) state.flags) (acts instr program [] state) (completes (advanced state)) (acts_tested instr program [] state) tt
-begins_tested program state (Err stop) = tt
+begins_tested : (program : Program) (state : State) (found : Result Instr Stop) → AreWords state.regs → IsTested program [] (wanted_of (begins program state found))
+begins_tested program state (Ok instr) words =
+    chosen program [] (passes (condition_of instr) state.flags) (acts instr program [] state) (completes (advanced state)) (acts_tested instr program [] state words) tt
+begins_tested program state (Err stop) words = tt
 
 -- what is wanted by an instruction in hand
-pub act_tested : (instr : Instr) (program : Program) (replies : List ℕ) (state : State) (w : Wanted) → w ≡ wanted_of (acts instr program replies state) → IsTested program replies w
-act_tested instr program replies state w e = subst (λ (v : Wanted). IsTested program replies v) (sym e) (acts_tested instr program replies state)
+pub act_tested : (instr : Instr) (program : Program) (replies : List ℕ) (state : State) (w : Wanted) → AreWords state.regs → w ≡ wanted_of (acts instr program replies state) → IsTested program replies w
+act_tested instr program replies state w words e = subst (λ (v : Wanted). IsTested program replies v) (sym e) (acts_tested instr program replies state words)
 
 -- what is wanted by an instruction that begins
-pub begin_tested : (program : Program) (replies : List ℕ) (state : State) (found : Result Instr Stop) (w : Wanted) → replies ≡ [] → w ≡ wanted_of (begins program state found) → IsTested program replies w
-begin_tested program replies state found w none e =
-    subst (λ (rs : List ℕ). IsTested program rs w) (sym none) (subst (λ (v : Wanted). IsTested program [] v) (sym e) (begins_tested program state found))
+pub begin_tested : (program : Program) (replies : List ℕ) (state : State) (found : Result Instr Stop) (w : Wanted) → AreWords state.regs → replies ≡ [] → w ≡ wanted_of (begins program state found) → IsTested program replies w
+begin_tested program replies state found w words none e =
+    subst (λ (rs : List ℕ). IsTested program rs w) (sym none) (subst (λ (v : Wanted). IsTested program [] v) (sym e) (begins_tested program state found words))

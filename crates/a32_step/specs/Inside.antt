@@ -2,6 +2,7 @@
 use Rattle.std.specs.Prelude.{◌≡◌, ℕ, ◌%◌, ◌<◌, List, [], length}
 use Rattle.a32_step.specs.declared.phases.Phase.{Phase}
 use Rattle.a32_step.specs.declared.phases.Phase.TheVariants.{Between, Inside, Awaiting, Calling, Stopped}
+use Rattle.a32_step.specs.Words.{AreWords}
 use Rattle.a32_step.specs.Machine.{Machine}
 use Rattle.a32_step.specs.declared.cpu.Cpu.TheInside as fields
 
@@ -21,4 +22,4 @@ HasRoom (Calling call) replies = Unit {0}
 HasRoom (Stopped stop) replies = Unit {0}
 
 abbrev pub IsSound : fields.Inside → Type 0
-IsSound cpu = (cpu.pc % 4 ≡ 0) × HasRoom cpu.phase cpu.replies
+IsSound cpu = (cpu.pc % 4 ≡ 0) × AreWords cpu.regs × HasRoom cpu.phase cpu.replies

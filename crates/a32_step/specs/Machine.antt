@@ -1,5 +1,6 @@
 -- A guest thread that may be in the middle of an instruction.
-use Rattle.std.specs.Prelude.{◌≡◌, ℕ, ◌<◌, List, [], ◌∷◌, ◌++◌, Bool, true, false, Option, Some, None, Result, Ok, Err, length}
+use Rattle.std.specs.Prelude.{◌≡◌, ℕ, ◌^◌, ◌<◌, List, [], ◌∷◌, ◌++◌, Bool, true, false, Option, Some, None, Result, Ok, Err, length}
+use Rattle.llsc_base.specs.Memory.{size_bytes}
 use Rattle.llsc_base.specs.Images.{Program, word_at, bar_of}
 use Rattle.llsc_base.specs.declared.access.Place.{Place}
 use Rattle.a32_instr.specs.declared.instructions.Instr.{Instr}
@@ -132,9 +133,21 @@ abbrev pub is_store : Ask → Bool
 is_store (Load place) = false
 is_store (Store place value) = true
 
--- an access that is wanted has passed its tests, and fewer than 16 of its instruction came before it
+-- a value that is stored fits its place
+abbrev pub ValueFits : Ask → Type 0
+ValueFits (Load place) = Unit {0}
+ValueFits (Store place value) = value < 256 ^ size_bytes place.size
+
+-- an access that may be asked for: it has passed its tests, its value fits, and fewer than 16 accesses of its
+-- instruction came before it
+pub record IsAllowed (program : Program) (replies : List ℕ) (ask : Ask) : Type 0 where
+  pub passes : bar_of program (place_of ask) (is_store ask) ≡ None
+  pub fits : ValueFits ask
+  pub room : length replies < 16
+
+-- an access that is wanted may be asked for
 abbrev pub IsTested : Program → List ℕ → Wanted → Type 0
-IsTested program replies (wanted.Access ask) = (bar_of program (place_of ask) (is_store ask) ≡ None) × (length replies < 16)
+IsTested program replies (wanted.Access ask) = IsAllowed program replies ask
 IsTested program replies (wanted.Call call) = Unit {0}
 IsTested program replies wanted.Done = Unit {0}
 IsTested program replies (wanted.Stopped stop) = Unit {0}

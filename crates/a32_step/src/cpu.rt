@@ -3,6 +3,7 @@ ghost use Rattle.std.specs.Prelude.{◌≡◌, ◌≢◌, ◌<◌, ◌≤◌, �
 ghost use Rattle.a32_instr.specs.State.{register, advanced, jumps, writes, answered, stops};
 ghost use Rattle.a32_instr.specs.Effect.{acts, effect_of};
 ghost use Rattle.llsc_base.specs.Images.{word_at};
+ghost use Rattle.a32_step.specs.Words.{AreWords};
 ghost use Rattle.a32_step.specs.Machine.{start_of, given, next_effect, wanted_of, after_next, after_instr, begins, moved_on, instr_at, between, IsReady, IsTested, IsAwaiting, IsCalling};
 
 use crate::conditions::{condition, passes};
@@ -46,6 +47,7 @@ impl Model for Cpu {
 impl Cpu {
     /// The start of guest thread `t` of `n`: r0 is `t`, r1 is `n`, r13 is `sp`, all other registers
     /// are 0 and all flags clear.
+    #[tactic(auto, using(crate::proofs::Words::words_none, crate::proofs::Words::words_more))]
     pub fn start(entry: u32, t: u32, n: u32, sp: u32) -> Cpu
         requires { entry % 4 ≡ 0 }
         ensures { result ≡ start_of entry t n sp }
@@ -99,6 +101,7 @@ impl Cpu {
     }
 
     /// The answer of the guest call that is awaited: it goes to r0, and the call is over.
+    #[tactic(auto, using(crate::proofs::Words::words_set))]
     pub fn answer(&mut self, r0: u32)
         requires { IsCalling self.old.phase }
         ensures { self.new ≡ between (answered self.old.state r0) }
@@ -112,6 +115,7 @@ impl Cpu {
     fn phase(&self) -> Phase
         ensures same { result ≡ self.now.phase }
         ensures begins { result ≡ Phase.Between → self.now.replies ≡ [] }
+        ensures words { AreWords self.now.state.regs }
     {
         self.phase
     }
@@ -173,6 +177,7 @@ impl Cpu {
     }
 
     /// The instruction is complete with a value in a register, and with these flags.
+    #[tactic(auto, using(crate::proofs::Words::words_set))]
     fn write(&mut self, flags: Flags, r: Reg, value: u32) -> Wanted
         ensures wanted { result ≡ wanted_of (writes (record self.old.state { flags = flags }) r value) }
         ensures state { (instr : Instr) → self.new ≡ moved_on instr self.old (writes (record self.old.state { flags = flags }) r value) }

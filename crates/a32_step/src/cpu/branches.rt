@@ -10,6 +10,7 @@ use a32_instr::CallAsk;
 
 impl Cpu {
     /// B and BL (DDI 0406C A8.8.18, A8.8.25).
+    #[tactic(auto, using(crate::proofs::Words::words_set))]
     pub(super) fn branch(&mut self, link: bool, words: i32) -> Wanted
         ensures wanted { result ≡ Wanted.Done }
         ensures state { self.new ≡ between (branched link words self.old.state) }
