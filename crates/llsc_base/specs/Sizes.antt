@@ -11,6 +11,10 @@ pub record Numbers : Type 0 where
   pub classes : ℕ
   pub limit : ℕ
 
+-- four numbers as one machine's
+abbrev pub numbers : ℕ → ℕ → ℕ → ℕ → Numbers
+numbers mem threads classes limit = record { mem = mem; threads = threads; classes = classes; limit = limit }
+
 -- from 65,536 to 16,777,216 bytes, in pages of 4096
 abbrev pub is_mem : ℕ → Bool
 is_mem mem = nat_le 65536 mem && nat_le mem 16777216 && (mem % 4096 == 0)

@@ -1,5 +1,6 @@
-ghost use Rattle.std.specs.Prelude.{◌≡◌, MatchResult, Some, None};
-ghost use Rattle.llsc_base.specs.Sizes.{size_fault, size_fault_name};
+ghost use Rattle.std.specs.Prelude.{◌≡◌, ◌+◌, ◌*◌, ◌%◌, ◌^◌, ◌≤◌, MatchResult, Some, None, IsTrue};
+ghost use Rattle.std.specs.Int.{is_power_of_two};
+ghost use Rattle.llsc_base.specs.Sizes.{numbers, room_of, size_fault, size_fault_name};
 
 use std::marker::Model;
 use thiserror::Error;
@@ -54,4 +55,85 @@ impl Model for MachineSize {
     ghost invariant = { λ s. AreInRange (record { mem = s.mem; threads = s.threads; classes = s.classes; limit = s.limit }) };
 
     ghost inverse = { λ n. record { mem = n.mem; threads = n.threads; classes = n.classes; limit = n.limit } };
+}
+
+impl MachineSize {
+    /// The machine of these numbers.
+    ///
+    /// # Errors
+    ///
+    /// The first number, in the order of the parameters, that is out of its range: `mem` is a multiple of
+    /// 4096 from 65,536 to 16,777,216, `threads` is 1 to 16, `classes` is a power of two from 1 to 4096,
+    /// and `limit` is 1 to 4,611,686,018,427,387,904 (2 to the 62).
+    pub fn new(mem: u64, threads: u64, classes: u64, limit: u64) -> Result<MachineSize, SizeFault>
+        ensures {
+            let n = numbers mem threads classes limit in
+            MatchResult result (λ size. (size_fault n ≡ None) × (size ≡ n)) (λ fault. size_fault n ≡ Some fault)
+        }
+    {
+        if mem < 65_536 || mem > 16_777_216 || mem % 4096 != 0 {
+            return Err(SizeFault::Mem);
+        }
+        if threads < 1 || threads > 16 {
+            return Err(SizeFault::Threads);
+        }
+        if !classes.is_power_of_two() || classes > 4096 {
+            return Err(SizeFault::Classes);
+        }
+        if limit < 1 || limit > 1 << 62 {
+            return Err(SizeFault::Limit);
+        }
+        Ok(MachineSize {
+            mem: mem as u32,
+            threads: threads as u32,
+            classes: classes as u32,
+            limit,
+        })
+    }
+
+    /// The bytes of memory: a multiple of 4096 from 65,536 to 16,777,216.
+    pub fn mem(&self) -> u32
+        ensures number { result ≡ self.now.mem }
+        ensures least { 65536 ≤ result }
+        ensures most { result ≤ 16777216 }
+        ensures pages { result % 4096 ≡ 0 }
+    {
+        self.mem
+    }
+
+    /// The guest threads: 1 to 16.
+    pub fn threads(&self) -> u32
+        ensures number { result ≡ self.now.threads }
+        ensures least { 1 ≤ result }
+        ensures most { result ≤ 16 }
+    {
+        self.threads
+    }
+
+    /// The classes of rows: a power of two from 1 to 4096.
+    pub fn classes(&self) -> u32
+        ensures number { result ≡ self.now.classes }
+        ensures power { IsTrue (is_power_of_two result) }
+        ensures most { result ≤ 4096 }
+    {
+        self.classes
+    }
+
+    /// The writes of a class: 1 to 4,611,686,018,427,387,904 (2 to the 62).
+    pub fn limit(&self) -> u64
+        ensures number { result ≡ self.now.limit }
+        ensures least { 1 ≤ result }
+        ensures most { result ≤ 2 ^ 62 }
+    {
+        self.limit
+    }
+
+    /// The bytes below the stacks, which are the last 4096 bytes of memory for each thread.
+    pub fn room(&self) -> u32
+        ensures number { result ≡ room_of self.now }
+        ensures whole { result + 4096 * self.now.threads ≡ self.now.mem }
+        ensures pages { result % 4096 ≡ 0 }
+    {
+        self.mem - 4096 * self.threads
+    }
 }
