@@ -12,6 +12,7 @@ pub enum Size {
 
 impl Size {
     /// The number of bytes: 1, 2, 4 or 8.
+    #[inline]
     pub fn bytes(self) -> u32
         ensures { result ≡ size_bytes self }
     {
@@ -33,10 +34,16 @@ pub struct Place {
 
 impl Place {
     /// Whether the address is a multiple of the size.
+    #[inline]
     pub fn is_aligned(self) -> bool
         ensures { result ≡ is_aligned self }
     {
-        self.addr % self.size.bytes() == 0
+        match self.size {
+            Size::B1 => true,
+            Size::B2 => self.addr % 2 == 0,
+            Size::B4 => self.addr % 4 == 0,
+            Size::B8 => self.addr % 8 == 0,
+        }
     }
 }
 

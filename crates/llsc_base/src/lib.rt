@@ -10,10 +10,12 @@ mod access;
 mod flat;
 mod images;
 mod lines;
+mod memory;
 mod sizes;
 
 pub use access::{Bar, Place, Size};
 pub use flat::FlatFault;
 pub use images::{Image, Span};
 pub use lines::Line;
+pub use memory::{load, store};
 pub use sizes::{MachineSize, SizeFault};

@@ -66,10 +66,8 @@ impl MachineSize {
     /// 4096 from 65,536 to 16,777,216, `threads` is 1 to 16, `classes` is a power of two from 1 to 4096,
     /// and `limit` is 1 to 4,611,686,018,427,387,904 (2 to the 62).
     pub fn new(mem: u64, threads: u64, classes: u64, limit: u64) -> Result<MachineSize, SizeFault>
-        ensures {
-            let n = numbers mem threads classes limit in
-            MatchResult result (λ size. (size_fault n ≡ None) × (size ≡ n)) (λ fault. size_fault n ≡ Some fault)
-        }
+        ensures { let n = numbers mem threads classes limit in
+            MatchResult result (λ size. (size_fault n ≡ None) × (size ≡ n)) (λ fault. size_fault n ≡ Some fault) }
     {
         if mem < 65_536 || mem > 16_777_216 || mem % 4096 != 0 {
             return Err(SizeFault::Mem);
