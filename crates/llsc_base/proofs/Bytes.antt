@@ -1,13 +1,11 @@
 -- The numbers that bytes spell, and memory after a store.
-use Rattle.std.proofs.Common.{◌≡◌, ℕ, zero, suc, ◌+◌, ◌-◌, ◌*◌, ◌/◌, ◌%◌, ◌^◌, ◌<◌, ◌≤◌, List, [], ◌∷◌, ◌++◌, length, take, drop, slice_index, refl, sym, ap, ◌∙◌, arith, length-append, length-take, length-drop, inl, inr, subst}
+use Rattle.std.proofs.Common.{◌≡◌, ℕ, zero, suc, ◌+◌, ◌/◌, ◌%◌, ◌^◌, ◌<◌, ◌≤◌, List, [], ◌∷◌, ◌++◌, length, take, drop, slice_index, refl, sym, ap, ◌∙◌, arith, length-append, length-take, length-drop, inl, inr, subst}
 use Rattle.std.proofs.lemmas.List.{drop_more, get_or-take, get_or-drop, get_or_past}
 use Rattle.std.proofs.lemmas.Bool.{cases_lt}
 use Rattle.std.proofs.Math.Nat.{div-div-eq-div-mul, div-one, one-le-pow, pow-suc, pow-succ'}
 use Rattle.std.proofs.Math.Arith.{mod-mul}
 use Rattle.std.specs.Int.{w16, w32, w64, byte_at, bytes_low_first, from_le_bytes, to_le_bytes}
-use Rattle.llsc_base.specs.Memory.{number_of, bytes_of, place_bytes, size_bytes, stored, value_at}
-use Rattle.llsc_base.specs.declared.access.Size.{Size}
-use Rattle.llsc_base.specs.declared.access.Size.TheVariants.{B1, B2, B4, B8}
+use Rattle.llsc_base.specs.Memory.{number_of, bytes_of, size_bytes, stored, value_at}
 use Rattle.llsc_base.specs.declared.access.Place.{Place}
 
 -- ---- one byte, and a number of two, four or eight

@@ -1,5 +1,5 @@
 -- A flat file: instruction words and nothing else, which stand in memory from 0x1000 up.
-use Rattle.std.specs.Prelude.{ℕ, ◌+◌, ◌-◌, ◌%◌, ◌==◌, ◌&&◌, ◌||◌, nat_le, nat_lt, if◌then◌else◌, Bool, true, false, Option, Some, None, List, [], ◌∷◌, length, take, slice_index, map, not, codes, nat_eq}
+use Rattle.std.specs.Prelude.{ℕ, ◌+◌, ◌-◌, ◌%◌, ◌==◌, ◌&&◌, ◌||◌, nat_le, nat_lt, if◌then◌else◌, true, false, Option, Some, None, List, [], ◌∷◌, length, slice_index, map, not, codes, nat_eq}
 use Rattle.std.specs.List.{range_with_len, starts_with}
 use Rattle.llsc_base.specs.Sizes.{Numbers, room_of}
 use Rattle.llsc_base.specs.Images.{Program}

@@ -1,8 +1,7 @@
 -- A guest program as it stands in memory before its first instruction.
-use Rattle.std.specs.Prelude.{◌≡◌, ◌≢◌, ℕ, ◌+◌, ◌<◌, ◌≤◌, ◌%◌, ◌&&◌, not, nat_le, nat_lt, max, min, if◌then◌else◌, Bool, true, false, Option, Some, None, IsTrue, List, length, AllPairs, All, ◌⊎◌}
+use Rattle.std.specs.Prelude.{◌≡◌, ℕ, ◌+◌, ◌<◌, ◌≤◌, ◌%◌, ◌&&◌, not, nat_le, nat_lt, max, min, if◌then◌else◌, Bool, true, false, Option, Some, None, List, length, AllPairs, All}
 use Rattle.std.specs.List.{list_any}
 use Rattle.llsc_base.specs.Memory.{size_bytes, is_aligned, value_at}
-use Rattle.llsc_base.specs.declared.access.Size.{Size}
 use Rattle.llsc_base.specs.declared.access.Size.TheVariants.{B4}
 use Rattle.llsc_base.specs.declared.access.Place.{Place}
 use Rattle.llsc_base.specs.declared.access.Bar.{Bar}
@@ -15,9 +14,17 @@ pub record Program : Type 0 where
   pub spans : List Span
   pub entry : ℕ
 
+-- bytes, spans and an entry as one program
+abbrev pub program_of : List ℕ → List Span → ℕ → Program
+program_of bytes spans entry = record { bytes = bytes; spans = spans; entry = entry }
+
+-- a span may be run and holds four bytes at an address
+abbrev pub holds_word : Span → ℕ → Bool
+holds_word span addr = span.run && nat_le span.start addr && nat_le (addr + 4) span.end
+
 -- four bytes at an address lie in one span that may be run
 abbrev pub runs_at : List Span → ℕ → Bool
-runs_at spans addr = list_any (λ span. span.run && nat_le span.start addr && nat_le (addr + 4) span.end) spans
+runs_at spans addr = list_any (λ span. holds_word span addr) spans
 
 -- the instruction word at an address, where one may be run there
 abbrev pub word_at : Program → ℕ → Option ℕ

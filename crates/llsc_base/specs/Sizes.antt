@@ -1,5 +1,5 @@
 -- The numbers of a machine and their ranges.
-use Rattle.std.specs.Prelude.{◌≡◌, ◌-◌, ◌*◌, ◌^◌, ◌%◌, ◌==◌, ◌||◌, ◌&&◌, not, nat_le, if◌then◌else◌, Bool, Option, Some, None, IsTrue, List, codes, ℕ}
+use Rattle.std.specs.Prelude.{◌≡◌, ◌-◌, ◌*◌, ◌^◌, ◌%◌, ◌==◌, ◌&&◌, not, nat_le, if◌then◌else◌, Bool, Option, Some, None, List, codes, ℕ}
 use Rattle.std.specs.Int.{is_power_of_two}
 use Rattle.llsc_base.specs.declared.sizes.SizeFault.{SizeFault}
 use Rattle.llsc_base.specs.declared.sizes.SizeFault.TheVariants as fault

@@ -1,3 +1,8 @@
+ghost use Rattle.std.specs.Prelude.{◌≡◌, ◌+◌, ◌%◌, ◌<◌, ◌≤◌, MatchOption, false, true, length, slice_index, position};
+ghost use Rattle.llsc_base.specs.Images.{IsProgram, Program, bar_of, holds_word, program_of, runs_at, touches_read_only, word_at};
+
+use crate::access::{Bar, Place};
+use crate::memory::load_4;
 use std::marker::Model;
 
 /// A segment of memory, from its start up to its end, the end not included.
@@ -27,4 +32,127 @@ impl Model for Image {
     ghost view = { λ i. record { bytes = i.bytes.items; spans = i.spans.items; entry = i.entry } };
 
     ghost invariant = { λ i. IsProgram (record { bytes = i.bytes.items; spans = i.spans.items; entry = i.entry }) };
+}
+
+impl Image {
+    /// The image of these bytes, segments and first instruction.
+    pub fn new(bytes: Vec<u8>, spans: Vec<Span>, entry: u32) -> Image
+        requires { IsProgram (program_of bytes.items spans.items entry) }
+        ensures { result ≡ program_of bytes.items spans.items entry }
+    {
+        Image {
+            bytes,
+            spans,
+            entry,
+        }
+    }
+
+    /// The address of the first instruction, a multiple of 4.
+    pub fn entry(&self) -> u32
+        ensures number { result ≡ self.now.entry }
+        ensures aligned { result % 4 ≡ 0 }
+    {
+        self.entry
+    }
+
+    /// All of memory as it stands at the start: at most 16,777,216 bytes.
+    #[inline]
+    pub fn bytes(&self) -> &[u8]
+        ensures items { result.now ≡ self.now.bytes }
+        ensures most { length result.now ≤ 16777216 }
+        ensures sound { IsProgram self.now }
+    {
+        &self.bytes
+    }
+
+    /// The byte at an address of memory, as it stands at the start.
+    #[inline]
+    pub fn byte(&self, addr: u32) -> u8
+        requires { addr < length self.now.bytes }
+        ensures { result ≡ slice_index self.now.bytes addr }
+    {
+        self.bytes[addr as usize]
+    }
+
+    /// The instruction word at an address that is a multiple of 4, its least significant byte first.
+    ///
+    /// `None` exactly where no span that runs holds all four bytes.
+    pub fn fetch(&self, addr: u32) -> Option<u32>
+        requires { addr % 4 ≡ 0 }
+        ensures { result ≡ word_at self.now addr }
+    {
+        let mut near = 0;
+        self.fetch_near(addr, &mut near)
+    }
+
+    /// As [`Image::fetch`], and the same answer whatever `near` is.
+    ///
+    /// The span of that index is tried first, and the others only where it doesn't hold the word; `near`
+    /// is then the index of the one that does. So a caller that keeps `near` walks the spans only when
+    /// it comes to another one.
+    #[inline]
+    pub fn fetch_near(&self, addr: u32, near: &mut usize) -> Option<u32>
+        requires { addr % 4 ≡ 0 }
+        ensures { result ≡ word_at self.now addr }
+    {
+        if is_held_at(&self.spans, *near, addr) {
+            return Some(load_4(&self.bytes, addr as usize));
+        }
+        let at = holder(&self.spans, addr)?;
+        *near = at;
+        Some(load_4(&self.bytes, addr as usize))
+    }
+
+    /// What stands against an access of a place, a store or a load: the first of [`Bar`]'s variants that
+    /// does, or `None`.
+    #[inline]
+    pub fn test(&self, place: Place, store: bool) -> Option<Bar>
+        ensures { result ≡ bar_of self.now place store }
+    {
+        if !place.is_aligned() {
+            return Some(Bar::Alignment);
+        }
+        let end = place.addr as usize + place.size.bytes() as usize;
+        if end > self.bytes.len() {
+            return Some(Bar::Outside);
+        }
+        if store && touches_read_only(&self.spans, place.addr as usize, end) {
+            return Some(Bar::ReadOnly);
+        }
+        None
+    }
+}
+
+// Whether a span runs and holds the four bytes from an address on.
+#[inline]
+fn holds_word(span: &Span, addr: u32) -> bool
+    ensures { result ≡ holds_word span.now addr }
+{
+    span.run && span.start <= addr && addr as usize + 4 <= span.end as usize
+}
+
+// Whether the span of this index, if there is one, runs and holds the four bytes.
+#[inline]
+fn is_held_at(spans: &[Span], at: usize, addr: u32) -> bool
+    ensures { result ≡ true → runs_at spans.now addr ≡ true }
+{
+    match spans.get(at) {
+        Some(span) => holds_word(span, addr),
+        None => false,
+    }
+}
+
+// The index of the first span that runs and holds the four bytes.
+fn holder(spans: &[Span], addr: u32) -> Option<usize>
+    ensures { result ≡ position (λ span. holds_word span addr) spans.now }
+{
+    spans.iter().position(|span| holds_word(span, addr))
+}
+
+// Whether some byte from one address up to another lies in a span that isn't written.
+fn touches_read_only(spans: &[Span], from: usize, to: usize) -> bool
+    ensures { result ≡ touches_read_only spans.now from to }
+{
+    spans.iter().any(|span| !span.write
+        && from.max(span.start as usize) < to.min(span.end as usize))
 }

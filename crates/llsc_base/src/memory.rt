@@ -40,7 +40,7 @@ pub fn store(memory: &mut [u8], place: Place, value: u64)
 
 // Sets the bytes from an index on.
 #[inline]
-fn put(memory: &mut [u8], at: usize, bytes: &[u8])
+pub(crate) fn put(memory: &mut [u8], at: usize, bytes: &[u8])
     requires { at + length bytes.now ≤ length memory.old }
     ensures { memory.new ≡ take at memory.old ++ bytes.now ++ drop (at + length bytes.now) memory.old }
 {

@@ -1,0 +1,64 @@
+-- What the spans of a program say of the addresses in them.
+use Rattle.std.proofs.Common.{◌≡◌, ℕ, suc, ◌+◌, ◌<◌, ◌≤◌, ◌%◌, Bool, true, false, Some, None, List, [], ◌∷◌, length, refl, ◌∙◌, arith}
+use Rattle.std.specs.List.{position_or_len, list_any}
+use Rattle.std.specs.Prelude.{All, cond, nat_lt, position, not, nat_le, ◌&&◌, ◌||◌}
+use Rattle.std.proofs.lemmas.List.Folds.{Any-from_list_any}
+use Rattle.llsc_base.specs.Images.{IsProgram, IsSpan, holds_word, program_of, runs_at}
+use Rattle.llsc_base.specs.declared.images.Span.{Span}
+
+-- the last of three tests that hold together
+and-nat_le : (a b : Bool) (x y : ℕ) → (a && b && nat_le x y) ≡ true → x ≤ y
+and-nat_le a b x y h = grind arith
+
+-- where four bytes are run they lie in memory
+pub runs_at-inside : (spans : List Span) (addr count : ℕ) → All (IsSpan count) spans → runs_at spans addr ≡ true → addr + 4 ≤ count
+runs_at-inside spans addr count sound held =
+    let some = Any-from_list_any (λ (span : Span). holds_word span addr) spans held in
+    let whole : IsSpan count some.1 = rw some.3 at (sound some.0 some.1 some.2) in
+    let last : addr + 4 ≤ some.1.end = and-nat_le some.1.run (nat_le some.1.start addr) _ _ some.4 in
+    omega (arith, last, whole.inside)
+
+lt-zero : (n : ℕ) → true ≡ nat_lt 0 (suc n)
+lt-zero n = grind arith
+
+lt-suc : (i n : ℕ) → nat_lt i n ≡ nat_lt (1 + i) (suc n)
+lt-suc i n = grind arith
+
+-- an index is found exactly where some element passes
+found : (p : Span → Bool) (spans : List Span) → list_any p spans ≡ nat_lt (position_or_len p spans) (length spans)
+found p [] = refl
+found p (span ∷ spans) =
+    elim (p span) as (λ b. (b || list_any p spans) ≡ nat_lt (cond (not b) (1 + position_or_len p spans) 0) (suc (length spans))) [
+      | true ↦ lt-zero (length spans)
+      | false ↦ found p spans ∙ lt-suc (position_or_len p spans) (length spans)
+    ]
+
+cond-some : (b : Bool) (i at : ℕ) → Some at ≡ cond b (Some i) None → b ≡ true
+cond-some true i at e = refl
+cond-some false i at e = cc
+
+cond-none : (b : Bool) (i : ℕ) → None ≡ cond b (Some i) None → b ≡ false
+cond-none true i e = cc
+cond-none false i e = refl
+
+-- where an index is found some span holds the four bytes
+pub runs_at-some : (spans : List Span) (addr at : ℕ)
+    → Some at ≡ position (λ span. holds_word span addr) spans → runs_at spans addr ≡ true
+runs_at-some spans addr at e = found (λ span. holds_word span addr) spans ∙ cond-some _ _ _ e
+
+-- where no index is found no span holds the four bytes
+pub runs_at-none : (spans : List Span) (addr : ℕ)
+    → None ≡ position (λ span. holds_word span addr) spans → runs_at spans addr ≡ false
+runs_at-none spans addr e = found (λ span. holds_word span addr) spans ∙ cond-none _ _ e
+
+-- one span that isn't written, round memory that is not too large
+pub IsProgram-one : (bytes : List ℕ) (span : Span) (entry : ℕ) → entry % 4 ≡ 0 → length bytes ≤ 16777216
+    → span.start < span.end → span.end ≤ length bytes → span.write ≡ false → IsProgram (program_of bytes (span ∷ []) entry)
+IsProgram-one bytes span entry aligned sized filled inside kept =
+    let whole : IsSpan (length bytes) span = record { filled = filled; inside = inside; apart = λ _. kept } in
+    record {
+      aligned = aligned;
+      sized = sized;
+      spans = λ k d h. let first : k ≡ 0 = omega arith in rw first whole;
+      apart = λ i j d low high. absurd (omega arith);
+    }
