@@ -103,3 +103,77 @@ fn flat_memory(alloc: Global, file: &[u8], mem: u32) -> Result<Vec<u8>, AllocErr
     put(&mut memory, FLAT_START as usize, file);
     Ok(memory)
 }
+
+#[cfg(test)]
+mod tests {
+    use super::*;
+    use crate::access::{Bar, Place, Size};
+
+    // Three words: mov r0, #0; mov r7, #1; svc #0.
+    const EXIT: [u8; 12] = [0, 0, 0xa0, 0xe3, 1, 0x70, 0xa0, 0xe3, 0, 0, 0, 0xef];
+
+    #[derive(Debug, Drop, Error)]
+    #[error("no image")]
+    struct NoImage;
+
+    fn image(alloc: Global) -> Result<Image, NoImage> {
+        let size = MachineSize::new(1_048_576, 1, 4096, 1 << 62).map_err(|_| NoImage)?;
+        Image::flat(alloc, &EXIT, &size).map_err(|_| NoImage)
+    }
+
+    #[test]
+    fn words(rt: HostRuntime) -> Result<(), NoImage> {
+        let image = image(rt.alloc())?;
+        assert_eq!(rt; image.entry(), 0x1000);
+        assert_eq!(rt; image.bytes().len(), 1_048_576);
+        let cases = [
+            (0x1000, Some(0xe3a0_0000)),
+            (0x1008, Some(0xef00_0000)),
+            (0x100c, None),
+            (0, None),
+        ];
+        for (addr, word) in cases {
+            assert_eq!(rt; image.fetch(addr), word, "at {addr}");
+        }
+        assert_eq!(rt; image.byte(0x1003), 0xe3);
+        Ok(())
+    }
+
+    #[test]
+    fn bars(rt: HostRuntime) -> Result<(), NoImage> {
+        let image = image(rt.alloc())?;
+        let cases = [
+            (0x1001, Size::B4, false, Some(Bar::Alignment)),
+            (0x10_0000, Size::B4, false, Some(Bar::Outside)),
+            (0x1000, Size::B4, true, Some(Bar::ReadOnly)),
+            (0x1000, Size::B4, false, None),
+            (0xffc, Size::B4, true, None),
+            (0x1008, Size::B8, true, Some(Bar::ReadOnly)),
+        ];
+        for (addr, size, store, bar) in cases {
+            assert_eq!(rt; image.test(Place { addr, size }, store), bar, "at {addr}");
+        }
+        Ok(())
+    }
+
+    #[test]
+    fn faults(rt: HostRuntime) -> Result<(), NoImage> {
+        let size = MachineSize::new(65_536, 14, 1, 1).map_err(|_| NoImage)?;
+        let long = [1; 4100];
+        assert_eq!(rt;
+            Image::flat(rt.alloc(), &[], &size).err(),
+            Some(FlatFault::Length)
+        );
+        assert_eq!(rt;
+            Image::flat(rt.alloc(), &ELF_MAGIC, &size).err(),
+            Some(FlatFault::Elf)
+        );
+        assert_eq!(rt;
+            Image::flat(rt.alloc(), &long, &size).err(),
+            Some(FlatFault::TooLong)
+        );
+        assert_eq!(rt; Image::flat(rt.alloc(), &long[..4096], &size).err(), None);
+        assert_eq!(rt; FlatFault::TooLong.name(), "TooLong");
+        Ok(())
+    }
+}

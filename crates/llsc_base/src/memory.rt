@@ -85,3 +85,43 @@ fn load_8(memory: &[u8], at: usize) -> u64
         memory[at + 7],
     ])
 }
+
+#[cfg(test)]
+mod tests {
+    use super::*;
+
+    #[test]
+    fn there_and_back(rt: HostRuntime) {
+        let cases = [
+            (
+                Size::B1,
+                0x88,
+                [0, 0, 0, 0, 0, 0, 0, 0, 0x88, 0, 0, 0, 0, 0, 0, 0],
+            ),
+            (
+                Size::B2,
+                0x8877,
+                [0, 0, 0, 0, 0, 0, 0, 0, 0x77, 0x88, 0, 0, 0, 0, 0, 0],
+            ),
+            (
+                Size::B4,
+                0x8877_6655,
+                [0, 0, 0, 0, 0, 0, 0, 0, 0x55, 0x66, 0x77, 0x88, 0, 0, 0, 0],
+            ),
+            (
+                Size::B8,
+                0x8877_6655_4433_2211,
+                [
+                    0, 0, 0, 0, 0, 0, 0, 0, 0x11, 0x22, 0x33, 0x44, 0x55, 0x66, 0x77, 0x88,
+                ],
+            ),
+        ];
+        for (size, value, bytes) in cases {
+            let mut memory = [0; 16];
+            let place = Place { addr: 8, size };
+            store(&mut memory, place, value);
+            assert_eq!(rt; memory, bytes);
+            assert_eq!(rt; load(&memory, place), value);
+        }
+    }
+}
