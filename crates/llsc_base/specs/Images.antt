@@ -1,6 +1,7 @@
 -- A guest program as it stands in memory before its first instruction.
-use Rattle.std.specs.Prelude.{◌≡◌, ℕ, ◌+◌, ◌<◌, ◌≤◌, ◌%◌, ◌&&◌, not, nat_le, nat_lt, max, min, if◌then◌else◌, Bool, true, false, Option, Some, None, List, length, AllPairs, All}
+use Rattle.std.specs.Prelude.{◌≡◌, ℕ, ◌+◌, ◌<◌, ◌≤◌, ◌%◌, ◌&&◌, not, nat_le, nat_lt, max, min, if◌then◌else◌, Bool, true, false, Option, Some, None, List, length, AllPairs, All, slice_get}
 use Rattle.std.specs.List.{list_any}
+use Rattle.std.specs.Option.{option_map_or}
 use Rattle.llsc_base.specs.Memory.{size_bytes, is_aligned, value_at}
 use Rattle.llsc_base.specs.declared.access.Size.TheVariants.{B4}
 use Rattle.llsc_base.specs.declared.access.Place.{Place}
@@ -25,6 +26,10 @@ holds_word span addr = span.run && nat_le span.start addr && nat_le (addr + 4) s
 -- four bytes at an address lie in one span that may be run
 abbrev pub runs_at : List Span → ℕ → Bool
 runs_at spans addr = list_any (λ span. holds_word span addr) spans
+
+-- the span of this index, if there is one, may be run and holds four bytes at an address
+abbrev pub serves : List Span → ℕ → ℕ → Bool
+serves spans at addr = option_map_or (λ span. holds_word span addr) (slice_get spans at) false
 
 -- the instruction word at an address, where one may be run there
 abbrev pub word_at : Program → ℕ → Option ℕ

@@ -87,8 +87,7 @@ fn flat_fault(bytes: &[u8], size: &MachineSize) -> Option<FlatFault>
     if bytes.len() == 0 || bytes.len() % 4 != 0 {
         return Some(FlatFault::Length);
     }
-    let room = size.room() as usize;
-    if room < FLAT_START as usize || room - (FLAT_START as usize) < bytes.len() {
+    if FLAT_START as usize + bytes.len() > size.room() as usize {
         return Some(FlatFault::TooLong);
     }
     None

@@ -1,5 +1,5 @@
-ghost use Rattle.std.specs.Prelude.{◌≡◌, ◌+◌, ◌%◌, ◌<◌, ◌≤◌, MatchOption, false, true, length, slice_index, position};
-ghost use Rattle.llsc_base.specs.Images.{IsProgram, Program, bar_of, holds_word, program_of, runs_at, touches_read_only, word_at};
+ghost use Rattle.std.specs.Prelude.{◌≡◌, ◌+◌, ◌%◌, ◌<◌, ◌≤◌, IfSome, IsTrue, length, slice_index, position};
+ghost use Rattle.llsc_base.specs.Images.{IsProgram, Program, bar_of, holds_word, program_of, serves, touches_read_only, word_at};
 
 use crate::access::{Bar, Place};
 use crate::memory::load_4;
@@ -93,7 +93,8 @@ impl Image {
     #[inline]
     pub fn fetch_near(&self, addr: u32, near: &mut usize) -> Option<u32>
         requires { addr % 4 ≡ 0 }
-        ensures { result ≡ word_at self.now addr }
+        ensures word { result ≡ word_at self.now addr }
+        ensures near { IfSome result (λ word. IsTrue (serves self.now.spans near.new addr)) }
     {
         if is_held_at(&self.spans, *near, addr) {
             return Some(load_4(&self.bytes, addr as usize));
@@ -134,7 +135,7 @@ fn holds_word(span: &Span, addr: u32) -> bool
 // Whether the span of this index, if there is one, runs and holds the four bytes.
 #[inline]
 fn is_held_at(spans: &[Span], at: usize, addr: u32) -> bool
-    ensures { result ≡ true → runs_at spans.now addr ≡ true }
+    ensures { result ≡ serves spans.now at addr }
 {
     match spans.get(at) {
         Some(span) => holds_word(span, addr),

@@ -1,4 +1,4 @@
-ghost use Rattle.std.specs.Prelude.{◌≡◌, []};
+ghost use Rattle.std.specs.Prelude.{◌≡◌, ◌<◌, ◌≤◌, ◌++◌, ◌∷◌, [], length};
 
 use std::marker::Model;
 
@@ -33,10 +33,33 @@ impl Line {
         }
     }
 
-    /// The bytes of the text.
+    /// The bytes of the text, at most 96.
     pub fn bytes(&self) -> &[u8]
-        ensures { result.now ≡ self.now }
+        ensures text { result.now ≡ self.now }
+        ensures most { length result.now ≤ 96 }
     {
         &self.text[..self.len]
+    }
+
+    /// Adds a byte at the end.
+    pub fn push(&mut self, byte: u8)
+        requires { length self.old < 96 }
+        ensures { self.new ≡ self.old ++ byte ∷ [] }
+    {
+        self.text[self.len] = byte;
+        self.len += 1;
+    }
+}
+
+#[cfg(test)]
+mod tests {
+    use super::*;
+
+    #[test]
+    fn grows(rt: HostRuntime) {
+        let mut line = Line::new();
+        line.push(b'h');
+        line.push(b'i');
+        assert_eq!(rt; line.bytes(), b"hi");
     }
 }
