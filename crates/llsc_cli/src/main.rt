@@ -1,0 +1,11 @@
+//! Runs A32 guests: reads words and files, and writes a report and a status.
+#![tactic(auto)]
+
+mod host;
+
+use std::io;
+
+fn main(rt: HostRuntime) -> io::Result<()> {
+    println!(rt; "hello")?;
+    Ok(())
+}
