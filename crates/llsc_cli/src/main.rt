@@ -2,6 +2,7 @@
 #![tactic(auto)]
 
 mod host;
+mod memory_host;
 mod words;
 
 use std::io;
