@@ -1,5 +1,5 @@
 //! A host in memory, which tells everything: for tests and for proofs about whole calls.
-ghost use Rattle.std.specs.Prelude.{◌≡◌, List, [], IfOk, Some, string_bytes, length, is_ok};
+ghost use Rattle.std.specs.Prelude.{◌≡◌, ◌≤◌, List, [], IfOk, Some, string_bytes, length, is_ok};
 ghost use Rattle.std.specs.Option.{option_copied};
 ghost use Rattle.llsc_cli.specs.MemoryHost.{IsAnswer, after_read, after_write, bytes_within, failure_at, file_of, goes_through, read_of};
 
@@ -93,4 +93,72 @@ fn failure_at(failing: &[(u64, u32)], call: u64) -> Option<u32>
         .iter()
         .find(|pair| pair.0 == call)
         .map(|pair| pair.1)
+}
+
+// What a read of the file gives that holds these bytes, of `most` bytes at most.
+fn bytes_within(
+    alloc: Global,
+    told: Option<&[u8]>,
+    most: usize,
+) -> Result<Vec<u8>, ReadFault>
+    ensures { IsAnswer (bytes_within most (option_copied told.entry)) result }
+{
+    match told {
+        None => Err(ReadFault::Failed),
+        Some(bytes) if bytes.len() > most => Err(ReadFault::FileTooLong),
+        Some(bytes) => bytes.to_vec(alloc).map_err(|_| ReadFault::Memory),
+    }
+}
+
+impl Host for MemoryHost {
+    ghost use Rattle.std.specs.Prelude.{Some};
+    ghost use Rattle.llsc_cli.specs.MemoryHost.{file_of};
+
+    ghost file = { λ held name. file_of held.files name };
+
+    ghost written = { λ held. Some held.written };
+
+    ghost read_faults = { λ held. held.read_faults };
+
+    ghost write_faults = { λ held. held.write_faults };
+
+    ghost lost = { λ held. held.lost };
+
+    /// A read of a name that it does not hold fails, and so does one whose call is to fail.
+    fn read_file(&mut self, alloc: Global, name: String, most: usize) -> Result<Vec<u8>, ReadFault>
+        ensures answer { IsAnswer (read_of self.old (string_bytes name) most) result }
+        ensures state { self.new ≡ after_read self.old (string_bytes name) (read_of self.old (string_bytes name) most) }
+        ensures later { self.old.read_faults ≤ self.new.read_faults }
+    {
+        let is_failing = failure_at(&self.failing, self.calls).is_some();
+        self.calls = self.calls.saturating_add(1);
+        let told = file_of(&self.files, name.as_str());
+        if is_failing || told.is_none() {
+            self.read_faults = self.read_faults.saturating_add(1);
+            self.lost = name;
+            return Err(ReadFault::Failed);
+        }
+        bytes_within(alloc, told, most)
+    }
+
+    /// A write past the space fails, and so does one whose call is to fail.
+    fn write(&mut self, bytes: &[u8]) -> Result<(), Failed>
+        ensures answer { is_ok result ≡ goes_through self.old (length bytes.now) }
+        ensures state { self.new ≡ after_write self.old bytes.now }
+        ensures later { self.old.write_faults ≤ self.new.write_faults }
+    {
+        let failure = failure_at(&self.failing, self.calls);
+        self.calls = self.calls.saturating_add(1);
+        let room = bytes.len().min(self.space - self.written.len());
+        let passed = match failure {
+            None => room,
+            Some(most) => room.min(most as usize),
+        };
+        self.written.extend_from_slice(&bytes[..passed]).unwrap();
+        if failure.is_none() && room == bytes.len() {
+            return Ok(());
+        }
+        self.write_faults = self.write_faults.saturating_add(1);
+        Err(Failed)
+    }
 }
