@@ -4,6 +4,7 @@ ghost use Rattle.std.specs.Option.{option_map};
 ghost use Rattle.llsc_cli.specs.Request.{asked, request_of};
 
 /// What a call asks for.
+#[derive(Drop)]
 pub enum Request<'a> {
     /// To run the file of this name, a flat image, as one thread.
     Solo { file: &'a str },
