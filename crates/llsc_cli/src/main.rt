@@ -8,7 +8,6 @@ mod words;
 
 use crate::host::Host;
 use crate::real_host::RealHost;
-use std::alloc::AllocError;
 use std::env;
 use std::io::ErrorKind;
 use std::process::ExitCode;
@@ -20,12 +19,6 @@ enum WordsFault {
     // One of them is no text.
     NotText,
     Memory,
-}
-
-impl From<AllocError> for WordsFault {
-    fn from(_error: AllocError) -> WordsFault {
-        WordsFault::Memory
-    }
 }
 
 fn main(rt: HostRuntime) -> ExitCode {
@@ -40,11 +33,14 @@ fn main(rt: HostRuntime) -> ExitCode {
 
 // The words of the call, without the program's name.
 fn words_of<R: Env + AllocGlobal>(rt: &R) -> Result<Vec<String>, WordsFault> {
-    match env::args(rt) {
-        Ok(words) => Ok(words.skip(1).collect(rt.alloc())?),
-        Err(error) if matches!(error.kind(), ErrorKind::OutOfMemory) => Err(WordsFault::Memory),
-        Err(_) => Err(WordsFault::NotText),
-    }
+    let words = env::args(rt).map_err(|error| match error.kind() {
+        ErrorKind::OutOfMemory => WordsFault::Memory,
+        _ => WordsFault::NotText,
+    })?;
+    words
+        .skip(1)
+        .collect(rt.alloc())
+        .map_err(|_| WordsFault::Memory)
 }
 
 // Says that the words are refused, and gives the status.

@@ -44,14 +44,14 @@ impl MemoryHost {
         space: u32,
     ) -> Result<MemoryHost, AllocError>
         ensures { IfOk result (λ host. host ≡ record {
-            files = files.items;
-            failing = failing.items;
-            space = space;
-            calls = 0;
-            written = [];
-            read_faults = 0;
-            write_faults = 0;
-            lost = [];
+          files = files.items;
+          failing = failing.items;
+          space = space;
+          calls = 0;
+          written = [];
+          read_faults = 0;
+          write_faults = 0;
+          lost = [];
         }) }
     {
         let space = space as usize;
@@ -96,11 +96,7 @@ fn failure_at(failing: &[(u64, u32)], call: u64) -> Option<u32>
 }
 
 // What a read of the file gives that holds these bytes, of `most` bytes at most.
-fn bytes_within(
-    alloc: Global,
-    told: Option<&[u8]>,
-    most: usize,
-) -> Result<Vec<u8>, ReadFault>
+fn bytes_within(alloc: Global, told: Option<&[u8]>, most: usize) -> Result<Vec<u8>, ReadFault>
     ensures { IsAnswer (bytes_within most (option_copied told.entry)) result }
 {
     match told {
@@ -160,5 +156,42 @@ impl Host for MemoryHost {
         }
         self.write_faults = self.write_faults.saturating_add(1);
         Err(Failed)
+    }
+}
+
+#[cfg(test)]
+mod tests {
+    use super::*;
+    use std::test::Fail;
+
+    #[test]
+    fn answers_each_call(rt: HostRuntime) -> Result<(), Fail> {
+        let bytes = Vec::from_slice(rt.alloc(), b"twelve bytes")?;
+        let name = String::from_str(rt.alloc(), "p")?;
+        let files = vec![in rt.alloc(); (name, bytes)]?;
+        let failing = vec![in rt.alloc(); (3, 1)]?;
+        let mut host = MemoryHost::new(rt.alloc(), files, failing, 8)?;
+        for (path, most, want) in [
+            ("p", 11, "FileTooLong"),
+            ("p", 12, "twelve bytes"),
+            ("q", 12, "Failed"),
+        ] {
+            let name = String::from_str(rt.alloc(), path)?;
+            let answer = host.read_file(rt.alloc(), name, most);
+            let text = match &answer {
+                Ok(bytes) => bytes.as_slice(),
+                Err(fault) => fault.name().as_bytes(),
+            };
+            assert_eq!(rt; text, want.as_bytes(), "{most} bytes of {path}");
+        }
+        for (text, is_whole, want) in [
+            ("ab", false, "a"),
+            ("bcd", true, "abcd"),
+            ("efghi", false, "abcdefgh"),
+        ] {
+            assert_eq!(rt; host.write(text.as_bytes()).is_ok(), is_whole, "at {text}");
+            assert_eq!(rt; host.written(), want.as_bytes(), "at {text}");
+        }
+        Ok(())
     }
 }

@@ -1,7 +1,7 @@
 //! The host of the program as it runs: files by their paths, and standard output.
 //!
 //! This is the trusted edge. No clause says what a file holds or what reaches the output.
-ghost use Rattle.std.specs.Prelude.{◌≤◌, length, IfOk};
+ghost use Rattle.std.specs.Prelude.{◌≡◌, ◌≤◌, [], length, IfOk};
 
 use crate::host::{Failed, Host, ReadFault};
 use std::alloc::Global;
@@ -24,7 +24,11 @@ pub struct RealHost<R> {
 
 impl<R: Files + Print> RealHost<R> {
     /// A host over this runtime, with no failures so far.
-    pub fn new(alloc: Global, runtime: R) -> RealHost<R> {
+    pub fn new(alloc: Global, runtime: R) -> RealHost<R>
+        ensures read_faults { ⟦<RealHost<R> as Host>⟧.read_faults result ≡ 0 }
+        ensures write_faults { ⟦<RealHost<R> as Host>⟧.write_faults result ≡ 0 }
+        ensures lost { ⟦<RealHost<R> as Host>⟧.lost result ≡ [] }
+    {
         RealHost {
             runtime,
             read_faults: 0,
@@ -47,7 +51,12 @@ impl<R: Files + Print> Host for RealHost<R> {
 
     ghost lost = { λ host. string_bytes host.lost };
 
-    fn read_file(&mut self, alloc: Global, name: String, most: usize) -> Result<Vec<u8>, ReadFault> {
+    fn read_file(
+        &mut self,
+        alloc: Global,
+        name: String,
+        most: usize,
+    ) -> Result<Vec<u8>, ReadFault> {
         let answer = match fs::open(&self.runtime, name.as_str()) {
             Ok(mut file) => read_within(alloc, &mut file, most),
             Err(_) => Err(ReadFault::Failed),
@@ -105,4 +114,32 @@ fn write_whole<R: Print>(runtime: &R, bytes: &[u8]) -> bool {
         }
     }
     false
+}
+
+#[cfg(test)]
+mod tests {
+    use super::*;
+    use std::test::Fail;
+
+    #[test]
+    fn answers_from_the_system(rt: HostRuntime) -> Result<(), Fail> {
+        let mut host = RealHost::new(rt.alloc(), &rt);
+        for (path, most, want) in [
+            ("/dev/null", 0, "0 bytes"),
+            ("/dev/zero", 20_000, "FileTooLong"),
+            ("/", 9, "Failed"),
+            ("/dev/null/none", 9, "Failed"),
+        ] {
+            let name = String::from_str(rt.alloc(), path)?;
+            let text = match host.read_file(rt.alloc(), name, most) {
+                Ok(bytes) => format!(in rt.alloc(); "{} bytes", bytes.len())?,
+                Err(fault) => String::from_str(rt.alloc(), fault.name())?,
+            };
+            assert_eq!(rt; text.as_str(), want, "at {path}");
+        }
+        assert_eq!(rt; host.read_faults, 2);
+        assert_eq!(rt; host.lost.as_str(), "/dev/null/none");
+        host.write(b"")?;
+        Ok(())
+    }
 }

@@ -19,8 +19,7 @@ pub fn parse(words: &[String]) -> Option<Request<'_>>
         [command, flat, file]
             if command.as_str() == "solo"
                 && flat.as_str() == "--flat"
-                && !file.as_str().starts_with('-') =>
-        {
+                && !file.as_str().starts_with('-') => {
             Some(Request::Solo {
                 file: file.as_str(),
             })

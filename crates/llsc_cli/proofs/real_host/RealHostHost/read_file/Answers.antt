@@ -1,4 +1,4 @@
-use Rattle.std.proofs.Common.{ℕ, ◌+◌, ◌<◌, List, length, replicate, arith}
+use Rattle.std.proofs.Common.{ℕ, ◌+◌, replicate, arith}
 use Rattle.std.proofs.lemmas.List.{length-replicate}
 use Rattle.llsc_cli.proofs.real_host.RealHostHost.read_file.Goals as goal
 
