@@ -1,6 +1,9 @@
 //! Runs A32 guests: reads words and files, and writes a report and a status.
 #![tactic(auto)]
 
+ghost use Rattle.std.specs.Prelude.{◌≡◌, ◌⊎◌, codes};
+ghost use Rattle.llsc_cli.specs.Host.{Adds, Rose};
+
 mod host;
 mod memory_host;
 mod real_host;
@@ -44,7 +47,11 @@ fn words_of<R: Env + AllocGlobal>(rt: &R) -> Result<Vec<String>, WordsFault> {
 }
 
 // Says that the words are refused, and gives the status.
-fn refuse<H: Host>(host: &mut H) -> u8 {
+fn refuse<H: Host>(host: &mut H) -> u8
+    ensures status { (result ≡ 2) ⊎ (result ≡ 5) }
+    ensures words { result ≡ 2 → Adds (H.written host.old) (H.written host.new) (codes "llsc: words\n") }
+    ensures write { result ≡ 5 → Rose (H.write_faults host.old) (H.write_faults host.new) }
+{
     match host.write(b"llsc: words\n") {
         Ok(()) => 2,
         Err(_) => 5,

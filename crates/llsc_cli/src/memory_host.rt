@@ -95,15 +95,14 @@ fn failure_at(failing: &[(u64, u32)], call: u64) -> Option<u32>
         .map(|pair| pair.1)
 }
 
-// What a read of the file gives that holds these bytes, of `most` bytes at most.
-fn bytes_within(alloc: Global, told: Option<&[u8]>, most: usize) -> Result<Vec<u8>, ReadFault>
-    ensures { IsAnswer (bytes_within most (option_copied told.entry)) result }
+// A copy of a file's bytes, where there are `most` at most.
+fn copy_within(alloc: Global, bytes: &[u8], most: usize) -> Result<Vec<u8>, ReadFault>
+    ensures { IsAnswer (bytes_within most (Some bytes.now)) result }
 {
-    match told {
-        None => Err(ReadFault::Failed),
-        Some(bytes) if bytes.len() > most => Err(ReadFault::FileTooLong),
-        Some(bytes) => bytes.to_vec(alloc).map_err(|_| ReadFault::Memory),
+    if bytes.len() > most {
+        return Err(ReadFault::FileTooLong);
     }
+    bytes.to_vec(alloc).map_err(|_| ReadFault::Memory)
 }
 
 impl Host for MemoryHost {
@@ -128,13 +127,14 @@ impl Host for MemoryHost {
     {
         let is_failing = failure_at(&self.failing, self.calls).is_some();
         self.calls = self.calls.saturating_add(1);
-        let told = file_of(&self.files, name.as_str());
-        if is_failing || told.is_none() {
-            self.read_faults = self.read_faults.saturating_add(1);
-            self.lost = name;
-            return Err(ReadFault::Failed);
+        match file_of(&self.files, name.as_str()) {
+            Some(bytes) if !is_failing => copy_within(alloc, bytes, most),
+            _ => {
+                self.read_faults = self.read_faults.saturating_add(1);
+                self.lost = name;
+                Err(ReadFault::Failed)
+            }
         }
-        bytes_within(alloc, told, most)
     }
 
     /// A write past the space fails, and so does one whose call is to fail.
