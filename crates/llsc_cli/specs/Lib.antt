@@ -1,0 +1,4 @@
+pub mod Host
+pub mod MemoryHost
+pub mod MemoryHostInside
+pub mod Request
