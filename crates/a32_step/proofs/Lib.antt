@@ -1,3 +1,4 @@
+pub mod Follows
 mod Rotation
 pub mod Tested
 pub mod Words

@@ -152,6 +152,13 @@ IsTested program replies (wanted.Call call) = Unit {0}
 IsTested program replies wanted.Done = Unit {0}
 IsTested program replies (wanted.Stopped stop) = Unit {0}
 
+-- how a machine stands when something is wanted: it awaits the access or the call, or it is between two instructions
+abbrev pub Follows : Machine → Wanted → Machine → Type 0
+Follows old (wanted.Access ask) new = IsAwaiting new.phase × (new.replies ≡ old.replies)
+Follows old (wanted.Call call) new = IsCalling new.phase
+Follows old wanted.Done new = new ≡ between new.state
+Follows old (wanted.Stopped stop) new = Unit {0}
+
 -- The start of thread t of n: r0 has t, r1 has n, r13 has the top of the stack, every other register is 0 and every
 -- flag is clear.
 abbrev pub start_of : ℕ → ℕ → ℕ → ℕ → Machine

@@ -4,7 +4,7 @@ ghost use Rattle.a32_instr.specs.State.{register, advanced, jumps, writes, answe
 ghost use Rattle.a32_instr.specs.Effect.{acts, effect_of};
 ghost use Rattle.llsc_base.specs.Images.{word_at};
 ghost use Rattle.a32_step.specs.Words.{AreWords};
-ghost use Rattle.a32_step.specs.Machine.{start_of, given, next_effect, wanted_of, after_next, after_instr, begins, moved_on, instr_at, between, IsReady, IsTested, IsAwaiting, IsCalling};
+ghost use Rattle.a32_step.specs.Machine.{start_of, given, next_effect, wanted_of, after_next, after_instr, begins, moved_on, instr_at, between, Follows, IsReady, IsTested, IsAwaiting, IsCalling};
 
 use crate::conditions::{condition, passes};
 use crate::phases::{Phase, Wanted};
@@ -92,7 +92,10 @@ impl Cpu {
     /// The reply to the access that is awaited.
     pub fn give(&mut self, reply: u64)
         requires { IsAwaiting self.old.phase }
-        ensures { self.new ≡ given self.old reply }
+        ensures state { self.new ≡ given self.old reply }
+        ensures ready { IsReady self.new.phase }
+        ensures one_more { length self.new.replies ≡ length self.old.replies + 1 }
+        ensures room { length self.new.replies ≤ 16 }
     {
         if let Phase::Awaiting(instr, _) = self.phase {
             self.replies.push(reply);
@@ -194,11 +197,12 @@ impl Cpu {
 
 impl Cpu {
     /// Goes on until something is wanted from outside.
-    #[tactic(auto, using(crate::proofs::Tested::act_tested, crate::proofs::Tested::begin_tested))]
+    #[tactic(auto, using(crate::proofs::Tested::act_tested, crate::proofs::Tested::begin_tested, crate::proofs::Follows::act_follows, crate::proofs::Follows::begin_follows))]
     pub fn next(&mut self, image: &Image) -> Wanted
         requires { IsReady self.old.phase }
         ensures wanted { result ≡ wanted_of (next_effect image.now self.old) }
         ensures state { self.new ≡ after_next image.now self.old }
+        ensures follows { Follows self.old result self.new }
         ensures tested { IsTested image.now self.old.replies result }
     {
         match self.phase() {
