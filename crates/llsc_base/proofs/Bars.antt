@@ -3,7 +3,6 @@ use Rattle.std.proofs.Common.{◌≡◌, ℕ, ◌+◌, ◌≤◌, Bool, true, fa
 use Rattle.llsc_base.specs.Memory.{is_aligned, size_bytes}
 use Rattle.llsc_base.specs.Images.{Program, bar_of, touches_read_only}
 use Rattle.llsc_base.specs.declared.access.Place.{Place}
-use Rattle.llsc_base.specs.declared.access.Bar.{Bar}
 use Rattle.llsc_base.specs.declared.access.Bar.TheVariants.{Alignment, Outside, ReadOnly}
 
 -- what holds of the three tests where none of them gives a bar
