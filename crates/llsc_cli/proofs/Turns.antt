@@ -1,5 +1,5 @@
 -- What one turn makes of a thread under way.
-use Rattle.std.proofs.Common.{◌≡◌, ℕ, ◌+◌, ◌<◌, List, [], ◌∷◌, ◌++◌, refl, sym, ◌∙◌, ap, subst, arith, sum_by, zero-add}
+use Rattle.std.proofs.Common.{◌≡◌, ℕ, ◌+◌, ◌<◌, List, [], ◌∷◌, ◌++◌, refl, sym, ◌∙◌, ap, subst, arith, sum_by, zero-add, Option, Some, None, IfNone, IfSome, MatchOption}
 use Rattle.std.proofs.lemmas.List.Sums.{sum_by-append}
 use Rattle.llsc_base.specs.Images.{Program}
 use Rattle.a32_instr.specs.declared.outside.Ask.{Ask}
@@ -69,7 +69,7 @@ after_access program budget start first old new machine ask way less wants moved
     record {
       pairs = way.pairs ++ (ask, reply_of old.memory.items ask) ∷ [];
       reached = subst (λ m. Reaches program budget start (way.pairs ++ (ask, reply_of old.memory.items ask) ∷ []) m new.steps) (sym here)
-        (subst (λ n. Reaches program budget start (way.pairs ++ (ask, reply_of old.memory.items ask) ∷ []) (given (after_next program old.cpu) (reply_of old.memory.items ask)) n) (sym steps)
+          (subst (λ n. Reaches program budget start (way.pairs ++ (ask, reply_of old.memory.items ask) ∷ []) (given (after_next program old.cpu) (reply_of old.memory.items ask)) n) (sym steps)
           (accesses way.pairs old.cpu old.steps ask (reply_of old.memory.items ask) way.reached less (effect_asks (next_effect program old.cpu) ask wants)));
       replies = replies_more first way.pairs ask (reply_of old.memory.items ask) way.replies (ap (λ bytes. reply_of bytes ask) way.memory);
       memory = memory ∙ ap (λ bytes. memory_after bytes ask) way.memory ∙ sym (memory_more first way.pairs ask (reply_of old.memory.items ask));
@@ -88,7 +88,7 @@ after_step program budget start first old new way less wants moved memory steps 
     record {
       pairs = way.pairs;
       reached = subst (λ m. Reaches program budget start way.pairs m new.steps) (sym moved)
-        (subst (λ n. Reaches program budget start way.pairs (after_next program old.cpu) n) (sym steps)
+          (subst (λ n. Reaches program budget start way.pairs (after_next program old.cpu) n) (sym steps)
           (steps_on way.pairs old.cpu old.steps done.0 way.reached less done.1));
       replies = way.replies;
       memory = memory ∙ way.memory;
@@ -108,7 +108,7 @@ after_answer program budget start first old new machine call value way less want
     record {
       pairs = way.pairs;
       reached = subst (λ m. Reaches program budget start way.pairs m new.steps) (sym here)
-        (subst (λ n. Reaches program budget start way.pairs (returned (after_next program old.cpu) value) n) (sym steps)
+          (subst (λ n. Reaches program budget start way.pairs (returned (after_next program old.cpu) value) n) (sym steps)
           (returns way.pairs old.cpu old.steps call value way.reached less (effect_calls (next_effect program old.cpu) call wants) known));
       replies = way.replies;
       memory = memory ∙ way.memory;
@@ -160,7 +160,7 @@ at_budget program budget start first old end way used is =
     subst E (sym is) (record {
       pairs = way.pairs;
       ends = subst (λ n. Ends program budget start way.pairs stop.Budget n) (sym used)
-        (spends way.pairs old.cpu (subst (λ n. Reaches program budget start way.pairs old.cpu n) used way.reached));
+          (spends way.pairs old.cpu (subst (λ n. Reaches program budget start way.pairs old.cpu n) used way.reached));
       replies = way.replies;
       reads = way.reads;
       writes = way.writes;
@@ -174,9 +174,47 @@ pub at_start : (program : Program) (budget : ℕ) (start : Machine) (first : Lis
 at_start program budget start first thread cpu memory steps reads writes = record {
   pairs = [];
   reached = subst (λ m. Reaches program budget start [] m thread.steps) (sym cpu)
-    (subst (λ n. Reaches program budget start [] start n) (sym steps) begins);
+      (subst (λ n. Reaches program budget start [] start n) (sym steps) begins);
   replies = tt;
   memory = memory;
   reads = reads;
   writes = writes;
 }
+
+-- a thread after its next effect, before the call that it makes
+pub record HasMoved (program : Program) (old mid : Thread) : Type 0 where
+  pub cpu : mid.cpu ≡ after_next program old.cpu
+  pub memory : mid.memory.items ≡ old.memory.items
+  pub steps : mid.steps ≡ old.steps
+  pub reads : mid.reads ≡ old.reads
+  pub writes : mid.writes ≡ old.writes
+
+called : (program : Program) (budget : ℕ) (start : Machine) (first : List ℕ) (old mid new : Thread) (call : CallAsk) (kind : CallEnd)
+    → IsUnderWay program budget start first old → old.steps < budget
+    → wanted.Call call ≡ wanted_of (next_effect program old.cpu) → HasMoved program old mid → call_end call ≡ kind
+    → GoesOn kind mid new → IsUnderWay program budget start first new
+called program budget start first old mid new call (exits code) way less wants moved known goes = absurd goes
+called program budget start first old mid new call (answers value) way less wants moved known goes =
+    after_answer program budget start first old new mid.cpu call value way less wants moved.cpu known goes.cpu
+    (goes.memory ∙ moved.memory) (goes.steps ∙ ap (λ n. n + 1) moved.steps) (goes.reads ∙ moved.reads) (goes.writes ∙ moved.writes)
+
+exited : (program : Program) (budget : ℕ) (start : Machine) (first : List ℕ) (old mid : Thread) (call : CallAsk) (kind : CallEnd) (end : ThreadEnd)
+    → IsUnderWay program budget start first old → old.steps < budget
+    → wanted.Call call ≡ wanted_of (next_effect program old.cpu) → HasMoved program old mid → call_end call ≡ kind
+    → Leaves kind mid end → IsEnd program budget start first end
+exited program budget start first old mid call (exits code) end way less wants moved known is =
+    let steps : mid.steps + 1 ≡ old.steps + 1 = ap (λ n. n + 1) moved.steps in
+    let same : end ≡ record { stop = stop.Exit code; steps = old.steps + 1; reads = old.reads; writes = old.writes; fails = 0 } = cc (is, steps, moved.reads, moved.writes) in
+    at_exit program budget start first old call code end way less wants known same
+exited program budget start first old mid call (answers value) end way less wants moved known is = absurd is
+
+-- a thread after a guest call
+pub after_call : (program : Program) (budget : ℕ) (start : Machine) (first : List ℕ) (old mid new : Thread) (call : CallAsk) (result : Option ThreadEnd)
+    → IsUnderWay program budget start first old → old.steps < budget
+    → wanted.Call call ≡ wanted_of (next_effect program old.cpu) → HasMoved program old mid
+    → IfNone result (GoesOn (call_end call) mid new) → IfSome result (λ end. Leaves (call_end call) mid end)
+    → MatchOption result (IsUnderWay program budget start first new) (λ end. IsEnd program budget start first end)
+after_call program budget start first old mid new call None way less wants moved goes left =
+    called program budget start first old mid new call (call_end call) way less wants moved refl goes
+after_call program budget start first old mid new call (Some end) way less wants moved goes left =
+    exited program budget start first old mid call (call_end call) end way less wants moved refl left

@@ -28,5 +28,5 @@ GoesOn (answers value) old new = IsAnswered value old new
 -- the call was the exit, which is one step
 abbrev pub Leaves : CallEnd → Thread → ThreadEnd → Type 0
 Leaves (exits code) old end =
-  end ≡ record { stop = stop.Exit code; steps = old.steps + 1; reads = old.reads; writes = old.writes; fails = 0 }
+    end ≡ record { stop = stop.Exit code; steps = old.steps + 1; reads = old.reads; writes = old.writes; fails = 0 }
 Leaves (answers value) old end = ⊥

@@ -31,36 +31,36 @@ returned machine answer = between (answered machine.state answer)
 pub data Reaches (program : Program) (budget : ℕ) (start : Machine) : List Pair → Machine → ℕ → Type 0 where
   begins : Reaches program budget start [] start 0
   accesses : (pairs : List Pair) (machine : Machine) (steps : ℕ) (ask : Ask) (reply : ℕ)
-    → Reaches program budget start pairs machine steps
-    → steps < budget
-    → next_effect program machine ≡ asks ask
-    → Reaches program budget start (pairs ++ (ask, reply) ∷ []) (given (after_next program machine) reply) steps
+      → Reaches program budget start pairs machine steps
+      → steps < budget
+      → next_effect program machine ≡ asks ask
+      → Reaches program budget start (pairs ++ (ask, reply) ∷ []) (given (after_next program machine) reply) steps
   steps_on : (pairs : List Pair) (machine : Machine) (steps : ℕ) (state : State)
-    → Reaches program budget start pairs machine steps
-    → steps < budget
-    → next_effect program machine ≡ completes state
-    → Reaches program budget start pairs (after_next program machine) (steps + 1)
+      → Reaches program budget start pairs machine steps
+      → steps < budget
+      → next_effect program machine ≡ completes state
+      → Reaches program budget start pairs (after_next program machine) (steps + 1)
   returns : (pairs : List Pair) (machine : Machine) (steps : ℕ) (call : CallAsk) (answer : ℕ)
-    → Reaches program budget start pairs machine steps
-    → steps < budget
-    → next_effect program machine ≡ calls call
-    → call_end call ≡ answers answer
-    → Reaches program budget start pairs (returned (after_next program machine) answer) (steps + 1)
+      → Reaches program budget start pairs machine steps
+      → steps < budget
+      → next_effect program machine ≡ calls call
+      → call_end call ≡ answers answer
+      → Reaches program budget start pairs (returned (after_next program machine) answer) (steps + 1)
 
 -- How a thread ends, with the accesses and replies that it had, and its steps: at a stop, which is no step; by the
 -- exit call, which is one; or where its steps are the budget, between two instructions.
 pub data Ends (program : Program) (budget : ℕ) (start : Machine) : List Pair → Stop → ℕ → Type 0 where
   halts : (pairs : List Pair) (machine : Machine) (steps : ℕ) (stop : Stop)
-    → Reaches program budget start pairs machine steps
-    → steps < budget
-    → next_effect program machine ≡ stops stop
-    → Ends program budget start pairs stop steps
+      → Reaches program budget start pairs machine steps
+      → steps < budget
+      → next_effect program machine ≡ stops stop
+      → Ends program budget start pairs stop steps
   leaves : (pairs : List Pair) (machine : Machine) (steps : ℕ) (call : CallAsk) (code : ℕ)
-    → Reaches program budget start pairs machine steps
-    → steps < budget
-    → next_effect program machine ≡ calls call
-    → call_end call ≡ exits code
-    → Ends program budget start pairs (Exit code) (steps + 1)
+      → Reaches program budget start pairs machine steps
+      → steps < budget
+      → next_effect program machine ≡ calls call
+      → call_end call ≡ exits code
+      → Ends program budget start pairs (Exit code) (steps + 1)
   spends : (pairs : List Pair) (machine : Machine)
-    → Reaches program budget start pairs machine budget
-    → Ends program budget start pairs Budget budget
+      → Reaches program budget start pairs machine budget
+      → Ends program budget start pairs Budget budget

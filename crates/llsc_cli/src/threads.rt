@@ -8,10 +8,9 @@ ghost use Rattle.llsc_cli.specs.Calls.{end_of, GoesOn, Leaves};
 ghost use Rattle.llsc_cli.specs.Solo.{reply_of, memory_after, loads_in, stores_in, IsUnderWay, IsEnd, IsSoloEnd};
 ghost use Rattle.llsc_cli.specs.Working.{IsWorking, progress_of};
 
-use std::alloc::{AllocError, Global};
-
 use a32_step::{Ask, CallAsk, Cpu, Stop, Wanted};
 use llsc_base::{Image, MachineSize, load, store};
+use std::alloc::{AllocError, Global};
 
 /// How a thread ended: its stop, its steps, and how many loads, stores and failed
 /// store-exclusives it made.
@@ -61,6 +60,7 @@ impl Thread {
         ensures reply { result ≡ reply_of self.old.memory.items ask }
         ensures cpu { self.new.cpu ≡ self.old.cpu }
         ensures memory { self.new.memory.items ≡ memory_after self.old.memory.items ask }
+        ensures same_length { length self.new.memory.items ≡ length self.old.memory.items }
         ensures steps { self.new.steps ≡ self.old.steps }
         ensures reads { self.new.reads ≡ self.old.reads + loads_in ask }
         ensures writes { self.new.writes ≡ self.old.writes + stores_in ask }
@@ -99,6 +99,7 @@ impl Thread {
         requires few { self.old.reads + self.old.writes < 2 ^ 63 }
         ensures cpu { self.new.cpu ≡ given self.old.cpu (reply_of self.old.memory.items ask) }
         ensures memory { self.new.memory.items ≡ memory_after self.old.memory.items ask }
+        ensures same_length { length self.new.memory.items ≡ length self.old.memory.items }
         ensures steps { self.new.steps ≡ self.old.steps }
         ensures reads { self.new.reads ≡ self.old.reads + loads_in ask }
         ensures writes { self.new.writes ≡ self.old.writes + stores_in ask }
@@ -158,4 +159,49 @@ impl Thread {
             Wanted::Stopped(stop) => Some(self.end(stop)),
         }
     }
+}
+
+impl Thread {
+    /// Goes on to the thread's end: a stop, the exit call, or `budget` steps.
+    #[tactic(auto, using(crate::proofs::Turns::at_budget))]
+    fn run(&mut self, image: &Image, budget: u64) -> ThreadEnd
+        requires working { IsWorking image.now self.old }
+        requires within { self.old.steps ≤ budget }
+        requires budget { budget < 2 ^ 41 }
+        ensures { (start : Machine) (first : List ℕ) →
+            IsUnderWay image.now budget start first self.old → IsEnd image.now budget start first result }
+    {
+        while self.steps < budget {
+            if let Some(end) = self.turn(image) {
+                return end;
+            }
+        }
+        self.end(Stop::Budget)
+    }
+}
+
+/// Runs an image's one thread on a memory of its own, which begins as the image's bytes.
+///
+/// The budget is at most 1,000,000,000,000 steps.
+#[tactic(auto, using(crate::proofs::Turns::at_start))]
+pub fn solo(
+    alloc: Global,
+    image: &Image,
+    size: &MachineSize,
+    budget: u64,
+) -> Result<ThreadEnd, AllocError>
+    requires one_thread { size.now.threads ≡ 1 }
+    requires whole { length image.now.bytes ≡ size.now.mem }
+    requires budget { budget ≤ 1000000000000 }
+    ensures { IfOk result (λ end. IsSoloEnd image.now size.now budget end) }
+{
+    let memory = Vec::from_slice(alloc, image.bytes())?;
+    let mut thread = Thread {
+        cpu: Cpu::start(image.entry(), 0, 1, size.room() + 4096),
+        memory,
+        steps: 0,
+        reads: 0,
+        writes: 0,
+    };
+    Ok(thread.run(image, budget))
 }
