@@ -6,3 +6,4 @@ pub mod Run
 pub mod Solo
 pub mod Working
 pub mod Calls
+pub mod Report

@@ -7,6 +7,7 @@ ghost use Rattle.llsc_cli.specs.Host.{Adds, Rose};
 mod host;
 mod memory_host;
 mod real_host;
+mod report;
 mod threads;
 mod words;
 
