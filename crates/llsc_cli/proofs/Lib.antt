@@ -1,0 +1,2 @@
+-- lemmas that the two loops of `RealHost` share
+pub mod Streams
