@@ -1,2 +1,3 @@
 pub mod Loops
+mod Streams
 pub mod Turns

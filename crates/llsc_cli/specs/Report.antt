@@ -9,11 +9,14 @@ use Rattle.llsc_cli.specs.declared.threads.ThreadEnd.{ThreadEnd}
 abbrev pub hex_digit : ℕ → ℕ
 hex_digit value = if nat_lt value 10 then 48 + value else 87 + value
 
--- an address as eight hexadecimal digits
+-- a byte as two of them
+abbrev pub byte_text : ℕ → List ℕ
+byte_text byte = hex_digit (byte / 16) ∷ hex_digit (byte % 16) ∷ []
+
+-- an address as eight of them
 unfoldable pub address_text : ℕ → List ℕ
 address_text addr =
-  hex_digit (addr / 2 ^ 28 % 16) ∷ hex_digit (addr / 2 ^ 24 % 16) ∷ hex_digit (addr / 2 ^ 20 % 16) ∷ hex_digit (addr / 2 ^ 16 % 16)
-  ∷ hex_digit (addr / 2 ^ 12 % 16) ∷ hex_digit (addr / 2 ^ 8 % 16) ∷ hex_digit (addr / 2 ^ 4 % 16) ∷ hex_digit (addr % 16) ∷ []
+  byte_text (addr / 2 ^ 24) ++ byte_text (addr / 2 ^ 16 % 256) ++ byte_text (addr / 2 ^ 8 % 256) ++ byte_text (addr % 256)
 
 -- a stop by its name and its number: a code, an address, or for the budget the budget itself
 abbrev pub stop_text : ℕ → Stop → List ℕ
