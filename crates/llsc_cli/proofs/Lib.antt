@@ -1,3 +1,5 @@
+pub mod Answering
+pub mod Fronts
 pub mod Loops
-mod Streams
+pub mod Streams
 pub mod Turns

@@ -1,5 +1,5 @@
 -- What holds between two turns of a thread.
-use Rattle.std.proofs.Common.{◌≡◌, ℕ, ◌≤◌, List}
+use Rattle.std.proofs.Common.{ℕ, ◌≤◌, List}
 use Rattle.llsc_base.specs.Images.{Program}
 use Rattle.a32_step.specs.Machine.{Machine}
 use Rattle.llsc_cli.specs.declared.threads.Thread.{Thread}

@@ -1,20 +1,19 @@
 -- What one turn makes of a thread under way.
-use Rattle.std.proofs.Common.{◌≡◌, ℕ, ◌+◌, ◌<◌, List, [], ◌∷◌, ◌++◌, refl, sym, ◌∙◌, ap, subst, arith, sum_by, zero-add, Option, Some, None, IfNone, IfSome, MatchOption}
+use Rattle.std.proofs.Common.{◌≡◌, ℕ, ◌+◌, ◌<◌, List, [], ◌∷◌, ◌++◌, refl, sym, ◌∙◌, ap, subst, zero-add, Option, Some, None, IfNone, IfSome, MatchOption}
 use Rattle.std.proofs.lemmas.List.Sums.{sum_by-append}
 use Rattle.llsc_base.specs.Images.{Program}
 use Rattle.a32_instr.specs.declared.outside.Ask.{Ask}
 use Rattle.a32_instr.specs.declared.outside.CallAsk.{CallAsk}
 use Rattle.a32_instr.specs.declared.outside.Stop.{Stop}
 use Rattle.a32_instr.specs.declared.outside.Stop.TheVariants as stop
-use Rattle.a32_instr.specs.State.{State, Effect, asks, calls, completes, stops, answered}
-use Rattle.a32_step.specs.declared.phases.Wanted.{Wanted}
+use Rattle.a32_instr.specs.State.{State, Effect, asks, calls, completes, stops}
 use Rattle.a32_step.specs.declared.phases.Wanted.TheVariants as wanted
-use Rattle.a32_step.specs.Machine.{Machine, next_effect, after_next, given, wanted_of, between}
+use Rattle.a32_step.specs.Machine.{Machine, next_effect, after_next, given, wanted_of}
 use Rattle.llsc_cli.specs.declared.threads.Thread.{Thread}
 use Rattle.llsc_cli.specs.declared.threads.ThreadEnd.{ThreadEnd}
 use Rattle.llsc_cli.specs.Run.{Pair, CallEnd, exits, answers, call_end, returned, Reaches, Ends, begins, accesses, steps_on, returns, halts, leaves, spends}
 use Rattle.llsc_cli.specs.Solo.{reply_of, memory_after, memory_after_all, AreReplies, loads_in, stores_in, loads_of, stores_of, IsUnderWay, IsEnd}
-use Rattle.llsc_cli.specs.Calls.{IsAnswered, GoesOn, Leaves}
+use Rattle.llsc_cli.specs.Calls.{GoesOn, Leaves}
 
 -- what is wanted names the effect
 effect_asks : (effect : Effect) (ask : Ask) → wanted.Access ask ≡ wanted_of effect → effect ≡ asks ask

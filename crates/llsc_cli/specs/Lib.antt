@@ -7,3 +7,6 @@ pub mod Solo
 pub mod Working
 pub mod Calls
 pub mod Report
+pub mod ReportText
+pub mod Answer
+pub mod Reads

@@ -1,11 +1,11 @@
 -- One guest thread alone, whose accesses are answered by a list of bytes.
-use Rattle.std.specs.Prelude.{◌≡◌, ℕ, ◌+◌, ◌*◌, ◌≤◌, ◌<◌, ◌^◌, List, [], ◌∷◌, length, sum_by}
+use Rattle.std.specs.Prelude.{◌≡◌, ℕ, ◌+◌, List, [], ◌∷◌, sum_by}
 use Rattle.llsc_base.specs.Memory.{value_at, stored}
 use Rattle.llsc_base.specs.Sizes.{Numbers, room_of}
 use Rattle.llsc_base.specs.Images.{Program}
 use Rattle.a32_instr.specs.declared.outside.Ask.{Ask}
 use Rattle.a32_instr.specs.declared.outside.Ask.TheVariants.{Load, Store}
-use Rattle.a32_step.specs.Machine.{Machine, start_of, IsReady}
+use Rattle.a32_step.specs.Machine.{Machine, start_of}
 use Rattle.llsc_cli.specs.Run.{Pair, Reaches, Ends}
 use Rattle.llsc_cli.specs.declared.threads.Thread.{Thread}
 use Rattle.llsc_cli.specs.declared.threads.ThreadEnd.{ThreadEnd}

@@ -1,6 +1,4 @@
-use Rattle.std.proofs.Common.{◌≡◌, ℕ, ◌+◌, ◌-◌, ◌*◌, ◌≤◌, List}
-use Rattle.a32_step.specs.Machine.{Machine}
-use Rattle.llsc_cli.specs.Solo.{IsUnderWay}
+use Rattle.std.proofs.Common.{◌+◌, ◌-◌, ◌*◌}
 use Rattle.llsc_cli.specs.Working.{progress_of}
 use Rattle.llsc_cli.proofs.Loops.{IsOnItsWay}
 use Rattle.llsc_cli.proofs.threads.Thread.run.Given as goal
