@@ -2,6 +2,7 @@ use Rattle.a32_instr.specs.Table.{table}
 use Rattle.a32_decode.proofs.Rows.{meaning_by}
 use Rattle.a32_decode.proofs.decoder.decode.Goals as goal
 
+-- The clause of each row, in the order of the table, and then the clause of none.
 pub returns : goal.returns
 returns c =
     let e = c.by_class.ensures in
