@@ -1,3 +1,6 @@
+ghost use Rattle.std.specs.Prelude.{◌≡◌};
+ghost use Rattle.a32_instr.specs.Table.{is_compare, is_move};
+
 use crate::conditions::Cond;
 use crate::registers::Reg;
 use thiserror::Error;
@@ -21,6 +24,22 @@ pub enum AluOp {
     Mov,
     Bic,
     Mvn,
+}
+
+impl AluOp {
+    /// Whether the operation only sets the flags.
+    pub fn is_compare(self) -> bool
+        ensures { result ≡ is_compare self }
+    {
+        matches!(self, AluOp::Tst | AluOp::Teq | AluOp::Cmp | AluOp::Cmn)
+    }
+
+    /// Whether the operation has one operand.
+    pub fn is_move(self) -> bool
+        ensures { result ≡ is_move self }
+    {
+        matches!(self, AluOp::Mov | AluOp::Mvn)
+    }
 }
 
 /// A kind of shift, in the order of its encodings (DDI 0406C A8.4.1).
