@@ -57,11 +57,14 @@ joined state hi lo = register state hi * 2 ^ 32 + register state lo
 abbrev pub with_halves : State → ℕ → ℕ → ℕ → State
 with_halves state hi lo value = with_register (with_register state lo (low32 value)) hi (value / 2 ^ 32)
 
--- a result of 64 bits, with the flags where the instruction sets them
-abbrev pub multiplied_long : Bool → ℕ → ℕ → ℕ → State → Effect
-multiplied_long sets hi lo value state =
-    completes (advanced (with_halves (with_flags sets (product_flags (nat_le (2 ^ 63) value) value state.flags) state) hi lo value))
+-- the state after a result of 64 bits, with the flags where the instruction sets them
+abbrev pub with_long : Bool → ℕ → ℕ → ℕ → State → State
+with_long sets hi lo value state =
+    with_halves (with_flags sets (product_flags (nat_le (2 ^ 63) value) value state.flags) state) hi lo value
+
+abbrev pub after_long : LongKind → Bool → ℕ → ℕ → ℕ → ℕ → State → State
+after_long kind sets lo hi rn rm state =
+    advanced (with_long sets hi lo (long_product kind (register state rn) (register state rm) (joined state hi lo)) state)
 
 abbrev pub multiplies_long : LongKind → Bool → ℕ → ℕ → ℕ → ℕ → State → Effect
-multiplies_long kind sets lo hi rn rm state =
-    multiplied_long sets hi lo (long_product kind (register state rn) (register state rm) (joined state hi lo)) state
+multiplies_long kind sets lo hi rn rm state = completes (after_long kind sets lo hi rn rm state)
