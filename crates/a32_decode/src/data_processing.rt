@@ -1,15 +1,15 @@
 //! Data-processing instructions and their neighbours (DDI 0406C A5.2).
 ghost use Rattle.std.specs.Prelude.{◌≡◌, ◌<◌, ◌==◌, ◌&&◌, ◌∷◌, []};
 ghost use Rattle.a32_instr.specs.Bits.{bits_of};
-ghost use Rattle.a32_instr.specs.Table.{alu_imm, alu_by_num, alu_by_reg, movw, movt, nop, yields, mul, mla, mls, long, clz, alu_fits, alu_op, alu_unpredictable, shift_kind};
+ghost use Rattle.a32_instr.specs.Table.{alu_imm, alu_by_num, alu_by_reg, movw, movt, nop, yields, mul, mla, mls, long, clz, load_ex, store_ex, alu_fits, alu_op, alu_unpredictable, shift_kind};
 ghost use Rattle.a32_decode.specs.Rows.{Fits, Means, NoneFits};
 
 use crate::bits::{bit, bits, condition, register};
-use crate::multiply;
 use crate::pc::{one_of_2_is_pc, one_of_4_is_pc};
+use crate::{multiply, synchronization};
 use a32_instr::{AluOp, DecodeFault, Instr, Operand2, Reg, ShiftKind};
 
-/// Data processing with registers, and multiplications: a word whose bits 27:25 are 000 (DDI 0406C A5.2).
+/// Data processing with registers, multiplications and exclusives: a word whose bits 27:25 are 000 (DDI 0406C A5.2).
 #[inline]
 pub fn with_registers(word: u32) -> Result<Instr, DecodeFault>
     requires group { bits_of word 25 3 ≡ 0 }
@@ -21,7 +21,9 @@ pub fn with_registers(word: u32) -> Result<Instr, DecodeFault>
     ensures mls { Fits mls word → Means mls word result }
     ensures long { Fits long word → Means long word result }
     ensures clz { Fits clz word → Means clz word result }
-    ensures none { NoneFits (alu_by_num ∷ alu_by_reg ∷ mul ∷ mla ∷ mls ∷ long ∷ clz ∷ []) word → result ≡ Err DecodeFault.Undefined }
+    ensures load_ex { Fits load_ex word → Means load_ex word result }
+    ensures store_ex { Fits store_ex word → Means store_ex word result }
+    ensures none { NoneFits (alu_by_num ∷ alu_by_reg ∷ mul ∷ mla ∷ mls ∷ long ∷ clz ∷ load_ex ∷ store_ex ∷ []) word → result ≡ Err DecodeFault.Undefined }
 {
     if !bit(word, 4) {
         return shifted_by_number(word);
@@ -29,8 +31,11 @@ pub fn with_registers(word: u32) -> Result<Instr, DecodeFault>
     if !bit(word, 7) {
         return shifted_by_register(word);
     }
-    if bits(word, 4, 4) != 9 || bit(word, 24) {
+    if bits(word, 4, 4) != 9 {
         return Err(DecodeFault::Undefined);
+    }
+    if bit(word, 24) {
+        return synchronization::exclusive(word);
     }
     multiply::multiplication(word)
 }

@@ -1,10 +1,10 @@
 ghost use Rattle.std.specs.Prelude.{◌≡◌, ◌<◌, ◌∷◌, []};
 ghost use Rattle.a32_instr.specs.Bits.{bits_of};
-ghost use Rattle.a32_instr.specs.Table.{alu_imm, alu_by_num, alu_by_reg, movw, movt, nop, yields, mul, mla, mls, long, clz, extend, rev, word_imm, branch, svc, meaning, table};
+ghost use Rattle.a32_instr.specs.Table.{alu_imm, alu_by_num, alu_by_reg, movw, movt, nop, yields, mul, mla, mls, long, clz, extend, rev, word_imm, branch, svc, load_ex, store_ex, clrex, meaning, table};
 ghost use Rattle.a32_decode.specs.Rows.{Fits, Means, NoneFits};
 
 use crate::bits::{bit, bits};
-use crate::{branch, data_processing, load_store, media};
+use crate::{branch, data_processing, load_store, media, synchronization};
 use a32_instr::{DecodeFault, Instr};
 
 /// The instruction that a word is, or why it is none: what the table of words says of it.
@@ -16,9 +16,10 @@ pub fn decode(word: u32) -> Result<Instr, DecodeFault>
 }
 
 // The encodings by bits 27:25 (DDI 0406C A5.1, table A5-1). A condition field of 15 is another space of
-// encodings, of which the table has none.
+// encodings.
 #[inline]
 fn by_class(word: u32) -> Result<Instr, DecodeFault>
+    ensures clrex { Fits clrex word → Means clrex word result }
     ensures alu_imm { Fits alu_imm word → Means alu_imm word result }
     ensures alu_by_num { Fits alu_by_num word → Means alu_by_num word result }
     ensures alu_by_reg { Fits alu_by_reg word → Means alu_by_reg word result }
@@ -36,10 +37,12 @@ fn by_class(word: u32) -> Result<Instr, DecodeFault>
     ensures word_imm { Fits word_imm word → Means word_imm word result }
     ensures branch { Fits branch word → Means branch word result }
     ensures svc { Fits svc word → Means svc word result }
+    ensures load_ex { Fits load_ex word → Means load_ex word result }
+    ensures store_ex { Fits store_ex word → Means store_ex word result }
     ensures none { NoneFits table word → result ≡ Err DecodeFault.Undefined }
 {
     if bits(word, 28, 4) == 15 {
-        return Err(DecodeFault::Undefined);
+        return synchronization::unconditional(word);
     }
     match bits(word, 25, 3) {
         0 => data_processing::with_registers(word),

@@ -14,6 +14,7 @@ mod load_store;
 mod media;
 mod multiply;
 mod pc;
+mod synchronization;
 
 pub use a32_instr::DecodeFault;
 pub use decoder::decode;

@@ -5,7 +5,7 @@ use Rattle.std.proofs.lemmas.Bool.{and_parts, or_cases, eqb-true, leb-true, ltb-
 use Rattle.std.proofs.lemmas.Nat.{field_of, mod-pow-add}
 use Rattle.std.proofs.lemmas.List.Elements.{All-cons, All-nil}
 use Rattle.std.proofs.lemmas.List.Kept.{AllPairs-cons}
-use Rattle.a32_instr.specs.Bits.{Run, bits_of, has_all, has_bits, runs_of, field}
+use Rattle.a32_instr.specs.Bits.{Run, bits_of, value_of, has_all, has_bits, runs_of, field}
 use Rattle.a32_instr.specs.declared.instructions.AluOp.{AluOp}
 use Rattle.a32_instr.specs.Table.{Row, fits, AreApart, condition_fits, c, is_compare, is_move, alu_op, alu_fits}
 
@@ -213,3 +213,67 @@ pairs_apart [] e = λ i j d less within. absurd (omega (arith, within))
 pairs_apart (row ∷ rows) e =
     let parts : IsTrue (list_all (rows_clash row) rows) × IsTrue (all_clash rows) = and_parts (list_all (rows_clash row) rows) (all_clash rows) e in
     pairs_more row rows (all_apart row rows parts.0) (pairs_apart rows parts.1)
+
+-- Rows with a condition field, and rows whose words have 1111 in its place.
+
+-- these runs are one field at the place of a condition
+abbrev pub is_condition : List Run → Bool
+is_condition [] = false
+is_condition (run ∷ []) = (run.low == 28) && (run.width == 4)
+is_condition (run ∷ next ∷ runs) = false
+
+abbrev pub is_conditional : Row → Bool
+is_conditional row = is_condition (runs_of c row.bits)
+
+condition_below : (word : ℕ) (runs : List Run) → IsTrue (is_condition runs) → IsTrue (condition_fits runs (λ letter. value_of word runs)) → bits_of word 28 4 < 15
+condition_below word [] e h = absurd (both_ways false refl e)
+condition_below word (run ∷ []) e h =
+    let parts : IsTrue (run.low == 28) × IsTrue (run.width == 4) = and_parts (run.low == 28) (run.width == 4) e in
+    let less : bits_of word run.low run.width < 15 = ltb-true (bits_of word run.low run.width) 15 h in
+    subst (λ (l : ℕ). bits_of word l 4 < 15) (eqb-true run.low 28 parts.0) (subst (λ (w : ℕ). bits_of word run.low w < 15) (eqb-true run.width 4 parts.1) less)
+condition_below word (run ∷ next ∷ runs) e h = absurd (both_ways false refl e)
+
+-- a condition that fits asks only for the value of its own field
+condition_alone : (runs : List Run) (f g : ℕ → ℕ) → f c ≡ g c → IsTrue (condition_fits runs f) → IsTrue (condition_fits runs g)
+condition_alone [] f g same h = h
+condition_alone (run ∷ runs) f g same h = subst (λ (v : ℕ). IsTrue (nat_lt v 15)) same h
+
+condition_is : (row : Row) (word : ℕ) → IsTrue (is_conditional row) → IsTrue (fits row word) → bits_of word 28 4 < 15
+condition_is row word e h =
+    let front : IsTrue (has_bits word row.bits && condition_fits (runs_of c row.bits) (field word row.bits)) =
+    (and_parts (has_bits word row.bits && condition_fits (runs_of c row.bits) (field word row.bits)) (row.further (field word row.bits)) h).0 in
+    let fit : IsTrue (condition_fits (runs_of c row.bits) (field word row.bits)) =
+    (and_parts (has_bits word row.bits) (condition_fits (runs_of c row.bits) (field word row.bits)) front).1 in
+    condition_below word (runs_of c row.bits) e (condition_alone (runs_of c row.bits) (field word row.bits) (λ letter. value_of word (runs_of c row.bits)) refl fit)
+
+-- every word of the row has 1111 in the place of a condition
+abbrev pub IsUnconditional : Row → Type 0
+IsUnconditional row = (word : ℕ) → IsTrue (fits row word) → bits_of word 28 4 ≡ 15
+
+-- a row with no condition against rows with one
+pub unconditional_apart : (row : Row) → IsUnconditional row → (rows : List Row) → IsTrue (list_all is_conditional rows) → All (AreApart row) rows
+unconditional_apart row always [] e = All-nil (AreApart row)
+unconditional_apart row always (other ∷ rows) e =
+    let parts : IsTrue (is_conditional other) × IsTrue (list_all is_conditional rows) = and_parts (is_conditional other) (list_all is_conditional rows) e in
+    All-cons (AreApart row) other rows
+    (λ word small h g.
+    let all : bits_of word 28 4 ≡ 15 = always word h in
+    let less : bits_of word 28 4 < 15 = condition_is other word parts.0 g in
+    omega arith)
+    (unconditional_apart row always rows parts.1)
+
+-- a row that fixes its highest four bits to 1
+pub fixed_unconditional : (row : Row) → IsTrue (fixes 28 1 (runs_of 0 row.bits) && (fixes 29 1 (runs_of 0 row.bits) && (fixes 30 1 (runs_of 0 row.bits) && fixes 31 1 (runs_of 0 row.bits)))) → IsUnconditional row
+fixed_unconditional row e word h =
+    let first : IsTrue (fixes 28 1 (runs_of 0 row.bits)) × IsTrue (fixes 29 1 (runs_of 0 row.bits) && (fixes 30 1 (runs_of 0 row.bits) && fixes 31 1 (runs_of 0 row.bits))) =
+    and_parts (fixes 28 1 (runs_of 0 row.bits)) (fixes 29 1 (runs_of 0 row.bits) && (fixes 30 1 (runs_of 0 row.bits) && fixes 31 1 (runs_of 0 row.bits))) e in
+    let second : IsTrue (fixes 29 1 (runs_of 0 row.bits)) × IsTrue (fixes 30 1 (runs_of 0 row.bits) && fixes 31 1 (runs_of 0 row.bits)) =
+    and_parts (fixes 29 1 (runs_of 0 row.bits)) (fixes 30 1 (runs_of 0 row.bits) && fixes 31 1 (runs_of 0 row.bits)) first.1 in
+    let third : IsTrue (fixes 30 1 (runs_of 0 row.bits)) × IsTrue (fixes 31 1 (runs_of 0 row.bits)) =
+    and_parts (fixes 30 1 (runs_of 0 row.bits)) (fixes 31 1 (runs_of 0 row.bits)) second.1 in
+    let all : IsTrue (has_bits word row.bits) = fixed_bits row word h in
+    let bit_28 : word / 2 ^ 28 % 2 ≡ 1 = fixes_is word 28 1 (runs_of 0 row.bits) all first.0 in
+    let bit_29 : word / 2 ^ 29 % 2 ≡ 1 = fixes_is word 29 1 (runs_of 0 row.bits) all second.0 in
+    let bit_30 : word / 2 ^ 30 % 2 ≡ 1 = fixes_is word 30 1 (runs_of 0 row.bits) all third.0 in
+    let bit_31 : word / 2 ^ 31 % 2 ≡ 1 = fixes_is word 31 1 (runs_of 0 row.bits) all third.1 in
+    omega arith

@@ -2,7 +2,7 @@
 use Rattle.std.specs.Prelude.{ℕ, if◌then◌else◌, List, [], ◌∷◌}
 use Rattle.llsc_base.specs.Images.{Program}
 use Rattle.a32_instr.specs.declared.instructions.Instr.{Instr}
-use Rattle.a32_instr.specs.declared.instructions.Instr.TheVariants.{Alu, Movw, Movt, Nop, Yield, Mul, Mla, Mls, Long, Clz, Extend, Rev, Word, Branch, Svc}
+use Rattle.a32_instr.specs.declared.instructions.Instr.TheVariants.{Alu, Movw, Movt, Nop, Yield, Mul, Mla, Mls, Long, Clz, Extend, Rev, Word, Branch, Svc, LoadEx, StoreEx, Clrex}
 use Rattle.a32_instr.specs.Condition.{passes}
 use Rattle.a32_instr.specs.State.{State, Effect, completes, advanced}
 use Rattle.a32_instr.specs.DataProcessing.{alu}
@@ -10,8 +10,9 @@ use Rattle.a32_instr.specs.Multiply.{multiplies, multiplies_and_adds, multiplies
 use Rattle.a32_instr.specs.Moves.{moves_wide, moves_top, counts_zeros, reverses, extends}
 use Rattle.a32_instr.specs.LoadStore.{word}
 use Rattle.a32_instr.specs.Branch.{branches, supervisor_call}
+use Rattle.a32_instr.specs.Exclusive.{load_exclusive, store_exclusive, clear_exclusive}
 
--- the condition of an instruction
+-- the condition of an instruction; one that has none is carried out always
 abbrev pub condition_of : Instr → ℕ
 condition_of (Alu cond op s rd rn operand) = cond
 condition_of (Movw cond rd imm) = cond
@@ -28,6 +29,9 @@ condition_of (Rev cond rd rm) = cond
 condition_of (Word cond load byte index rn rt offset) = cond
 condition_of (Branch cond link words) = cond
 condition_of (Svc cond imm) = cond
+condition_of (LoadEx cond size rn rt) = cond
+condition_of (StoreEx cond size rn rd rt) = cond
+condition_of Clrex = 14
 
 -- what an instruction does whose condition has passed
 abbrev pub acts : Instr → Program → List ℕ → State → Effect
@@ -46,6 +50,9 @@ acts (Rev cond rd rm) program replies state = reverses rd rm state
 acts (Word cond load byte index rn rt offset) program replies state = word program load byte rn rt offset replies state
 acts (Branch cond link words) program replies state = branches link words state
 acts (Svc cond imm) program replies state = supervisor_call imm state
+acts (LoadEx cond size rn rt) program replies state = load_exclusive size rn rt program replies state
+acts (StoreEx cond size rn rd rt) program replies state = store_exclusive size rn rd rt program replies state
+acts Clrex program replies state = clear_exclusive replies state
 
 -- An instruction whose condition fails is complete and does nothing (DDI 0406C A8.3.1). The condition is tested
 -- before the first access is asked for.

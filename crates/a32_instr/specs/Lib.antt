@@ -9,4 +9,5 @@ pub mod Multiply
 pub mod Moves
 pub mod LoadStore
 pub mod Branch
+pub mod Exclusive
 pub mod Effect

@@ -1,5 +1,5 @@
 -- The table of instruction words (DDI 0406C A5.1 to A5.7, and A8.8 for each instruction).
-use Rattle.std.specs.Prelude.{ℕ, ◌^◌, ◌<◌, ◌==◌, ◌&&◌, ◌||◌, not, nat_lt, if◌then◌else◌, Bool, true, false, IsTrue, List, [], ◌∷◌, codes, Result, Ok, Err, ℤ, pos, ◌-ℤ◌}
+use Rattle.std.specs.Prelude.{ℕ, ◌+◌, ◌%◌, ◌^◌, ◌<◌, ◌==◌, ◌&&◌, ◌||◌, not, nat_lt, if◌then◌else◌, Bool, true, false, IsTrue, List, [], ◌∷◌, codes, Result, Ok, Err, ℤ, pos, ◌-ℤ◌}
 use Rattle.a32_instr.specs.Bits.{Run, runs, runs_of, field, has_bits}
 use Rattle.a32_instr.specs.declared.instructions.AluOp.{AluOp}
 use Rattle.a32_instr.specs.declared.instructions.AluOp.TheVariants.{And, Eor, Sub, Rsb, Add, Adc, Sbc, Rsc, Tst, Teq, Cmp, Cmn, Orr, Mov, Bic, Mvn}
@@ -11,7 +11,9 @@ use Rattle.a32_instr.specs.declared.instructions.Operand2.TheVariants as operand
 use Rattle.a32_instr.specs.declared.instructions.Offset.TheVariants as offset
 use Rattle.a32_instr.specs.declared.instructions.Index.TheVariants.{Plain}
 use Rattle.a32_instr.specs.declared.instructions.Instr.{Instr}
-use Rattle.a32_instr.specs.declared.instructions.Instr.TheVariants.{Alu, Movw, Movt, Nop, Yield, Mul, Mla, Mls, Long, Clz, Extend, Rev, Word, Branch, Svc}
+use Rattle.a32_instr.specs.declared.instructions.Instr.TheVariants.{Alu, Movw, Movt, Nop, Yield, Mul, Mla, Mls, Long, Clz, Extend, Rev, Word, Branch, Svc, LoadEx, StoreEx, Clrex}
+use Rattle.llsc_base.specs.declared.access.Size.{Size}
+use Rattle.llsc_base.specs.declared.access.Size.TheVariants.{B1, B2, B4, B8}
 use Rattle.a32_instr.specs.declared.instructions.DecodeFault.{DecodeFault}
 use Rattle.a32_instr.specs.declared.instructions.DecodeFault.TheVariants.{Undefined, Unpredictable}
 
@@ -77,6 +79,9 @@ u = 117
 
 abbrev pub w : ℕ
 w = 119
+
+abbrev pub z : ℕ
+z = 122
 
 -- The fields of the rows.
 
@@ -173,6 +178,22 @@ one_of_3_is_pc x y z = (x == 15) || (y == 15) || (z == 15)
 
 unfoldable pub one_of_4_is_pc : ℕ → ℕ → ℕ → ℕ → Bool
 one_of_4_is_pc x y z w = (x == 15) || (y == 15) || (z == 15) || (w == 15)
+
+-- the sizes of exclusives by bits 22:21 (DDI 0406C A5.2.10)
+unfoldable pub exclusive_size : ℕ → Size
+exclusive_size size =
+    if size == 0 then B4 else
+    if size == 1 then B8 else
+    if size == 2 then B1 else
+    B2
+
+-- a doubleword stands in a register of even number and the next, and not in lr and the PC
+unfoldable pub no_pair : ℕ → ℕ → Bool
+no_pair size rt = (size == 1) && ((rt % 2 == 1) || (rt == 14))
+
+-- the status register is another than those of the address and the value
+unfoldable pub status_clashes : ℕ → ℕ → ℕ → ℕ → Bool
+status_clashes size rn rd rt = (rd == rn) || (rd == rt) || ((size == 1) && (rd == rt + 1))
 
 -- a number of 24 bits, read as signed
 unfoldable pub signed24 : ℕ → ℤ
@@ -333,10 +354,36 @@ svc = record {
   instr = λ f. Svc (f c) (f i);
 }
 
+-- load-exclusive and store-exclusive (DDI 0406C A5.2.10), of words alone
+abbrev pub load_ex : Row
+load_ex = record {
+  bits = runs (codes "cccc 0001 1zz1 nnnn tttt 1111 1001 1111");
+  further = λ f. f z == 0;
+  unpredictable = λ f. one_of_2_is_pc (f n) (f t) || no_pair (f z) (f t);
+  instr = λ f. LoadEx (f c) (exclusive_size (f z)) (f n) (f t);
+}
+
+abbrev pub store_ex : Row
+store_ex = record {
+  bits = runs (codes "cccc 0001 1zz0 nnnn dddd 1111 1001 tttt");
+  further = λ f. f z == 0;
+  unpredictable = λ f. one_of_3_is_pc (f n) (f d) (f t) || status_clashes (f z) (f n) (f d) (f t) || no_pair (f z) (f t);
+  instr = λ f. StoreEx (f c) (exclusive_size (f z)) (f n) (f d) (f t);
+}
+
+-- clear-exclusive (DDI 0406C A5.7.1)
+abbrev pub clrex : Row
+clrex = record {
+  bits = runs (codes "1111 0101 0111 1111 1111 0000 0001 1111");
+  further = always;
+  unpredictable = never;
+  instr = λ f. Clrex;
+}
+
 abbrev pub table : List Row
 table =
-    alu_imm ∷ alu_by_num ∷ alu_by_reg ∷ movw ∷ movt ∷ nop ∷ yields ∷ mul ∷ mla ∷ mls ∷ long ∷ clz ∷ extend ∷ rev
-    ∷ word_imm ∷ branch ∷ svc ∷ []
+    clrex ∷ alu_imm ∷ alu_by_num ∷ alu_by_reg ∷ movw ∷ movt ∷ nop ∷ yields ∷ mul ∷ mla ∷ mls ∷ long ∷ clz ∷ extend ∷ rev
+    ∷ word_imm ∷ branch ∷ svc ∷ load_ex ∷ store_ex ∷ []
 
 -- The meaning of a word.
 

@@ -3,6 +3,7 @@ ghost use Rattle.a32_instr.specs.Table.{is_compare, is_move};
 
 use crate::conditions::Cond;
 use crate::registers::Reg;
+use llsc_base::Size;
 use thiserror::Error;
 
 /// A data-processing operation, in the order of the opcodes (DDI 0406C A5.2.1, table A5-3).
@@ -208,6 +209,25 @@ pub enum Instr {
         cond: Cond,
         imm: u32,
     },
+    /// LDREX, LDREXB, LDREXH and LDREXD, which loads `rt` and the next register
+    /// (DDI 0406C A8.8.75 to A8.8.78).
+    LoadEx {
+        cond: Cond,
+        size: Size,
+        rn: Reg,
+        rt: Reg,
+    },
+    /// STREX, STREXB, STREXH and STREXD, which stores `rt` and the next register
+    /// (DDI 0406C A8.8.212 to A8.8.215).
+    StoreEx {
+        cond: Cond,
+        size: Size,
+        rn: Reg,
+        rd: Reg,
+        rt: Reg,
+    },
+    /// CLREX (DDI 0406C A8.8.32).
+    Clrex,
 }
 
 /// Why a word is no instruction.

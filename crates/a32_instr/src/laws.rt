@@ -7,6 +7,7 @@ ghost use Rattle.a32_instr.specs.Table.{table, meaning, AreApart};
 use crate::instructions::{
     AluOp, DecodeFault, Index, Instr, LongKind, Offset, Operand2, ShiftKind,
 };
+use llsc_base::Size;
 
 /// Each row of the table has 32 bits.
 pub fn rows_have_32_bits()
@@ -66,4 +67,14 @@ pub fn meanings_of_products_and_parts()
     ensures reverses { meaning table 0xE6BF0F31 ≡ Ok (Instr.Rev 14 0 1) }
     ensures extends { meaning table 0xE6EF0471 ≡ Ok (Instr.Extend 14 true false 0 1 1) }
     ensures one_destination { meaning table 0xE0811392 ≡ Err DecodeFault.Unpredictable }
+{}
+
+/// Worked words of exclusives: `ldrex r11, [r10]`, `strex r12, r11, [r10]` and `clrex`; and a `strex` whose status
+/// register is that of its value, which is unpredictable.
+#[tactic(auto, unfolding(crate::specs::Table::meaning, crate::specs::Table::alu_op, crate::specs::Table::alu_fits, crate::specs::Table::alu_unpredictable, crate::specs::Table::one_of_2_is_pc, crate::specs::Table::one_of_3_is_pc, crate::specs::Table::exclusive_size, crate::specs::Table::no_pair, crate::specs::Table::status_clashes))]
+pub fn meanings_of_exclusives()
+    ensures loads { meaning table 0xE19ABF9F ≡ Ok (Instr.LoadEx 14 Size.B4 10 11) }
+    ensures stores { meaning table 0xE18ACF9B ≡ Ok (Instr.StoreEx 14 Size.B4 10 12 11) }
+    ensures clears { meaning table 0xF57FF01F ≡ Ok Instr.Clrex }
+    ensures one_register { meaning table 0xE1810F90 ≡ Err DecodeFault.Unpredictable }
 {}

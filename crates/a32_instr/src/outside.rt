@@ -5,8 +5,15 @@ use llsc_base::Place;
 pub enum Ask {
     /// The value of a place. The reply is that value.
     Load(Place),
+    /// The value of a place, with a reservation of it. The reply is that value.
+    LoadEx(Place),
     /// A store of a value, which fits the place. The reply is 0.
     Store(Place, u64),
+    /// A store of a value, which fits the place, if the reservation stands. The reply is 0 where the value was
+    /// stored, and 1 where it was not.
+    StoreEx(Place, u64),
+    /// The end of a reservation. The reply is 0.
+    Clear,
 }
 
 /// A guest call: the immediate of the SVC, the call number in r7, and r0, r1 and r2.

@@ -5,10 +5,10 @@ use Rattle.llsc_base.specs.Images.{Program, bar_of}
 use Rattle.llsc_base.specs.declared.access.Bar.{Bar}
 use Rattle.llsc_base.specs.declared.access.Place.{Place}
 use Rattle.a32_instr.specs.declared.outside.Ask.{Ask}
-use Rattle.a32_instr.specs.declared.outside.Ask.TheVariants.{Load, Store}
+use Rattle.a32_instr.specs.declared.outside.Ask.TheVariants as ask
 use Rattle.a32_instr.specs.declared.outside.Stop.{Stop}
 use Rattle.a32_instr.specs.declared.instructions.Instr.{Instr}
-use Rattle.a32_instr.specs.declared.instructions.Instr.TheVariants.{Alu, Movw, Movt, Nop, Yield, Mul, Mla, Mls, Long, Clz, Extend, Rev, Word, Branch, Svc}
+use Rattle.a32_instr.specs.declared.instructions.Instr.TheVariants.{Alu, Movw, Movt, Nop, Yield, Mul, Mla, Mls, Long, Clz, Extend, Rev, Word, Branch, Svc, LoadEx, StoreEx, Clrex}
 use Rattle.a32_instr.specs.State.{State, Effect, completes, low32, register, advanced, writes}
 use Rattle.a32_instr.specs.declared.instructions.AluOp.{AluOp}
 use Rattle.a32_instr.specs.declared.arithmetic.Computed.{Computed}
@@ -20,10 +20,13 @@ use Rattle.a32_instr.specs.Shift.{top_bit, rotated_right}
 use Rattle.a32_instr.specs.Multiply.{multiplied, product_flags, less_product}
 use Rattle.a32_instr.specs.Moves.{with_top, reversed, extended, width_of}
 use Rattle.a32_instr.specs.LoadStore.{asks_unless, loads, stores, accesses, moved, access_size, part_of}
+use Rattle.a32_instr.specs.Exclusive.{next_register, place_at, stored_part, loads_exclusive, stores_exclusive}
+use Rattle.llsc_base.specs.declared.access.Size.{Size}
+use Rattle.llsc_base.specs.declared.access.Size.TheVariants.{B1, B2, B4, B8}
 use Rattle.a32_instr.specs.Effect.{acts, condition_of}
 use Rattle.a32_step.specs.declared.phases.Wanted.{Wanted}
 use Rattle.a32_step.specs.Words.{AreWords}
-use Rattle.a32_step.specs.Machine.{wanted_of, begins, ValueFits, IsTested, place_of, is_store}
+use Rattle.a32_step.specs.Machine.{wanted_of, begins, ValueFits, IsTested, PassesTests}
 
 -- of two effects that are tested, the chosen one is
 chosen : (program : Program) (replies : List ℕ) (b : Bool) (x y : Effect) → IsTested program replies (wanted_of x) → IsTested program replies (wanted_of y) → IsTested program replies (wanted_of (if b then x else y))
@@ -38,16 +41,16 @@ choose_below : (b : Bool) (x y : ℕ) → x < 2 ^ 32 → y < 2 ^ 32 → (if b th
 choose_below true x y p q = p
 choose_below false x y p q = q
 
-unless_tested : (program : Program) (ask : Ask) (found : Option Bar) (addr : ℕ) → ValueFits ask → bar_of program (place_of ask) (is_store ask) ≡ found → IsTested program [] (wanted_of (asks_unless found addr ask))
-unless_tested program ask None addr fit none = record { passes = none; fits = fit; room = omega arith }
-unless_tested program ask (Some bar) addr fit some = tt
+unless_tested : (program : Program) (ask : Ask) (found : Option Bar) (addr : ℕ) → ValueFits ask → (found ≡ None → PassesTests program ask) → IsTested program [] (wanted_of (asks_unless found addr ask))
+unless_tested program ask None addr fit passed = record { passes = passed refl; fits = fit; room = omega arith }
+unless_tested program ask (Some bar) addr fit passed = tt
 
 loads_tested : (program : Program) (place : Place) (rt : ℕ) (replies : List ℕ) (state : State) → IsTested program replies (wanted_of (loads program place rt replies state))
-loads_tested program place rt [] state = unless_tested program (Load place) (bar_of program place false) place.addr tt refl
+loads_tested program place rt [] state = unless_tested program (ask.Load place) (bar_of program place false) place.addr tt (λ none. none)
 loads_tested program place rt (value ∷ values) state = writes_tested program (value ∷ values) state rt (low32 value)
 
 stores_tested : (program : Program) (place : Place) (value : ℕ) (replies : List ℕ) (state : State) → value < 256 ^ size_bytes place.size → IsTested program replies (wanted_of (stores program place value replies state))
-stores_tested program place value [] state fit = unless_tested program (Store place value) (bar_of program place true) place.addr fit refl
+stores_tested program place value [] state fit = unless_tested program (ask.Store place value) (bar_of program place true) place.addr fit (λ none. none)
 stores_tested program place value (reply ∷ replies) state fit = tt
 
 -- what is stored of a register fits
@@ -63,6 +66,24 @@ word_tested program true byte addr rt replies state words = loads_tested program
 word_tested program false byte addr rt replies state words =
     stores_tested program (record { addr = addr; size = access_size byte }) (part_of byte (register state rt)) replies state
     (part_fits byte (register state rt) (register_fits state rt words))
+
+exclusive_load_tested : (size : Size) (program : Program) (place : Place) (rt : ℕ) (replies : List ℕ) (state : State) → IsTested program replies (wanted_of (loads_exclusive size program place rt replies state))
+exclusive_load_tested size program place rt [] state = unless_tested program (ask.LoadEx place) (bar_of program place false) place.addr tt (λ none. none)
+exclusive_load_tested size program place rt (value ∷ values) state = tt
+
+exclusive_store_tested : (program : Program) (place : Place) (value rd : ℕ) (replies : List ℕ) (state : State) → value < 256 ^ size_bytes place.size → IsTested program replies (wanted_of (stores_exclusive program place value rd replies state))
+exclusive_store_tested program place value rd [] state fit = unless_tested program (ask.StoreEx place value) (bar_of program place true) place.addr fit (λ none. none)
+exclusive_store_tested program place value rd (reply ∷ replies) state fit = tt
+
+-- what a store-exclusive stores fits its place
+stored_part_fits : (size : Size) (rt : ℕ) (state : State) → AreWords state.regs → stored_part size rt state < 256 ^ size_bytes size
+stored_part_fits B1 rt state words = omega arith
+stored_part_fits B2 rt state words = omega arith
+stored_part_fits B4 rt state words = register_fits state rt words
+stored_part_fits B8 rt state words =
+    let low : register state rt < 2 ^ 32 = register_fits state rt words in
+    let high : register state (next_register rt) < 2 ^ 32 = register_fits state (next_register rt) words in
+    omega arith
 
 alu_tested : (program : Program) (replies : List ℕ) (op : AluOp) (sets : Bool) (rd : ℕ) (result : Computed) (state : State) → IsTested program replies (wanted_of (alu_done op sets rd result state))
 alu_tested program replies op sets rd result state =
@@ -96,6 +117,11 @@ acts_tested (Word cond load byte index rn rt offset) program replies state words
     word_tested program load byte (moved (register state rn) offset) rt replies state words
 acts_tested (Branch cond link distance) program replies state words = tt
 acts_tested (Svc cond imm) program replies state words = tt
+acts_tested (LoadEx cond size rn rt) program replies state words = exclusive_load_tested size program (place_at size rn state) rt replies state
+acts_tested (StoreEx cond size rn rd rt) program replies state words =
+    exclusive_store_tested program (place_at size rn state) (stored_part size rt state) rd replies state (stored_part_fits size rt state words)
+acts_tested Clrex program [] state words = record { passes = tt; fits = tt; room = omega arith }
+acts_tested Clrex program (reply ∷ replies) state words = tt
 
 begins_tested : (program : Program) (state : State) (found : Result Instr Stop) → AreWords state.regs → IsTested program [] (wanted_of (begins program state found))
 begins_tested program state (Ok instr) words =

@@ -1,13 +1,12 @@
 -- A guest thread that may be in the middle of an instruction.
-use Rattle.std.specs.Prelude.{◌≡◌, ℕ, ◌^◌, ◌<◌, List, [], ◌∷◌, ◌++◌, Bool, true, false, Option, Some, None, Result, Ok, Err, length}
+use Rattle.std.specs.Prelude.{◌≡◌, ℕ, ◌^◌, ◌<◌, List, [], ◌∷◌, ◌++◌, true, false, Option, Some, None, Result, Ok, Err, length}
 use Rattle.llsc_base.specs.Memory.{size_bytes}
 use Rattle.llsc_base.specs.Images.{Program, word_at, bar_of}
-use Rattle.llsc_base.specs.declared.access.Place.{Place}
 use Rattle.a32_instr.specs.declared.instructions.Instr.{Instr}
 use Rattle.a32_instr.specs.declared.instructions.DecodeFault.{DecodeFault}
 use Rattle.a32_instr.specs.declared.instructions.DecodeFault.TheVariants as fault
 use Rattle.a32_instr.specs.declared.outside.Ask.{Ask}
-use Rattle.a32_instr.specs.declared.outside.Ask.TheVariants.{Load, Store}
+use Rattle.a32_instr.specs.declared.outside.Ask.TheVariants.{Load, LoadEx, Store, StoreEx, Clear}
 use Rattle.a32_instr.specs.declared.outside.Stop.{Stop}
 use Rattle.a32_instr.specs.declared.outside.Stop.TheVariants as stop
 use Rattle.a32_instr.specs.State.{State, Effect, asks, calls, completes, stops}
@@ -124,24 +123,26 @@ IsCalling (Awaiting instr ask) = ⊥
 IsCalling (Calling call) = Unit {0}
 IsCalling (Stopped stop) = ⊥
 
--- the place of an access, and whether it is a store
-abbrev pub place_of : Ask → Place
-place_of (Load place) = place
-place_of (Store place value) = place
-
-abbrev pub is_store : Ask → Bool
-is_store (Load place) = false
-is_store (Store place value) = true
+-- nothing bars an access
+abbrev pub PassesTests : Program → Ask → Type 0
+PassesTests program (Load place) = bar_of program place false ≡ None
+PassesTests program (LoadEx place) = bar_of program place false ≡ None
+PassesTests program (Store place value) = bar_of program place true ≡ None
+PassesTests program (StoreEx place value) = bar_of program place true ≡ None
+PassesTests program Clear = Unit {0}
 
 -- a value that is stored fits its place
 abbrev pub ValueFits : Ask → Type 0
 ValueFits (Load place) = Unit {0}
+ValueFits (LoadEx place) = Unit {0}
 ValueFits (Store place value) = value < 256 ^ size_bytes place.size
+ValueFits (StoreEx place value) = value < 256 ^ size_bytes place.size
+ValueFits Clear = Unit {0}
 
 -- an access that may be asked for: it has passed its tests, its value fits, and fewer than 16 accesses of its
 -- instruction came before it
 pub record IsAllowed (program : Program) (replies : List ℕ) (ask : Ask) : Type 0 where
-  pub passes : bar_of program (place_of ask) (is_store ask) ≡ None
+  pub passes : PassesTests program ask
   pub fits : ValueFits ask
   pub room : length replies < 16
 

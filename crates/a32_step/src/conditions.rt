@@ -49,5 +49,8 @@ pub fn condition(instr: &Instr) -> Cond
         Instr::Word { cond, .. } => *cond,
         Instr::Branch { cond, .. } => *cond,
         Instr::Svc { cond, .. } => *cond,
+        Instr::LoadEx { cond, .. } => *cond,
+        Instr::StoreEx { cond, .. } => *cond,
+        Instr::Clrex => Cond::new(14),
     }
 }

@@ -17,6 +17,7 @@ use std::marker::Model;
 
 mod branches;
 mod data_processing;
+mod exclusives;
 mod load_store;
 mod moves;
 mod multiply;
@@ -333,6 +334,15 @@ impl Cpu {
             }
             Instr::Branch { link, words, .. } => self.branch(link, words),
             Instr::Svc { imm, .. } => self.call(imm),
+            Instr::LoadEx { size, rn, rt, .. } => self.load_exclusive(instr, image, size, rn, rt),
+            Instr::StoreEx {
+                size,
+                rn,
+                rd,
+                rt,
+                ..
+            } => { self.store_exclusive(instr, image, size, rn, rd, rt) }
+            Instr::Clrex => self.clear_exclusive(instr),
         }
     }
 }

@@ -33,7 +33,14 @@ fn barred(bar: Bar, addr: u32) -> Stop
 
 impl Cpu {
     /// An access that is asked for where nothing bars it.
-    fn ask(&mut self, instr: Instr, image: &Image, place: Place, store: bool, ask: Ask) -> Wanted
+    pub(super) fn ask(
+        &mut self,
+        instr: Instr,
+        image: &Image,
+        place: Place,
+        store: bool,
+        ask: Ask,
+    ) -> Wanted
         requires { self.old.replies ≡ [] }
         ensures wanted { result ≡ wanted_of (asks_unless (bar_of image.now place store) place.addr ask) }
         ensures state { self.new ≡ moved_on instr self.old (asks_unless (bar_of image.now place store) place.addr ask) }

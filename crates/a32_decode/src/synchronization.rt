@@ -1,0 +1,129 @@
+//! Synchronization primitives (DDI 0406C A5.2.10).
+ghost use Rattle.std.specs.Prelude.{◌≡◌, ◌<◌, ◌∷◌, []};
+ghost use Rattle.a32_instr.specs.Bits.{bits_of};
+ghost use Rattle.a32_instr.specs.Table.{load_ex, store_ex, clrex, exclusive_size, no_pair, status_clashes};
+ghost use Rattle.a32_decode.specs.Rows.{Fits, Means, NoneFits};
+
+use crate::bits::{bit, bits, condition, register};
+use crate::pc::{one_of_2_is_pc, one_of_3_is_pc};
+use a32_instr::{DecodeFault, Instr, Reg};
+use llsc_base::Size;
+
+/// A load-exclusive or a store-exclusive: a word whose bits 27:24 are 0001 and 7:4 are 1001.
+#[inline]
+pub fn exclusive(word: u32) -> Result<Instr, DecodeFault>
+    requires group { bits_of word 24 4 ≡ 1 }
+    requires exclusive { bits_of word 4 4 ≡ 9 }
+    requires cond { bits_of word 28 4 < 15 }
+    ensures load_ex { Fits load_ex word → Means load_ex word result }
+    ensures store_ex { Fits store_ex word → Means store_ex word result }
+    ensures none { NoneFits (load_ex ∷ store_ex ∷ []) word → result ≡ Err DecodeFault.Undefined }
+{
+    if bits(word, 8, 4) != 15 || !bit(word, 23) || bits(word, 21, 2) != 0 {
+        return Err(DecodeFault::Undefined);
+    }
+    if bit(word, 20) {
+        return load(word);
+    }
+    store(word)
+}
+
+// LDREX and its kin (DDI 0406C A8.8.75 to A8.8.78).
+#[inline]
+fn load(word: u32) -> Result<Instr, DecodeFault>
+    requires group { bits_of word 23 5 ≡ 3 }
+    requires size { bits_of word 21 2 ≡ 0 }
+    requires load { bits_of word 20 1 ≡ 1 }
+    requires exclusive { bits_of word 4 8 ≡ 0xf9 }
+    requires cond { bits_of word 28 4 < 15 }
+    ensures load_ex { Fits load_ex word → Means load_ex word result }
+    ensures none { NoneFits (load_ex ∷ []) word → result ≡ Err DecodeFault.Undefined }
+{
+    if bits(word, 0, 4) != 15 {
+        return Err(DecodeFault::Undefined);
+    }
+    let size = bits(word, 21, 2);
+    let rn = register(word, 16);
+    let rt = register(word, 12);
+    if one_of_2_is_pc(rn, rt) || is_no_pair(size, rt) {
+        return Err(DecodeFault::Unpredictable);
+    }
+    Ok(Instr::LoadEx {
+        cond: condition(word),
+        size: size_of(size),
+        rn,
+        rt,
+    })
+}
+
+// STREX and its kin (DDI 0406C A8.8.212 to A8.8.215).
+#[inline]
+fn store(word: u32) -> Result<Instr, DecodeFault>
+    requires group { bits_of word 23 5 ≡ 3 }
+    requires size { bits_of word 21 2 ≡ 0 }
+    requires store { bits_of word 20 1 ≡ 0 }
+    requires exclusive { bits_of word 4 8 ≡ 0xf9 }
+    requires cond { bits_of word 28 4 < 15 }
+    ensures store_ex { Fits store_ex word → Means store_ex word result }
+    ensures none { NoneFits (store_ex ∷ []) word → result ≡ Err DecodeFault.Undefined }
+{
+    let size = bits(word, 21, 2);
+    let rn = register(word, 16);
+    let rd = register(word, 12);
+    let rt = register(word, 0);
+    if one_of_3_is_pc(rn, rd, rt) || clashes(size, rn, rd, rt) || is_no_pair(size, rt) {
+        return Err(DecodeFault::Unpredictable);
+    }
+    Ok(Instr::StoreEx {
+        cond: condition(word),
+        size: size_of(size),
+        rn,
+        rd,
+        rt,
+    })
+}
+
+/// A word that has 1111 in the place of a condition (DDI 0406C A5.7).
+#[inline]
+pub fn unconditional(word: u32) -> Result<Instr, DecodeFault>
+    requires { bits_of word 28 4 ≡ 15 }
+    ensures clrex { Fits clrex word → Means clrex word result }
+    ensures none { NoneFits (clrex ∷ []) word → result ≡ Err DecodeFault.Undefined }
+{
+    if word != 0xf57f_f01f {
+        return Err(DecodeFault::Undefined);
+    }
+    Ok(Instr::Clrex)
+}
+
+// The size that bits 22:21 name.
+#[inline(always)]
+#[tactic(auto, unfolding(a32_instr::specs::Table::exclusive_size))]
+fn size_of(size: u32) -> Size
+    ensures { result ≡ exclusive_size size }
+{
+    match size {
+        0 => Size::B4,
+        1 => Size::B8,
+        2 => Size::B1,
+        _ => Size::B2,
+    }
+}
+
+// Whether a doubleword doesn't stand in a register and the next.
+#[inline(always)]
+#[tactic(auto, unfolding(a32_instr::specs::Table::no_pair))]
+fn is_no_pair(size: u32, rt: Reg) -> bool
+    ensures { result ≡ no_pair size rt }
+{
+    size == 1 && (rt.num() % 2 == 1 || rt.num() == 14)
+}
+
+// Whether the status register is one of the others.
+#[inline(always)]
+#[tactic(auto, unfolding(a32_instr::specs::Table::status_clashes))]
+fn clashes(size: u32, rn: Reg, rd: Reg, rt: Reg) -> bool
+    ensures { result ≡ status_clashes size rn rd rt }
+{
+    rd == rn || rd == rt || (size == 1 && rd.num() == rt.num() + 1)
+}

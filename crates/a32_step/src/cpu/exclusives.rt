@@ -1,0 +1,103 @@
+//! Synchronization primitives (DDI 0406C A3.4, A5.2.10): exclusives ask, and memory decides.
+ghost use Rattle.std.specs.Prelude.{◌≡◌, []};
+ghost use Rattle.llsc_base.specs.Images.{bar_of};
+ghost use Rattle.a32_instr.specs.State.{advanced, with_register};
+ghost use Rattle.a32_instr.specs.Exclusive.{next_register, with_loaded, stored_part, loads_exclusive, stores_exclusive, load_exclusive, store_exclusive, clear_exclusive};
+ghost use Rattle.a32_step.specs.Machine.{wanted_of, moved_on};
+
+use super::Cpu;
+use crate::phases::{Phase, Wanted};
+use a32_instr::{Ask, Instr, Reg};
+use llsc_base::{Image, Place, Size};
+
+/// The register after this one, which holds the high word of a doubleword.
+fn next_register(rt: Reg) -> Reg
+    ensures { result ≡ next_register rt }
+{
+    Reg::new((rt.num() + 1) % 16)
+}
+
+impl Cpu {
+    /// A loaded value goes to its register, or to two.
+    fn set_loaded(&mut self, size: Size, rt: Reg, value: u64)
+        ensures { self.new ≡ record self.old { state = with_loaded size rt value self.old.state } }
+    {
+        self.set(rt, (value & 0xffff_ffff) as u32);
+        if size == Size::B8 {
+            self.set(next_register(rt), (value >> 32) as u32);
+        }
+    }
+
+    /// The value that a store-exclusive stores.
+    fn part_to_store(&self, size: Size, rt: Reg) -> u64
+        ensures { result ≡ stored_part size rt self.now.state }
+    {
+        let low = u64::from(self.operand(rt));
+        match size {
+            Size::B1 => low & 0xff,
+            Size::B2 => low & 0xffff,
+            Size::B4 => low,
+            Size::B8 => u64::from(self.operand(next_register(rt))) * 0x1_0000_0000 + low,
+        }
+    }
+
+    /// LDREX, LDREXB, LDREXH and LDREXD (DDI 0406C A8.8.75 to A8.8.78).
+    pub(super) fn load_exclusive(
+        &mut self,
+        instr: Instr,
+        image: &Image,
+        size: Size,
+        rn: Reg,
+        rt: Reg,
+    ) -> Wanted
+        ensures wanted { result ≡ wanted_of (load_exclusive size rn rt image.now self.old.replies self.old.state) }
+        ensures state { self.new ≡ moved_on instr self.old (load_exclusive size rn rt image.now self.old.replies self.old.state) }
+    {
+        if let Some(reply) = self.replies.first() {
+            self.set_loaded(size, rt, reply);
+            return self.advance();
+        }
+        let place = Place {
+            addr: self.operand(rn),
+            size,
+        };
+        self.ask(instr, image, place, false, Ask::LoadEx(place))
+    }
+
+    /// STREX, STREXB, STREXH and STREXD (DDI 0406C A8.8.212 to A8.8.215).
+    pub(super) fn store_exclusive(
+        &mut self,
+        instr: Instr,
+        image: &Image,
+        size: Size,
+        rn: Reg,
+        rd: Reg,
+        rt: Reg,
+    ) -> Wanted
+        ensures wanted { result ≡ wanted_of (store_exclusive size rn rd rt image.now self.old.replies self.old.state) }
+        ensures state { self.new ≡ moved_on instr self.old (store_exclusive size rn rd rt image.now self.old.replies self.old.state) }
+    {
+        if let Some(reply) = self.replies.first() {
+            self.set(rd, (reply & 0xffff_ffff) as u32);
+            return self.advance();
+        }
+        let place = Place {
+            addr: self.operand(rn),
+            size,
+        };
+        let value = self.part_to_store(size, rt);
+        self.ask(instr, image, place, true, Ask::StoreEx(place, value))
+    }
+
+    /// CLREX (DDI 0406C A8.8.32).
+    pub(super) fn clear_exclusive(&mut self, instr: Instr) -> Wanted
+        ensures wanted { result ≡ wanted_of (clear_exclusive self.old.replies self.old.state) }
+        ensures state { self.new ≡ moved_on instr self.old (clear_exclusive self.old.replies self.old.state) }
+    {
+        if self.replies.first().is_some() {
+            return self.advance();
+        }
+        self.phase = Phase::Awaiting(instr, Ask::Clear);
+        Wanted::Access(Ask::Clear)
+    }
+}
