@@ -9,3 +9,4 @@ pub mod Cause
 pub mod Legal
 pub mod Standing
 pub mod Follow
+pub mod Marked

@@ -42,7 +42,7 @@ pub record Standing : Type 0 where
 
 -- a function with one value changed
 abbrev pub updated : {A : Type 0} → (ℕ → A) → ℕ → A → ℕ → A
-updated f at value k = if k == at then value else f k
+updated f at value k = if at == k then value else f k
 
 -- a row, if there is one, lies in a class
 abbrev pub is_of_class : ℕ → ℕ → Option ℕ → Bool
@@ -62,8 +62,8 @@ joined classes s (Read thread place value ex) = record s {
 joined classes s (Write thread place value ex) = let class = class_of classes (row_of place) in record s {
   cells = updated s.cells (cell_of place) (cell_with (s.cells (cell_of place)) place value);
   stage = updated s.stage thread (written place);
-  mark = λ t. mark_after (s.mark t) ((t == thread) && ex) (row_of place);
-  reserved = if ex then updated s.reserved thread None else s.reserved;
+  mark = λ t. mark_after (s.mark t) ((thread == t) && ex) (row_of place);
+  reserved = λ t. if (thread == t) && ex then None else s.reserved t;
   writes = updated s.writes class (s.writes class + 1);
 }
 joined classes s (Fail thread place value cause) = record s {
@@ -90,7 +90,7 @@ joined classes s (Miss thread place) = record s {
 }
 joined classes s (Begin thread place) = let class = class_of classes (row_of place) in record s {
   stage = updated s.stage thread (begun place);
-  reserved = if is_of_class classes class (s.reserved thread) then updated s.reserved thread None else s.reserved;
+  reserved = λ t. if (thread == t) && is_of_class classes class (s.reserved t) then None else s.reserved t;
   passed = updated (λ t. s.passed t || is_of_class classes class (s.reserved t)) thread (s.passed thread);
   overtaken = updated (λ t. s.overtaken t || is_of_class classes class (s.reserved t)) thread (s.overtaken thread);
   stirred = λ t. s.stirred t || is_of_class classes class (s.reserved t);

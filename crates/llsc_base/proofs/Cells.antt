@@ -35,3 +35,9 @@ is_aligned-in_cell place h = in_cell place.addr place.size h
 pub class_of-lt : (classes row : ℕ) → 0 < classes → class_of classes row < classes
 unfolding class_of
 class_of-lt classes row h = omega arith
+
+-- a byte of an aligned place is of the place's row
+pub row_of-byte : (place : Place) (k : ℕ) → is_aligned place ≡ true → place.addr ≤ k → k < place.addr + size_bytes place.size
+    → row_of (record { addr = k; size = B1 }) ≡ row_of place
+unfolding row_of
+row_of-byte place k aligned from below = omega (arith, is_aligned-in_cell place aligned)
