@@ -5,3 +5,7 @@ pub mod Kept
 pub mod Prefixes
 pub mod Steps
 pub mod Flags
+pub mod CellLaws
+pub mod Stages
+pub mod Operations
+pub mod Legality
