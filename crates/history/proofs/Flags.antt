@@ -94,9 +94,9 @@ flag_step classes t bytes flag test goes row entries e before None other reserve
     let old = since_last (watch_of t) entries in
     let was : reservation_of classes t entries ≡ Some row = same_row classes t (reservation_of classes t entries) e row other (sym (reservation_of-push classes t entries e) ∙ reserved) in
     let since : since_watch t (entries ++ e ∷ []) ≡ since_watch t entries ++ e ∷ [] =
-        ap later_of (since_last-push (watch_of t) entries e)
-        ∙ ap (λ (k : Option Place). later_of (since_step old k e)) other
-        ∙ later_more old classes t row e was in
+    ap later_of (since_last-push (watch_of t) entries e)
+    ∙ ap (λ (k : Option Place). later_of (since_step old k e)) other
+    ∙ later_more old classes t row e was in
     let s = after classes bytes entries in
     rw (since, standing_after-push classes (standing_of bytes) entries e)
     (any-push (test row) (since_watch t entries) e
@@ -204,6 +204,6 @@ writes_of-standing classes row bytes history = by_ends (λ entries. (after class
         → (after classes bytes (entries ++ e ∷ [])).writes (class_of classes row) ≡ writes_of classes row (entries ++ e ∷ [])
     more entries e same =
         let one : writes_of classes row (entries ++ e ∷ []) ≡ writes_of classes row entries + cond (is_write classes row e) 1 0 =
-            sum_by-append (λ (x : Entry). cond (is_write classes row x) 1 0) entries (e ∷ []) ∙ omega arith in
+        sum_by-append (λ (x : Entry). cond (is_write classes row x) 1 0) entries (e ∷ []) ∙ omega arith in
         rw (standing_after-push classes (standing_of bytes) entries e, one)
         (writes_step classes row (after classes bytes entries) e (writes_of classes row entries) same)

@@ -120,14 +120,14 @@ flight_of-standing size bytes t history = by_ends (FlightIs size bytes t) (λ _.
         let was = before (MayFollow-front size (standing_of bytes) entries (e ∷ []) follows) in
         let may = MayFollow-last size (standing_of bytes) entries e follows in
         let new : (standing_after size.classes (standing_of bytes) (entries ++ e ∷ [])).stage t ≡ updated s.stage (thread_of e) (stage_after e) t =
-            ap (λ (x : Standing). x.stage t) (standing_after-push size.classes (standing_of bytes) entries e)
-            ∙ ap (λ (f : ℕ → Stage). f t) (joined-stage size.classes s e) in
+        ap (λ (x : Standing). x.stage t) (standing_after-push size.classes (standing_of bytes) entries e)
+        ∙ ap (λ (f : ℕ → Stage). f t) (joined-stage size.classes s e) in
         flight_of-push t entries e ∙ ap (λ (f : Option Place). flight_step t f e) was ∙ elim (cases_Bool (nat_eq (thread_of e) t)) [
           | inl own ↦
               let same : thread_of e ≡ t = eqb-true (thread_of e) t own in
               let at : s.stage t ≡ stage_before e = ap s.stage (sym same) ∙ MayJoin-stage size s e may in
               let after : updated s.stage (thread_of e) (stage_after e) t ≡ stage_after e =
-                  ap (updated s.stage (thread_of e) (stage_after e)) (sym same) ∙ updated-same s.stage (thread_of e) (stage_after e) in
+              ap (updated s.stage (thread_of e) (stage_after e)) (sym same) ∙ updated-same s.stage (thread_of e) (stage_after e) in
               ap (λ (x : Stage). flight_step t (flight_at x) e) at ∙ flight_own t e own ∙ ap flight_at (sym (new ∙ after))
           | inr other ↦
               let ne : t ≢ thread_of e = λ same. eqb-false (thread_of e) t other (sym same) in
@@ -144,18 +144,22 @@ fails_here size bytes past t place Lost may =
     let reserved = reservation_of-standing size.classes t bytes past ∙ may.0 in
     (reserved, passed-standing size.classes t (row_of place) bytes past reserved ∙ may.1)
 fails_here size bytes past t place Limit may =
-    let reserved = reservation_of-standing size.classes t bytes past ∙ may.0 in
-    (reserved, overtaken-standing size.classes t (row_of place) bytes past reserved ∙ may.1,
-        rw (writes_of-standing size.classes (row_of place) bytes past) at may.2)
+    let reserved = reservation_of-standing size.classes t bytes past ∙ may.0 in (
+      reserved,
+      overtaken-standing size.classes t (row_of place) bytes past reserved ∙ may.1,
+      rw (writes_of-standing size.classes (row_of place) bytes past) at may.2,
+    )
 
 fails_there : (size : Numbers) (bytes : List ℕ) (past : List Entry) (t : ℕ) (place : Place) (cause : Cause)
     → MayFail size past t place cause → MayFailAt size (standing_after size.classes (standing_of bytes) past) t (row_of place) cause
 fails_there size bytes past t place Absent may = λ reserved. may (reservation_of-standing size.classes t bytes past ∙ reserved)
 fails_there size bytes past t place Lost may =
     (sym (reservation_of-standing size.classes t bytes past) ∙ may.0, sym (passed-standing size.classes t (row_of place) bytes past may.0) ∙ may.1)
-fails_there size bytes past t place Limit may =
-    (sym (reservation_of-standing size.classes t bytes past) ∙ may.0, sym (overtaken-standing size.classes t (row_of place) bytes past may.0) ∙ may.1,
-        rw (writes_of-standing size.classes (row_of place) bytes past) may.2)
+fails_there size bytes past t place Limit may = (
+  sym (reservation_of-standing size.classes t bytes past) ∙ may.0,
+  sym (overtaken-standing size.classes t (row_of place) bytes past may.0) ∙ may.1,
+  rw (writes_of-standing size.classes (row_of place) bytes past) may.2,
+)
 
 -- an entry that may come has its cause
 cause_here : (size : Numbers) (bytes : List ℕ) (past : List Entry) (e : Entry) → MayFollow size (standing_of bytes) past
@@ -194,13 +198,16 @@ may_join size bytes past (Fail t place value c) m tie follows stage may cause =
     (stage, sound_there size m s t place value tie may, fails_there size bytes past t place c cause)
 may_join size bytes past (Clear t) m tie follows stage may cause = (stage, rw tie.threads at may)
 may_join size bytes past (Watch t place) m tie follows stage may cause = stage
-may_join size bytes past (Miss t place) m tie follows stage may cause = (stage, record {
-  other = cause.other;
-  another = cause.another;
-  target = cause.target;
-  flies = sym (flight_of-standing size bytes cause.other past follows) ∙ cause.flies;
-  near = cause.near;
-})
+may_join size bytes past (Miss t place) m tie follows stage may cause = (
+  stage,
+  record {
+    other = cause.other;
+    another = cause.another;
+    target = cause.target;
+    flies = sym (flight_of-standing size bytes cause.other past follows) ∙ cause.flies;
+    near = cause.near;
+  },
+)
 may_join size bytes past (Begin t place) m tie follows stage may cause = stage
 may_join size bytes past (End t place) m tie follows stage may cause = stage
 
@@ -255,13 +262,13 @@ MayFollow-IsLegal size bytes memory history = by_ends (Followed size bytes) (λ 
         let staged = AreStaged-AreOperations t (entries_of t (entries ++ e ∷ [])) (legal.operations t) in
         let P : List Entry → Type 0 = λ xs. AreStaged rests xs in
         let parts : entries_of t (entries ++ e ∷ []) ≡ entries_of t entries ++ e ∷ [] =
-            entries_of-append t entries (e ∷ []) ∙ ap (λ (xs : List Entry). entries_of t entries ++ xs) own in
+        entries_of-append t entries (e ∷ []) ∙ ap (λ (xs : List Entry). entries_of t entries ++ xs) own in
         let stage = last_stage-standing size.classes (standing_of bytes) t entries ∙ last_staged rests (entries_of t entries) e (subst P parts staged) in
         MayFollow-push size (standing_of bytes) entries e follows
         (may_join size bytes entries e (monitor_after start entries)
-            (ties size bytes entries memory (IsArmLegal-front start entries (e ∷ []) accesses)) follows stage
-            (IsArmLegal-last start entries e accesses)
-            (legal.causes entries e [] refl))
+        (ties size bytes entries memory (IsArmLegal-front start entries (e ∷ []) accesses)) follows stage
+        (IsArmLegal-last start entries e accesses)
+        (legal.causes entries e [] refl))
 
 -- ---- complete histories
 

@@ -9,3 +9,4 @@ pub mod CellLaws
 pub mod Stages
 pub mod Operations
 pub mod Legality
+pub mod SmallMemory

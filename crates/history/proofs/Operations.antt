@@ -57,15 +57,28 @@ record Split (t : ℕ) (stage : Stage) (es : List Entry) : Type 0 where
 split_none : (t : ℕ) (stage : Stage) → Split t stage []
 split_none t rests = record { tail = []; is_tail = refl; operations = []; missing = []; ends = refl; are = refl }
 split_none t (looked place) = record {
-  tail = Read t place 0 true ∷ []; is_tail = record { value = 0; is = refl }; operations = [];
-  missing = Read t place 0 true ∷ []; ends = record { value = 0; is = refl }; are = refl;
+  tail = Read t place 0 true ∷ [];
+  is_tail = record { value = 0; is = refl };
+  operations = [];
+  missing = Read t place 0 true ∷ [];
+  ends = record { value = 0; is = refl };
+  are = refl;
 }
 split_none t (begun place) = record {
-  tail = Write t place 0 false ∷ End t place ∷ []; is_tail = record { value = 0; ex = false; is = refl }; operations = [];
-  missing = Write t place 0 false ∷ End t place ∷ []; ends = record { value = 0; ex = false; is = refl }; are = refl;
+  tail = Write t place 0 false ∷ End t place ∷ [];
+  is_tail = record { value = 0; ex = false; is = refl };
+  operations = [];
+  missing = Write t place 0 false ∷ End t place ∷ [];
+  ends = record { value = 0; ex = false; is = refl };
+  are = refl;
 }
 split_none t (written place) = record {
-  tail = End t place ∷ []; is_tail = refl; operations = []; missing = End t place ∷ []; ends = refl; are = refl;
+  tail = End t place ∷ [];
+  is_tail = refl;
+  operations = [];
+  missing = End t place ∷ [];
+  ends = refl;
+  are = refl;
 }
 
 -- an entry that begins an operation, which goes on with the tail

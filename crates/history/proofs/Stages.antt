@@ -85,16 +85,16 @@ AreStaged-MayFollow size s t (e ∷ es) follows = elim (cases_Bool (nat_eq (thre
   | inl own ↦
       let same : thread_of e ≡ t = eqb-true (thread_of e) t own in
       let new : (joined size.classes s e).stage t ≡ stage_after e =
-          ap (λ (f : ℕ → Stage). f t) (joined-stage size.classes s e)
-          ∙ ap (updated s.stage (thread_of e) (stage_after e)) (sym same)
-          ∙ updated-same s.stage (thread_of e) (stage_after e) in
+      ap (λ (f : ℕ → Stage). f t) (joined-stage size.classes s e)
+      ∙ ap (updated s.stage (thread_of e) (stage_after e)) (sym same)
+      ∙ updated-same s.stage (thread_of e) (stage_after e) in
       let rest : AreStaged (stage_after e) (entries_of t es) = subst (λ (x : Stage). AreStaged x (entries_of t es)) new (AreStaged-MayFollow size (joined size.classes s e) t es follows.1) in
       let first : s.stage t ≡ stage_before e = ap s.stage (sym same) ∙ MayJoin-stage size s e follows.0 in
       subst (AreStaged (s.stage t)) (sym (entries_of-own t e es own)) (first, rest)
   | inr other ↦
       let ne : t ≢ thread_of e = λ same. eqb-false (thread_of e) t other (sym same) in
       let new : (joined size.classes s e).stage t ≡ s.stage t =
-          ap (λ (f : ℕ → Stage). f t) (joined-stage size.classes s e) ∙ updated-other s.stage (thread_of e) (stage_after e) t ne in
+      ap (λ (f : ℕ → Stage). f t) (joined-stage size.classes s e) ∙ updated-other s.stage (thread_of e) (stage_after e) t ne in
       let rest : AreStaged (s.stage t) (entries_of t es) = subst (λ (x : Stage). AreStaged x (entries_of t es)) new (AreStaged-MayFollow size (joined size.classes s e) t es follows.1) in
       subst (AreStaged (s.stage t)) (sym (entries_of-other t e es other)) rest
 ]
@@ -107,16 +107,16 @@ last_stage-standing classes s t (e ∷ es) = elim (cases_Bool (nat_eq (thread_of
   | inl own ↦
       let same : thread_of e ≡ t = eqb-true (thread_of e) t own in
       let new : (joined classes s e).stage t ≡ stage_after e =
-          ap (λ (f : ℕ → Stage). f t) (joined-stage classes s e)
-          ∙ ap (updated s.stage (thread_of e) (stage_after e)) (sym same)
-          ∙ updated-same s.stage (thread_of e) (stage_after e) in
+      ap (λ (f : ℕ → Stage). f t) (joined-stage classes s e)
+      ∙ ap (updated s.stage (thread_of e) (stage_after e)) (sym same)
+      ∙ updated-same s.stage (thread_of e) (stage_after e) in
       last_stage-standing classes (joined classes s e) t es
       ∙ ap (λ (x : Stage). last_stage x (entries_of t es)) new
       ∙ sym (ap (last_stage (s.stage t)) (entries_of-own t e es own))
   | inr other ↦
       let ne : t ≢ thread_of e = λ same. eqb-false (thread_of e) t other (sym same) in
       let new : (joined classes s e).stage t ≡ s.stage t =
-          ap (λ (f : ℕ → Stage). f t) (joined-stage classes s e) ∙ updated-other s.stage (thread_of e) (stage_after e) t ne in
+      ap (λ (f : ℕ → Stage). f t) (joined-stage classes s e) ∙ updated-other s.stage (thread_of e) (stage_after e) t ne in
       last_stage-standing classes (joined classes s e) t es
       ∙ ap (λ (x : Stage). last_stage x (entries_of t es)) new
       ∙ sym (ap (last_stage (s.stage t)) (entries_of-other t e es other))

@@ -59,9 +59,9 @@ flight_step t flight _ = flight
 -- an entry that ends a flight or doesn't
 still : (t : ℕ) (old : Option Since) (entry : Entry)
     → flight_since t (since_step old None entry) ≡ (if is_end_of t entry then None else flight_since t old)
-still t None entry = elim (is_end_of t entry) as (λ b. flight_since t None ≡ (if b then None else flight_since t None)) [ | true ↦ refl | false ↦ refl ]
+still t None entry = elim (is_end_of t entry) as (λ b. flight_since t None ≡ (if b then None else flight_since t None)) [ true ↦ refl | false ↦ refl ]
 still t (Some since) entry = rw (any-push (is_end_of t) since.later entry) (elim (list_any (is_end_of t) since.later) as (λ a. (if a || is_end_of t entry then None else Some since.place) ≡ (if is_end_of t entry then None else (if a then None else Some since.place))) [
-  | true ↦ elim (is_end_of t entry) as (λ b. flight_since t None ≡ (if b then None else flight_since t None)) [ | true ↦ refl | false ↦ refl ]
+  | true ↦ elim (is_end_of t entry) as (λ b. flight_since t None ≡ (if b then None else flight_since t None)) [ true ↦ refl | false ↦ refl ]
   | false ↦ refl
 ])
 

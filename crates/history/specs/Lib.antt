@@ -10,3 +10,4 @@ pub mod Legal
 pub mod Standing
 pub mod Follow
 pub mod Marked
+pub mod Worked

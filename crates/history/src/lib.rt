@@ -2,7 +2,9 @@
 #![tactic(auto)]
 
 mod entry;
+pub mod laws;
 mod plain;
+pub mod worked;
 
 pub use entry::{Access, Cause, Deed, Entry};
 pub use plain::PlainMemory;
