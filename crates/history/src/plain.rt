@@ -98,13 +98,12 @@ impl PlainMemory {
         ensures size { IsAsLarge self.old self.new }
     {
         let row = place.row();
-        if !is_marked_on(self.marks[t as usize], row) {
-            self.marks[t as usize] = None;
+        let mark = self.marks[t as usize].take();
+        if !is_marked_on(mark, row) {
             return false;
         }
         set(&mut self.cells, place, value);
         unmark(&mut self.marks, row);
-        self.marks[t as usize] = None;
         true
     }
 
