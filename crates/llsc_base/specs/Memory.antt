@@ -15,6 +15,18 @@ size_bytes B8 = 8
 abbrev pub is_aligned : Place → Bool
 is_aligned place = place.addr % size_bytes place.size == 0
 
+-- the cell of a place: the aligned eight bytes in which it lies, counted from address 0
+unfoldable pub cell_of : Place → ℕ
+cell_of place = place.addr / 8
+
+-- the row of a place: the granule of memory on which a monitor marks it (DDI 0406C A3.4.3), here as large as a cell
+unfoldable pub row_of : Place → ℕ
+row_of place = place.addr / 8
+
+-- the class of a row, where rows are dealt out to so many classes
+unfoldable pub class_of : ℕ → ℕ → ℕ
+class_of classes row = row % classes
+
 -- the number that bytes spell, the least significant first
 unfoldable pub number_of : List ℕ → ℕ
 number_of [] = 0

@@ -1,5 +1,5 @@
 ghost use Rattle.std.specs.Prelude.{◌≡◌, ◌==◌, ◌%◌};
-ghost use Rattle.llsc_base.specs.Memory.{size_bytes, is_aligned};
+ghost use Rattle.llsc_base.specs.Memory.{cell_of, is_aligned, row_of, size_bytes};
 
 /// How many bytes an access has.
 #[derive(Clone, Copy, Debug, PartialEq, Eq, Drop)]
@@ -44,6 +44,24 @@ impl Place {
             Size::B4 => self.addr % 4 == 0,
             Size::B8 => self.addr % 8 == 0,
         }
+    }
+
+    /// The number of its cell, the aligned eight bytes in which it lies.
+    #[inline]
+    #[tactic(auto, unfolding(crate::specs::Memory::cell_of))]
+    pub fn cell(self) -> u32
+        ensures { result ≡ cell_of self }
+    {
+        self.addr / 8
+    }
+
+    /// The number of its row, the granule on which a monitor marks it (DDI 0406C A3.4.3).
+    #[inline]
+    #[tactic(auto, unfolding(crate::specs::Memory::row_of))]
+    pub fn row(self) -> u32
+        ensures { result ≡ row_of self }
+    {
+        self.addr / 8
     }
 }
 

@@ -1,0 +1,72 @@
+-- The memory that accesses leave is how things stand of its cells.
+use Rattle.std.proofs.Common.{◌≡◌, ◌≢◌, ℕ, ◌+◌, ◌*◌, ◌^◌, ◌<◌, ◌≤◌, true, false, List, [], ◌∷◌, ◌++◌, Option, Some, None, length, slice_index, refl, sym, ap, subst, ◌∙◌, inl, inr, arith, replicate}
+use Rattle.std.proofs.lemmas.Bool.{cases_eq}
+use Rattle.std.proofs.lemmas.List.{length-replicate}
+use Rattle.llsc_base.specs.Memory.{cell_of, is_aligned, size_bytes, stored, value_at}
+use Rattle.llsc_base.specs.declared.access.Place.{Place}
+use Rattle.llsc_base.proofs.Stores.{stored-byte}
+use Rattle.row_bytes.specs.Cell.{cell_at, cell_with, value_in_cell}
+use Rattle.row_bytes.proofs.Memories.{cell_at-stored_same, cell_at-stored_other, cell_of-inside, value_at-cell_at}
+use Rattle.history.specs.Monitor.{IsAsLarge, Monitor, accessed, at_rest, monitor_after}
+use Rattle.history.specs.ArmLegal.{IsArmLegal, IsSound, MayAccess}
+use Rattle.history.specs.Standing.{Standing, joined, standing_after, standing_of, updated}
+use Rattle.history.specs.declared.entry.Entry.{Entry}
+use Rattle.history.specs.declared.entry.Entry.TheVariants.{Read, Write, Fail, Clear, Watch, Miss, Begin, End}
+use Rattle.history.proofs.Marks.{IsAsLarge-accessed, updated-same, updated-other}
+
+-- memory is of bytes, and its cells are how things stand
+pub record CellsAre (m : Monitor) (s : Standing) : Type 0 where
+  pub bytes : (k : ℕ) → slice_index m.memory k < 256
+  pub cells : (i : ℕ) → 8 * i + 8 ≤ length m.memory → s.cells i ≡ cell_at m.memory i
+
+stored_cells : (m : Monitor) (s : Standing) (place : Place) (value thread threads : ℕ) → IsSound threads (length m.memory) thread place value
+    → CellsAre m s → (i : ℕ) → 8 * i + 8 ≤ length m.memory
+    → updated s.cells (cell_of place) (cell_with (s.cells (cell_of place)) place value) i ≡ cell_at (stored m.memory place value) i
+stored_cells m s place value thread threads sound are i inside = elim (cases_eq i (cell_of place)) [
+  | inl same ↦
+      let within : 8 * cell_of place + 8 ≤ length m.memory = let P : ℕ → Type 0 = λ j. 8 * j + 8 ≤ length m.memory in subst P same inside in
+      rw same
+      (updated-same s.cells (cell_of place) (cell_with (s.cells (cell_of place)) place value)
+      ∙ ap (λ (c : ℕ). cell_with c place value) (are.cells (cell_of place) within)
+      ∙ sym (cell_at-stored_same m.memory place value sound.aligned within are.bytes))
+  | inr other ↦
+      updated-other s.cells (cell_of place) (cell_with (s.cells (cell_of place)) place value) i other
+      ∙ are.cells i inside
+      ∙ sym (cell_at-stored_other m.memory place value i sound.aligned sound.inside inside other)
+]
+
+-- one more entry
+pub CellsAre-step : (classes : ℕ) (m : Monitor) (s : Standing) (e : Entry) → MayAccess m e → CellsAre m s → CellsAre (accessed m e) (joined classes s e)
+CellsAre-step classes m s (Read thread place value ex) may are = record { bytes = are.bytes; cells = are.cells }
+CellsAre-step classes m s (Write thread place value ex) may are =
+    let kept = IsAsLarge-accessed m (Write thread place value ex) may in
+    record {
+      bytes = stored-byte m.memory place value may.0.inside are.bytes;
+      cells = λ i inside. stored_cells m s place value thread (length m.marks) may.0 are i (omega (arith, kept.bytes));
+    }
+CellsAre-step classes m s (Fail thread place value cause) may are = record { bytes = are.bytes; cells = are.cells }
+CellsAre-step classes m s (Clear thread) may are = record { bytes = are.bytes; cells = are.cells }
+CellsAre-step classes m s (Watch thread place) may are = record { bytes = are.bytes; cells = are.cells }
+CellsAre-step classes m s (Miss thread place) may are = record { bytes = are.bytes; cells = are.cells }
+CellsAre-step classes m s (Begin thread place) may are = record { bytes = are.bytes; cells = are.cells }
+CellsAre-step classes m s (End thread place) may are = record { bytes = are.bytes; cells = are.cells }
+
+CellsAre-after : (classes : ℕ) (m : Monitor) (s : Standing) (entries : List Entry) → IsArmLegal m entries → CellsAre m s
+    → CellsAre (monitor_after m entries) (standing_after classes s entries)
+CellsAre-after classes m s [] legal are = are
+CellsAre-after classes m s (e ∷ es) legal are = CellsAre-after classes (accessed m e) (joined classes s e) es legal.1 (CellsAre-step classes m s e legal.0 are)
+
+-- from the start on
+pub CellsAre-standing : (classes : ℕ) (bytes : List ℕ) (threads : ℕ) (history : List Entry) → ((k : ℕ) → slice_index bytes k < 256)
+    → IsArmLegal (at_rest bytes threads) history
+    → CellsAre (monitor_after (at_rest bytes threads) history) (standing_after classes (standing_of bytes) history)
+CellsAre-standing classes bytes threads history small legal =
+    CellsAre-after classes (at_rest bytes threads) (standing_of bytes) history legal (record { bytes = small; cells = λ i inside. refl })
+
+-- the value of a place is that of its cell
+pub value_at-CellsAre : (m : Monitor) (s : Standing) (place : Place) (count : ℕ) → CellsAre m s → length m.memory ≡ 8 * count
+    → is_aligned place ≡ true → place.addr + size_bytes place.size ≤ length m.memory
+    → value_at m.memory place ≡ value_in_cell (s.cells (cell_of place)) place
+value_at-CellsAre m s place count are whole aligned inside =
+    let within = cell_of-inside place count (length m.memory) whole inside in
+    value_at-cell_at m.memory place aligned within are.bytes ∙ ap (λ (c : ℕ). value_in_cell c place) (sym (are.cells (cell_of place) within))

@@ -1,0 +1,12 @@
+pub mod Ends
+pub mod Appends
+pub mod Marks
+pub mod Kept
+pub mod Prefixes
+pub mod Steps
+pub mod Flags
+pub mod CellLaws
+pub mod Stages
+pub mod Operations
+pub mod Legality
+pub mod SmallMemory

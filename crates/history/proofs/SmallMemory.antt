@@ -1,0 +1,24 @@
+-- Accesses of the worked histories, in a memory of 32 bytes and two threads.
+use Rattle.std.proofs.Common.{◌≡◌, ℕ, ◌<◌, false, true, Option, Some, None, refl, sym, ◌∙◌, arith, lit<, lit≤}
+use Rattle.history.specs.ArmLegal.{IsSound}
+use Rattle.history.specs.Worked.{beside, last_byte, next_row, word}
+
+pub sound_word : (t value : ℕ) → t < 2 → value < 10 → IsSound 2 32 t word value
+sound_word t value known small = record { known = known; aligned = refl; inside = lit≤ tt; fits = omega arith }
+
+pub sound_beside : (t : ℕ) → t < 2 → IsSound 2 32 t beside 1
+sound_beside t known = record { known = known; aligned = refl; inside = lit≤ tt; fits = lit< tt }
+
+pub sound_last_byte : (t : ℕ) → t < 2 → IsSound 2 32 t last_byte 1
+sound_last_byte t known = record { known = known; aligned = refl; inside = lit≤ tt; fits = lit< tt }
+
+pub sound_next_row : (t : ℕ) → t < 2 → IsSound 2 32 t next_row 1
+sound_next_row t known = record { known = known; aligned = refl; inside = lit≤ tt; fits = lit< tt }
+
+-- a plain write needs no mark
+pub plain : (mark : Option ℕ) (row : ℕ) → false ≡ true → mark ≡ Some row
+plain mark row h = absurd (let f : ⊥ = cc in f)
+
+-- what is marked nowhere isn't marked on a row
+pub nowhere : (row : ℕ) (mark : Option ℕ) → mark ≡ None → mark ≡ Some row → ⊥
+nowhere row mark none some = let h : None ≡ Some row = sym none ∙ some in cc

@@ -1,0 +1,8 @@
+use Rattle.std.proofs.Math.Facts.{Fits-lt-pow}
+use Rattle.history.proofs.Legality.{IsMemory, MayFollow-IsLegal, flight_of-standing}
+use Rattle.history.proofs.laws.flight_is_the_fold.Goals as goal
+
+pub returns : goal.returns
+returns c =
+    let memory : IsMemory c.args.size.now c.args.bytes.now = record { sized = c.requires.sized; whole = c.requires.whole; small = λ k. Fits-lt-pow (c.type_inv.bytes k) } in
+    flight_of-standing c.args.size.now c.args.bytes.now c.args.thread c.args.history.now (MayFollow-IsLegal c.args.size.now c.args.bytes.now memory c.args.history.now c.requires.legal)

@@ -1,0 +1,30 @@
+-- To end the thread's own mark and then all marks on the row is to end those and then its own.
+use Rattle.std.proofs.Common.{◌≡◌, ◌∙◌, None, arith, length, length-append, length-drop, length-set, length-take, map, refl, set, slice_set, sym}
+use Rattle.std.proofs.lemmas.List.{map-set, with_items_is}
+use Rattle.std.specs.Vec.{with_item, with_items}
+use Rattle.llsc_base.specs.Memory.{row_of, stored}
+use Rattle.row_bytes.specs.Cell.{bytes_of_cells}
+use Rattle.row_bytes.proofs.Memories.{length-bytes_of_cells}
+use Rattle.history.specs.Monitor.{unless_on}
+use Rattle.history.proofs.plain.PlainMemory.store_ex.Goals as goal
+
+pub returns-clause-stored : goal.returns-clause-stored
+returns-clause-stored c =
+    let row = row_of c.args.place in
+    let cells : (with_items c.self.inside.cells c.set.new.cells).items ≡ c.set.new.cells =
+    with_items_is c.self.inside.cells c.set.new.cells (c.set.auto.cells ∙ c.deref_mut.ensures.len) in
+    let marks : (with_items (with_item c.self.inside.marks c.args.t c.take-mark.new.self) c.unmark.new.marks).items ≡ c.unmark.new.marks =
+    with_items_is (with_item c.self.inside.marks c.args.t c.take-mark.new.self) c.unmark.new.marks (c.unmark.auto.marks ∙ c.deref_mut-2.ensures.len) in
+    let memory : bytes_of_cells c.set.new.cells ≡ stored (bytes_of_cells c.self.inside.cells.items) c.args.place c.args.value =
+    rw (← c.deref_mut.ensures.value) c.set.ensures in
+    let ended : c.unmark.new.marks ≡ slice_set (map (unless_on row) c.self.inside.marks.items) c.args.t None =
+    rw (c.unmark.ensures, c.deref_mut-2.ensures.value, c.take-mark.ensures.after, c.row-row.ensures)
+    (map-set (unless_on row) c.self.inside.marks.items c.args.t None) in
+    rw (← c.self.view_is, cells, marks, memory, ended) refl
+
+pub returns-clause-size : goal.returns-clause-size
+returns-clause-size c =
+    rw (← c.self.view_is) (record {
+      bytes = simp length-bytes_of_cells (simp (length-take, length-append, length-drop) (omega (arith, c.self.inside.cells.ok.0)));
+      threads = simp (length-set, length-take, length-append, length-drop) (omega (arith, c.self.inside.marks.ok.0));
+    })

@@ -1,0 +1,13 @@
+pub mod Entry
+pub mod Parts
+pub mod Monitor
+pub mod ArmLegal
+pub mod Operation
+pub mod Since
+pub mod Reservation
+pub mod Cause
+pub mod Legal
+pub mod Standing
+pub mod Follow
+pub mod Marked
+pub mod Worked

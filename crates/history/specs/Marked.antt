@@ -1,0 +1,33 @@
+-- What a monitor's mark says of memory: the row has not changed since the load-exclusive that set the mark (DDI 0406C A3.4).
+use Rattle.std.specs.Prelude.{◌≡◌, ℕ, ◌==◌, ◌&&◌, Bool, true, false, List, ◌∷◌, ◌++◌, slice_index}
+use Rattle.std.specs.List.{list_any}
+use Rattle.llsc_base.specs.Memory.{row_of}
+use Rattle.llsc_base.specs.declared.access.Place.{Place}
+use Rattle.llsc_base.specs.declared.access.Size.TheVariants.{B1}
+use Rattle.history.specs.Monitor.{Monitor, monitor_after}
+use Rattle.history.specs.declared.entry.Entry.{Entry}
+use Rattle.history.specs.declared.entry.Entry.TheVariants.{Read}
+
+-- the place of one byte
+abbrev pub byte_place : ℕ → Place
+byte_place addr = record { addr = addr; size = B1 }
+
+-- each byte of a row is in one memory what it is in another
+abbrev pub KeepsRow : ℕ → List ℕ → List ℕ → Type 0
+KeepsRow row old new = (k : ℕ) → row_of (byte_place k) ≡ row → slice_index new k ≡ slice_index old k
+
+-- a load-exclusive of a thread
+abbrev pub is_load_ex : ℕ → Entry → Bool
+is_load_ex thread (Read other place value ex) = (other == thread) && ex
+is_load_ex thread _ = false
+
+-- the last load-exclusive of a thread read this row, and no byte of the row has changed since
+pub record IsMarkedSince (start : Monitor) (accesses : List Entry) (thread row : ℕ) : Type 0 where
+  pub before : List Entry
+  pub place : Place
+  pub value : ℕ
+  pub later : List Entry
+  pub are : accesses ≡ before ++ (Read thread place value true ∷ later)
+  pub last : list_any (is_load_ex thread) later ≡ false
+  pub of_row : row_of place ≡ row
+  pub kept : KeepsRow row (monitor_after start before).memory (monitor_after start accesses).memory

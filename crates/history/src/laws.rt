@@ -1,0 +1,103 @@
+//! Laws of histories, each a function of no effect whose contract is the law.
+//!
+//! How things stand after a history (`standing_after`) is one record that grows entry by entry. The laws named
+//! `.._the_fold` say that each of its parts is what a definition of this crate says of the history.
+ghost use Rattle.std.specs.Prelude.{◌≡◌, ◌+◌, ◌*◌, ◌%◌, ◌<◌, ◌≤◌, ◌↔◌, ◌++◌, ◌∷◌, [], ℕ, IsTrue, length};
+ghost use Rattle.std.specs.List.{list_any};
+ghost use Rattle.llsc_base.specs.Memory.{cell_of, class_of, is_aligned, size_bytes, value_at};
+ghost use Rattle.row_bytes.specs.Cell.{cell_at, value_in_cell};
+ghost use Rattle.history.specs.Parts.{accesses_of};
+ghost use Rattle.history.specs.Monitor.{at_rest, marked_row, monitor_after};
+ghost use Rattle.history.specs.ArmLegal.{IsArmLegal};
+ghost use Rattle.history.specs.Marked.{IsMarkedSince};
+ghost use Rattle.history.specs.Reservation.{reservation_of};
+ghost use Rattle.history.specs.Cause.{flight_of, is_begin, is_begin_of_another, is_start_of_another, since_watch, writes_of};
+ghost use Rattle.history.specs.Legal.{IsComplete, IsLegal};
+ghost use Rattle.history.specs.Standing.{rests, standing_after, standing_of};
+ghost use Rattle.history.specs.Follow.{MayFollow, flight_at};
+
+use crate::entry::Entry;
+use llsc_base::{MachineSize, Place};
+
+/// Each beginning of a legal history is legal.
+pub fn prefixes_are_legal(size: &MachineSize, bytes: &[u8], front: &[Entry], back: &[Entry])
+    requires { IsLegal size.now bytes.now (front.now ++ back.now) }
+    ensures { IsLegal size.now bytes.now front.now }
+{}
+
+/// Where a thread is marked on a row after accesses that Arm allows, its last load-exclusive read that row, and no
+/// byte of the row has changed since.
+pub fn marks_keep_their_rows(bytes: &[u8], threads: u32, accesses: &[Entry], thread: u32, row: u32)
+    requires legal { IsArmLegal (at_rest bytes.now threads) accesses.now }
+    requires marked { marked_row (monitor_after (at_rest bytes.now threads) accesses.now) thread ≡ Some row }
+    ensures { IsMarkedSince (at_rest bytes.now threads) accesses.now thread row }
+{}
+
+/// The memory that a history leaves is the cells that stand after it.
+pub fn memory_is_the_fold(bytes: &[u8], threads: u32, classes: u32, history: &[Entry], place: Place)
+    requires whole { length bytes.now % 8 ≡ 0 }
+    requires legal { IsArmLegal (at_rest bytes.now threads) (accesses_of history.now) }
+    ensures cells { let memory = (monitor_after (at_rest bytes.now threads) (accesses_of history.now)).memory in
+        let cells = (standing_after classes (standing_of bytes.now) history.now).cells in
+        (i : ℕ) → 8 * i + 8 ≤ length bytes.now → cells i ≡ cell_at memory i }
+    ensures values { let memory = (monitor_after (at_rest bytes.now threads) (accesses_of history.now)).memory in
+        let cells = (standing_after classes (standing_of bytes.now) history.now).cells in
+        IsTrue (is_aligned place) → place.addr + size_bytes place.size ≤ length bytes.now
+        → value_at memory place ≡ value_in_cell (cells (cell_of place)) place }
+{}
+
+/// The row on which a thread is marked after a history is the mark that stands.
+pub fn mark_is_the_fold(bytes: &[u8], threads: u32, classes: u32, history: &[Entry], thread: u32)
+    requires { IsArmLegal (at_rest bytes.now threads) (accesses_of history.now) }
+    ensures { marked_row (monitor_after (at_rest bytes.now threads) (accesses_of history.now)) thread
+        ≡ (standing_after classes (standing_of bytes.now) history.now).mark thread }
+{}
+
+/// The reservation of a thread after a history is the one that stands.
+pub fn reservation_is_the_fold(bytes: &[u8], classes: u32, history: &[Entry], thread: u32)
+    ensures { reservation_of classes thread history.now
+        ≡ (standing_after classes (standing_of bytes.now) history.now).reserved thread }
+{}
+
+/// Where a thread holds a reservation on a row, what has passed in its class since is what stands; and so is how many
+/// Writes the class of a row has had.
+pub fn causes_are_the_fold(bytes: &[u8], classes: u32, history: &[Entry], thread: u32, row: u32)
+    requires { reservation_of classes thread history.now ≡ Some row }
+    ensures passed { list_any (is_start_of_another classes thread row) (since_watch thread history.now)
+        ≡ (standing_after classes (standing_of bytes.now) history.now).passed thread }
+    ensures overtaken { list_any (is_begin_of_another classes thread row) (since_watch thread history.now)
+        ≡ (standing_after classes (standing_of bytes.now) history.now).overtaken thread }
+    ensures stirred { list_any (is_begin classes row) (since_watch thread history.now)
+        ≡ (standing_after classes (standing_of bytes.now) history.now).stirred thread }
+{}
+
+/// How many Writes the class of a row has had is the number that stands.
+pub fn writes_are_the_fold(bytes: &[u8], classes: u32, history: &[Entry], row: u32)
+    ensures { writes_of classes row history.now
+        ≡ (standing_after classes (standing_of bytes.now) history.now).writes (class_of classes row) }
+{}
+
+/// The write of a thread that is in flight after a legal history is the one that stands.
+pub fn flight_is_the_fold(size: &MachineSize, bytes: &[u8], history: &[Entry], thread: u32)
+    requires sized { length bytes.now ≡ size.now.mem }
+    requires whole { size.now.mem % 8 ≡ 0 }
+    requires legal { IsLegal size.now bytes.now history.now }
+    ensures { flight_of thread history.now
+        ≡ flight_at ((standing_after size.now.classes (standing_of bytes.now) history.now).stage thread) }
+{}
+
+/// A history is legal exactly where each of its entries may come as things stand before it.
+pub fn legality_is_the_fold(size: &MachineSize, bytes: &[u8], history: &[Entry])
+    requires sized { length bytes.now ≡ size.now.mem }
+    requires whole { size.now.mem % 8 ≡ 0 }
+    ensures { IsLegal size.now bytes.now history.now ↔ MayFollow size.now (standing_of bytes.now) history.now }
+{}
+
+/// A legal history is complete exactly where no thread stands inside an operation after it.
+pub fn complete_histories_rest(size: &MachineSize, bytes: &[u8], history: &[Entry])
+    requires sized { length bytes.now ≡ size.now.mem }
+    requires whole { size.now.mem % 8 ≡ 0 }
+    requires legal { IsLegal size.now bytes.now history.now }
+    ensures { IsComplete history.now
+        ↔ ((t : ℕ) → (standing_after size.now.classes (standing_of bytes.now) history.now).stage t ≡ rests) }
+{}

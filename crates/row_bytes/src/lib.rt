@@ -1,0 +1,89 @@
+//! Bytes in a cell of memory.
+//!
+//! Memory is kept as cells: eight aligned bytes as one number, their first byte the least significant.
+//! [`take`] is the value of a place in its cell, and [`put`] is the cell with that value set. Both are
+//! defined on the cell's eight bytes, as loads and stores of bytes are (DDI 0406C A3.3, little-endian).
+#![tactic(auto)]
+
+pub mod laws;
+
+ghost use Rattle.std.specs.Prelude.{◌≡◌, ◌*◌, ◌/◌, ◌%◌, ◌-◌, ◌^◌, ◌<◌, IsTrue};
+ghost use Rattle.llsc_base.specs.Memory.{is_aligned, size_bytes};
+ghost use Rattle.row_bytes.specs.Cell.{cell_with, value_in_cell};
+
+use llsc_base::{Place, Size};
+
+/// The value of a place, its least significant byte first, from the cell in which it lies.
+#[inline]
+pub fn take(cell: u64, place: Place) -> u64
+    requires aligned { IsTrue (is_aligned place) }
+    ensures value { result ≡ value_in_cell cell place }
+    ensures fits { result < 256 ^ size_bytes place.size }
+{
+    (cell >> shift(place)) & mask(place.size)
+}
+
+/// The cell with the bytes of a place set to a value, its least significant byte first, and all others
+/// kept.
+#[inline]
+pub fn put(cell: u64, place: Place, value: u64) -> u64
+    requires aligned { IsTrue (is_aligned place) }
+    requires fits { value < 256 ^ size_bytes place.size }
+    ensures { result ≡ cell_with cell place value }
+{
+    let shift = shift(place);
+    // The place's bits go out and others come in: nothing is borrowed or carried past them.
+    cell - (take(cell, place) << shift) + (value << shift)
+}
+
+// How many bits of a cell lie below a place.
+#[inline]
+fn shift(place: Place) -> u32
+    ensures { result ≡ 8 * (place.addr % 8) }
+{
+    8 * (place.addr % 8)
+}
+
+// As many bits as a size has, all set.
+#[inline]
+fn mask(size: Size) -> u64
+    ensures { result ≡ 2 ^ (8 * size_bytes size) - 1 }
+{
+    match size {
+        Size::B1 => 0xff,
+        Size::B2 => 0xffff,
+        Size::B4 => 0xffff_ffff,
+        Size::B8 => u64::MAX,
+    }
+}
+
+#[cfg(test)]
+mod tests {
+    use super::*;
+
+    #[test]
+    fn bytes_of_a_cell(rt: HostRuntime) {
+        let cell = 0x8877_6655_4433_2211;
+        // A place, its value in the cell, a value, and the cell with it.
+        let cases = [
+            (0x2000, Size::B1, 0x11, 0xab, 0x8877_6655_4433_22ab),
+            (0x2007, Size::B1, 0x88, 0xab, 0xab77_6655_4433_2211),
+            (0x2002, Size::B2, 0x4433, 0xabcd, 0x8877_6655_abcd_2211),
+            (0x2006, Size::B2, 0x8877, 0xbeef, 0xbeef_6655_4433_2211),
+            (0x2004, Size::B4, 0x8877_6655, 0, 0x4433_2211),
+            (
+                0x2000,
+                Size::B4,
+                0x4433_2211,
+                0xffff_ffff,
+                0x8877_6655_ffff_ffff,
+            ),
+            (0x2008, Size::B8, 0x8877_6655_4433_2211, 1, 1),
+        ];
+        for (addr, size, was, value, set) in cases {
+            let place = Place { addr, size };
+            assert_eq!(rt; take(cell, place), was);
+            assert_eq!(rt; put(cell, place, value), set);
+        }
+    }
+}
