@@ -1,5 +1,6 @@
 pub mod Answering
 pub mod Fronts
 pub mod Loops
+pub mod Served
 pub mod Streams
 pub mod Turns

@@ -15,10 +15,11 @@ end_of (Value value) = answers value
 -- a thread between two instructions, one step on, with a call's answer in r0
 pub record IsAnswered (value : ℕ) (old new : Thread) : Type 0 where
   pub cpu : new.cpu ≡ returned old.cpu value
-  pub memory : new.memory.items ≡ old.memory.items
+  pub memory : new.memory ≡ old.memory
   pub steps : new.steps ≡ old.steps + 1
   pub reads : new.reads ≡ old.reads
   pub writes : new.writes ≡ old.writes
+  pub fails : new.fails ≡ old.fails
 
 -- the call was answered, and the thread goes on
 abbrev pub GoesOn : CallEnd → Thread → Thread → Type 0
@@ -28,5 +29,5 @@ GoesOn (answers value) old new = IsAnswered value old new
 -- the call was the exit, which is one step
 abbrev pub Leaves : CallEnd → Thread → ThreadEnd → Type 0
 Leaves (exits code) old end =
-    end ≡ record { stop = stop.Exit code; steps = old.steps + 1; reads = old.reads; writes = old.writes; fails = 0 }
+    end ≡ record { stop = stop.Exit code; steps = old.steps + 1; reads = old.reads; writes = old.writes; fails = old.fails }
 Leaves (answers value) old end = ⊥

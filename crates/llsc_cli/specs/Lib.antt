@@ -3,6 +3,7 @@ pub mod MemoryHost
 pub mod MemoryHostInside
 pub mod Request
 pub mod Run
+pub mod Serving
 pub mod Solo
 pub mod Working
 pub mod Calls

@@ -1,68 +1,89 @@
--- One guest thread alone, whose accesses are answered by a list of bytes.
-use Rattle.std.specs.Prelude.{◌≡◌, ℕ, ◌+◌, List, [], ◌∷◌, sum_by}
-use Rattle.llsc_base.specs.Memory.{value_at, stored}
+-- One guest thread alone, whose accesses make a history of Arm's memory and monitors.
+use Rattle.std.specs.Prelude.{◌≡◌, ℕ, ◌+◌, true, false, List, [], ◌∷◌, map, sum_by}
+use Rattle.llsc_base.specs.Memory.{row_of}
 use Rattle.llsc_base.specs.Sizes.{Numbers, room_of}
 use Rattle.llsc_base.specs.Images.{Program}
-use Rattle.a32_instr.specs.declared.outside.Ask.{Ask}
-use Rattle.a32_instr.specs.declared.outside.Ask.TheVariants.{Load, Store}
+use Rattle.history.specs.Monitor.{Monitor, accessed, at_rest, is_on, marked_row, monitor_after}
+use Rattle.history.specs.Parts.{accesses_of, entries_of}
+use Rattle.history.specs.ArmLegal.{IsArmLegal}
+use Rattle.history.specs.declared.entry.Entry.{Entry}
+use Rattle.history.specs.declared.entry.Entry.TheVariants as entry
+use Rattle.a32_instr.specs.declared.outside.Ask.TheVariants.{Load, LoadEx, Store, StoreEx, Clear}
 use Rattle.a32_step.specs.Machine.{Machine, start_of}
 use Rattle.llsc_cli.specs.Run.{Pair, Reaches, Ends}
 use Rattle.llsc_cli.specs.declared.threads.Thread.{Thread}
 use Rattle.llsc_cli.specs.declared.threads.ThreadEnd.{ThreadEnd}
 
--- the reply of memory to an access: the value of a load's place, and 0 to a store
-abbrev pub reply_of : List ℕ → Ask → ℕ
-reply_of memory (Load place) = value_at memory place
-reply_of memory (Store place value) = 0
+-- The accesses of a history as what a thread asked and what was replied: a load has its value, a store 0, and a
+-- store-exclusive 0 where it stored and 1 where it failed. (A mark of the history is no access.)
+abbrev pub pair_of : Entry → Pair
+pair_of (entry.Read thread place value false) = (Load place, value)
+pair_of (entry.Read thread place value true) = (LoadEx place, value)
+pair_of (entry.Write thread place value false) = (Store place value, 0)
+pair_of (entry.Write thread place value true) = (StoreEx place value, 0)
+pair_of (entry.Fail thread place value cause) = (StoreEx place value, 1)
+pair_of _ = (Clear, 0)
 
--- memory after an access
-abbrev pub memory_after : List ℕ → Ask → List ℕ
-memory_after memory (Load place) = memory
-memory_after memory (Store place value) = stored memory place value
+-- what a thread asked in a history, with the replies, in order
+abbrev pub pairs_of : ℕ → List Entry → List Pair
+pairs_of thread history = map pair_of (accesses_of (entries_of thread history))
 
--- memory after accesses in order
-abbrev pub memory_after_all : List ℕ → List Pair → List ℕ
-memory_after_all memory [] = memory
-memory_after_all memory (pair ∷ pairs) = memory_after_all (memory_after memory pair.0) pairs
+-- one for a load or a load-exclusive, one for a store or a store-exclusive that stored, one for one that failed
+abbrev pub reads_in : Entry → ℕ
+reads_in (entry.Read thread place value ex) = 1
+reads_in _ = 0
 
--- each access is replied to by memory as the ones before it left it
-abbrev pub AreReplies : List ℕ → List Pair → Type 0
-AreReplies memory [] = Unit {0}
-AreReplies memory (pair ∷ pairs) = (pair.1 ≡ reply_of memory pair.0) × AreReplies (memory_after memory pair.0) pairs
+abbrev pub writes_in : Entry → ℕ
+writes_in (entry.Write thread place value ex) = 1
+writes_in _ = 0
 
--- one for a load, one for a store
-abbrev pub loads_in : Ask → ℕ
-loads_in (Load place) = 1
-loads_in (Store place value) = 0
+abbrev pub fails_in : Entry → ℕ
+fails_in (entry.Fail thread place value cause) = 1
+fails_in _ = 0
 
-abbrev pub stores_in : Ask → ℕ
-stores_in (Load place) = 0
-stores_in (Store place value) = 1
+-- how many of each a history has
+abbrev pub reads_of : List Entry → ℕ
+reads_of history = sum_by reads_in history
 
--- how many of the accesses are loads, and how many are stores
-abbrev pub loads_of : List Pair → ℕ
-loads_of pairs = sum_by (λ pair. loads_in pair.0) pairs
+abbrev pub writes_of : List Entry → ℕ
+writes_of history = sum_by writes_in history
 
-abbrev pub stores_of : List Pair → ℕ
-stores_of pairs = sum_by (λ pair. stores_in pair.0) pairs
+abbrev pub fails_of : List Entry → ℕ
+fails_of history = sum_by fails_in history
 
--- a thread under way: how it came here, and its counts
+-- a store-exclusive fails only where its thread isn't marked on the row
+abbrev pub FailsUnmarked : Monitor → Entry → Type 0
+FailsUnmarked monitor (entry.Fail thread place value cause) = is_on (row_of place) (marked_row monitor thread) ≡ false
+FailsUnmarked monitor _ = Unit {0}
+
+abbrev pub AllFailUnmarked : Monitor → List Entry → Type 0
+AllFailUnmarked monitor [] = Unit {0}
+AllFailUnmarked monitor (entry ∷ entries) = FailsUnmarked monitor entry × AllFailUnmarked (accessed monitor entry) entries
+
+-- A history of a thread alone: Arm allows its accesses, all of them the thread's, and each store-exclusive succeeds
+-- just where its thread is marked on its row.
+pub record IsAlone (bytes : List ℕ) (history : List Entry) : Type 0 where
+  pub legal : IsArmLegal (at_rest bytes 1) history
+  pub decided : AllFailUnmarked (at_rest bytes 1) history
+
+-- a thread under way: the history that brought it here, its memory and its counts
 pub record IsUnderWay (program : Program) (budget : ℕ) (start : Machine) (first : List ℕ) (thread : Thread) : Type 0 where
-  pub pairs : List Pair
-  pub reached : Reaches program budget start pairs thread.cpu thread.steps
-  pub replies : AreReplies first pairs
-  pub memory : thread.memory.items ≡ memory_after_all first pairs
-  pub reads : thread.reads ≡ loads_of pairs
-  pub writes : thread.writes ≡ stores_of pairs
+  pub history : List Entry
+  pub reached : Reaches program budget start (pairs_of 0 history) thread.cpu thread.steps
+  pub alone : IsAlone first history
+  pub memory : thread.memory ≡ monitor_after (at_rest first 1) history
+  pub reads : thread.reads ≡ reads_of history
+  pub writes : thread.writes ≡ writes_of history
+  pub fails : thread.fails ≡ fails_of history
 
 -- an end of a thread and its counts, where memory began as these bytes
 pub record IsEnd (program : Program) (budget : ℕ) (start : Machine) (first : List ℕ) (end : ThreadEnd) : Type 0 where
-  pub pairs : List Pair
-  pub ends : Ends program budget start pairs end.stop end.steps
-  pub replies : AreReplies first pairs
-  pub reads : end.reads ≡ loads_of pairs
-  pub writes : end.writes ≡ stores_of pairs
-  pub fails : end.fails ≡ 0
+  pub history : List Entry
+  pub ends : Ends program budget start (pairs_of 0 history) end.stop end.steps
+  pub alone : IsAlone first history
+  pub reads : end.reads ≡ reads_of history
+  pub writes : end.writes ≡ writes_of history
+  pub fails : end.fails ≡ fails_of history
 
 -- the machine of thread 0 of 1 at the start, its stack up to the end of memory
 abbrev pub solo_start : Program → Numbers → Machine

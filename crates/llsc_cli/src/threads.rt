@@ -1,15 +1,19 @@
 //! One guest thread on a memory of its own.
-ghost use Rattle.std.specs.Prelude.{◌≡◌, ◌<◌, ◌≤◌, ◌+◌, ◌*◌, ◌^◌, ℕ, List, length, IfSome, IfNone, IfOk, MatchOption};
-ghost use Rattle.llsc_base.specs.Memory.{size_bytes};
+ghost use Rattle.std.specs.Prelude.{◌≡◌, IsTrue, ◌<◌, ◌≤◌, ◌+◌, ◌*◌, ◌^◌, ℕ, List, length, IfSome, IfNone, IfOk, MatchOption};
+ghost use Rattle.llsc_base.specs.Memory.{is_aligned, size_bytes};
 ghost use Rattle.llsc_base.specs.Sizes.{Numbers};
-ghost use Rattle.a32_step.specs.Machine.{Machine, IsAllowed, IsAwaiting, IsCalling, IsReady, ValueFits, given, place_of};
+ghost use Rattle.a32_step.specs.Machine.{Machine, IsAllowed, IsAwaiting, IsCalling, IsReady, ValueFits, given};
 ghost use Rattle.llsc_cli.specs.Run.{call_end};
 ghost use Rattle.llsc_cli.specs.Calls.{end_of, GoesOn, Leaves};
-ghost use Rattle.llsc_cli.specs.Solo.{reply_of, memory_after, loads_in, stores_in, IsUnderWay, IsEnd, IsSoloEnd};
+ghost use Rattle.history.specs.ArmLegal.{MayAccess};
+ghost use Rattle.history.specs.Monitor.{accessed, IsAsLarge};
+ghost use Rattle.llsc_cli.specs.Serving.{made, reply_to, IsPlaced};
+ghost use Rattle.llsc_cli.specs.Solo.{FailsUnmarked, reads_in, writes_in, fails_in, IsUnderWay, IsEnd, IsSoloEnd};
 ghost use Rattle.llsc_cli.specs.Working.{IsWorking, progress_of};
 
 use a32_step::{Ask, CallAsk, Cpu, Stop, Wanted};
-use llsc_base::{Image, MachineSize, load, store};
+use history::PlainMemory;
+use llsc_base::{Image, MachineSize, Place};
 use std::alloc::{AllocError, Global};
 
 /// How a thread ended: its stop, its steps, and how many loads, stores and failed
@@ -27,10 +31,11 @@ pub struct ThreadEnd {
 #[derive(Drop)]
 pub struct Thread {
     cpu: Cpu,
-    memory: Vec<u8>,
+    memory: PlainMemory,
     steps: u64,
     reads: u64,
     writes: u64,
+    fails: u64,
 }
 
 /// What a guest call does.
@@ -53,60 +58,107 @@ fn answer_of(call: CallAsk) -> Answer
 
 impl Thread {
     /// The reply of memory to an access, which is counted.
+    #[tactic(auto, using(crate::proofs::Served::on_marked, crate::proofs::Served::off_unmarked))]
     fn serve(&mut self, ask: Ask) -> u64
-        requires inside { (place_of ask).addr + size_bytes (place_of ask).size ≤ length self.old.memory.items }
+        requires one { length self.old.memory.marks ≡ 1 }
+        requires placed { IsPlaced (length self.old.memory.memory) ask }
         requires fits { ValueFits ask }
-        requires few { self.old.reads + self.old.writes < 2 ^ 63 }
-        ensures reply { result ≡ reply_of self.old.memory.items ask }
+        requires few { self.old.reads + self.old.writes + self.old.fails < 2 ^ 63 }
+        ensures reply { result ≡ reply_to self.old.memory ask }
+        ensures memory { self.new.memory ≡ accessed self.old.memory (made self.old.memory ask) }
+        ensures size { IsAsLarge self.old.memory self.new.memory }
         ensures cpu { self.new.cpu ≡ self.old.cpu }
-        ensures memory { self.new.memory.items ≡ memory_after self.old.memory.items ask }
-        ensures same_length { length self.new.memory.items ≡ length self.old.memory.items }
+        ensures may { MayAccess self.old.memory (made self.old.memory ask) }
+        ensures decided { FailsUnmarked self.old.memory (made self.old.memory ask) }
         ensures steps { self.new.steps ≡ self.old.steps }
-        ensures reads { self.new.reads ≡ self.old.reads + loads_in ask }
-        ensures writes { self.new.writes ≡ self.old.writes + stores_in ask }
+        ensures reads { self.new.reads ≡ self.old.reads + reads_in (made self.old.memory ask) }
+        ensures writes { self.new.writes ≡ self.old.writes + writes_in (made self.old.memory ask) }
+        ensures fails { self.new.fails ≡ self.old.fails + fails_in (made self.old.memory ask) }
+        ensures counted { self.new.reads + self.new.writes + self.new.fails ≤ self.old.reads + self.old.writes + self.old.fails + 1 }
     {
         match ask {
             Ask::Load(place) => {
                 self.reads += 1;
-                load(&self.memory, place)
+                self.memory.load(place)
+            }
+            Ask::LoadEx(place) => {
+                self.reads += 1;
+                self.memory.load_ex(0, place)
             }
             Ask::Store(place, value) => {
                 self.writes += 1;
-                store(&mut self.memory, place, value);
+                self.memory.store(0, place, value);
+                0
+            }
+            Ask::StoreEx(place, value) => self.store_exclusive(place, value),
+            Ask::Clear => {
+                self.memory.clear_ex(0);
                 0
             }
         }
     }
 
+    /// A store-exclusive: 0 where it stored, and 1 where it failed.
+    #[tactic(auto, using(crate::proofs::Served::on_marked, crate::proofs::Served::off_unmarked, crate::proofs::Served::failed_is))]
+    fn store_exclusive(&mut self, place: Place, value: u64) -> u64
+        requires one { length self.old.memory.marks ≡ 1 }
+        requires aligned { IsTrue (is_aligned place) }
+        requires inside { place.addr + size_bytes place.size ≤ length self.old.memory.memory }
+        requires fits { value < 256 ^ size_bytes place.size }
+        requires few { self.old.reads + self.old.writes + self.old.fails < 2 ^ 63 }
+        ensures reply { result ≡ reply_to self.old.memory (Ask.StoreEx place value) }
+        ensures memory { self.new.memory ≡ accessed self.old.memory (made self.old.memory (Ask.StoreEx place value)) }
+        ensures size { IsAsLarge self.old.memory self.new.memory }
+        ensures cpu { self.new.cpu ≡ self.old.cpu }
+        ensures may { MayAccess self.old.memory (made self.old.memory (Ask.StoreEx place value)) }
+        ensures decided { FailsUnmarked self.old.memory (made self.old.memory (Ask.StoreEx place value)) }
+        ensures steps { self.new.steps ≡ self.old.steps }
+        ensures reads { self.new.reads ≡ self.old.reads + reads_in (made self.old.memory (Ask.StoreEx place value)) }
+        ensures writes { self.new.writes ≡ self.old.writes + writes_in (made self.old.memory (Ask.StoreEx place value)) }
+        ensures fails { self.new.fails ≡ self.old.fails + fails_in (made self.old.memory (Ask.StoreEx place value)) }
+        ensures counted { self.new.reads + self.new.writes + self.new.fails ≡ self.old.reads + self.old.writes + self.old.fails + 1 }
+    {
+        if self.memory.store_ex(0, place, value) {
+            self.writes += 1;
+            return 0;
+        }
+        self.fails += 1;
+        1
+    }
+
     /// The thread's end at a stop.
     fn end(&self, stop: Stop) -> ThreadEnd
-        ensures { result ≡ record { stop = stop; steps = self.now.steps; reads = self.now.reads; writes = self.now.writes; fails = 0 } }
+        ensures { result ≡ record { stop = stop; steps = self.now.steps; reads = self.now.reads; writes = self.now.writes; fails = self.now.fails } }
     {
         ThreadEnd {
             stop,
             steps: self.steps,
             reads: self.reads,
             writes: self.writes,
-            fails: 0,
+            fails: self.fails,
         }
     }
 
     /// An access is made and replied to.
     fn access(&mut self, ask: Ask)
         requires awaiting { IsAwaiting self.old.cpu.phase }
-        requires inside { (place_of ask).addr + size_bytes (place_of ask).size ≤ length self.old.memory.items }
+        requires one { length self.old.memory.marks ≡ 1 }
+        requires placed { IsPlaced (length self.old.memory.memory) ask }
         requires fits { ValueFits ask }
-        requires few { self.old.reads + self.old.writes < 2 ^ 63 }
-        ensures cpu { self.new.cpu ≡ given self.old.cpu (reply_of self.old.memory.items ask) }
-        ensures memory { self.new.memory.items ≡ memory_after self.old.memory.items ask }
-        ensures same_length { length self.new.memory.items ≡ length self.old.memory.items }
+        requires few { self.old.reads + self.old.writes + self.old.fails < 2 ^ 63 }
+        ensures cpu { self.new.cpu ≡ given self.old.cpu (reply_to self.old.memory ask) }
+        ensures memory { self.new.memory ≡ accessed self.old.memory (made self.old.memory ask) }
+        ensures size { IsAsLarge self.old.memory self.new.memory }
+        ensures may { MayAccess self.old.memory (made self.old.memory ask) }
+        ensures decided { FailsUnmarked self.old.memory (made self.old.memory ask) }
         ensures steps { self.new.steps ≡ self.old.steps }
-        ensures reads { self.new.reads ≡ self.old.reads + loads_in ask }
-        ensures writes { self.new.writes ≡ self.old.writes + stores_in ask }
+        ensures reads { self.new.reads ≡ self.old.reads + reads_in (made self.old.memory ask) }
+        ensures writes { self.new.writes ≡ self.old.writes + writes_in (made self.old.memory ask) }
+        ensures fails { self.new.fails ≡ self.old.fails + fails_in (made self.old.memory ask) }
         ensures ready { IsReady self.new.cpu.phase }
         ensures one_more { length self.new.cpu.replies ≡ length self.old.cpu.replies + 1 }
         ensures room { length self.new.cpu.replies ≤ 16 }
-        ensures counted { self.new.reads + self.new.writes ≡ self.old.reads + self.old.writes + 1 }
+        ensures counted { self.new.reads + self.new.writes + self.new.fails ≤ self.old.reads + self.old.writes + self.old.fails + 1 }
     {
         let reply = self.serve(ask);
         self.cpu.give(reply);
@@ -135,7 +187,7 @@ impl Thread {
 
 impl Thread {
     /// One turn: the thread makes one access or call, completes an instruction, or ends.
-    #[tactic(auto, using(crate::proofs::Turns::after_access, crate::proofs::Turns::after_step, crate::proofs::Turns::after_answer, crate::proofs::Turns::at_stop, crate::proofs::Turns::at_exit))]
+    #[tactic(auto, using(crate::proofs::Turns::after_access, crate::proofs::Served::placed, crate::proofs::Turns::after_step, crate::proofs::Turns::after_answer, crate::proofs::Turns::at_stop, crate::proofs::Turns::at_exit))]
     fn turn(&mut self, image: &Image) -> Option<ThreadEnd>
         requires working { IsWorking image.now self.old }
         requires few { self.old.steps < 2 ^ 41 }
@@ -195,13 +247,15 @@ pub fn solo(
     requires budget { budget ≤ 1000000000000 }
     ensures { IfOk result (λ end. IsSoloEnd image.now size.now budget end) }
 {
-    let memory = Vec::from_slice(alloc, image.bytes())?;
+    let stack = size.room() + 4096;
+    let memory = PlainMemory::new(alloc, image.bytes(), 1)?;
     let mut thread = Thread {
-        cpu: Cpu::start(image.entry(), 0, 1, size.room() + 4096),
+        cpu: Cpu::start(image.entry(), 0, 1, stack),
         memory,
         steps: 0,
         reads: 0,
         writes: 0,
+        fails: 0,
     };
     Ok(thread.run(image, budget))
 }

@@ -6,7 +6,7 @@ pub returns-in-Call-clause-under_way : goal.returns-in-Call-clause-under_way
 returns-in-Call-clause-under_way c = λ budget start first way less.
     after_call c.args.image.now budget start first c.args.self.now (record c.args.self.now { cpu = c.next.new.self }) c.call.new.self c.in-Call.call c.call.result
     way less c.in-Call.ensures.wanted
-    (record { cpu = c.in-Call.ensures.state; memory = refl; steps = refl; reads = refl; writes = refl })
+    (record { cpu = c.in-Call.ensures.state; memory = refl; steps = refl; reads = refl; writes = refl; fails = refl })
     c.call.ensures.goes_on c.call.ensures.ends
 
 pub returns-in-Stopped-clause-under_way : goal.returns-in-Stopped-clause-under_way
