@@ -1,7 +1,6 @@
 -- Definitions that go from the front of a list, at a list that is joined to another and at one with one more entry.
-use Rattle.std.proofs.Common.{◌≡◌, ℕ, Bool, true, false, List, [], ◌∷◌, ◌++◌, nat_eq, refl, sym, ap, subst, ◌∙◌, append_assoc}
+use Rattle.std.proofs.Common.{◌≡◌, ℕ, List, [], ◌∷◌, ◌++◌, nat_eq, refl}
 use Rattle.std.proofs.lemmas.List.Elements.{filter-append}
-use Rattle.std.specs.List.{filter}
 use Rattle.llsc_base.specs.Sizes.{Numbers}
 use Rattle.history.specs.Entry.{is_access, thread_of}
 use Rattle.history.specs.Parts.{accesses_of, entries_of}

@@ -1,13 +1,12 @@
 -- The memory that accesses leave is how things stand of its cells.
-use Rattle.std.proofs.Common.{◌≡◌, ◌≢◌, ℕ, ◌+◌, ◌*◌, ◌^◌, ◌<◌, ◌≤◌, true, false, List, [], ◌∷◌, ◌++◌, Option, Some, None, length, slice_index, refl, sym, ap, subst, ◌∙◌, inl, inr, arith, replicate}
+use Rattle.std.proofs.Common.{◌≡◌, ℕ, ◌+◌, ◌*◌, ◌<◌, ◌≤◌, true, List, [], ◌∷◌, length, slice_index, refl, sym, ap, subst, ◌∙◌, inl, inr, arith}
 use Rattle.std.proofs.lemmas.Bool.{cases_eq}
-use Rattle.std.proofs.lemmas.List.{length-replicate}
 use Rattle.llsc_base.specs.Memory.{cell_of, is_aligned, size_bytes, stored, value_at}
 use Rattle.llsc_base.specs.declared.access.Place.{Place}
 use Rattle.llsc_base.proofs.Stores.{stored-byte}
 use Rattle.row_bytes.specs.Cell.{cell_at, cell_with, value_in_cell}
 use Rattle.row_bytes.proofs.Memories.{cell_at-stored_same, cell_at-stored_other, cell_of-inside, value_at-cell_at}
-use Rattle.history.specs.Monitor.{IsAsLarge, Monitor, accessed, at_rest, monitor_after}
+use Rattle.history.specs.Monitor.{Monitor, accessed, at_rest, monitor_after}
 use Rattle.history.specs.ArmLegal.{IsArmLegal, IsSound, MayAccess}
 use Rattle.history.specs.Standing.{Standing, joined, standing_after, standing_of, updated}
 use Rattle.history.specs.declared.entry.Entry.{Entry}

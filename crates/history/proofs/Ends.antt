@@ -1,5 +1,5 @@
 -- Induction over a list from its end, and what a list with one more entry has.
-use Rattle.std.proofs.Common.{◌≡◌, ℕ, Bool, true, false, ◌||◌, List, [], ◌∷◌, ◌++◌, Option, Some, None, refl, sym, ap, subst, ◌∙◌, append-nil, append_assoc}
+use Rattle.std.proofs.Common.{List, [], ◌∷◌, ◌++◌, sym, subst, append-nil, append_assoc}
 use Rattle.history.specs.declared.entry.Entry.{Entry}
 
 -- what holds of no entries, and of one more entry where it holds of those before it, holds of every list

@@ -1,7 +1,6 @@
 -- What has passed in the class of a reserved row since its Watch, and how many Writes a class has had, are how things stand of them.
-use Rattle.std.proofs.Common.{◌≡◌, ◌≢◌, ℕ, ◌+◌, ◌&&◌, ◌||◌, not, Bool, true, false, if◌then◌else◌, cond, List, [], ◌∷◌, ◌++◌, Option, Some, None, nat_eq, refl, sym, ap, subst, ◌∙◌, inl, inr, arith}
+use Rattle.std.proofs.Common.{◌≡◌, ℕ, ◌+◌, ◌&&◌, ◌||◌, Bool, true, false, cond, List, [], ◌∷◌, ◌++◌, Option, Some, None, nat_eq, refl, sym, ap, ◌∙◌, inl, inr, arith}
 use Rattle.std.specs.List.{list_any}
-use Rattle.std.specs.Prelude.{count_by}
 use Rattle.std.proofs.lemmas.List.Sums.{sum_by-append}
 use Rattle.std.proofs.lemmas.Bool.{cases_Bool, eq-eqb, eqb-true}
 use Rattle.llsc_base.specs.Memory.{class_of, row_of}
@@ -10,13 +9,13 @@ use Rattle.history.specs.Entry.{is_in_class}
 use Rattle.history.specs.Since.{Since, since_last, watch_of}
 use Rattle.history.specs.Reservation.{reservation_of, reserved_since}
 use Rattle.history.specs.Cause.{is_begin, is_begin_of_another, is_start_of_another, is_write, later_of, since_watch, writes_of}
-use Rattle.history.specs.Standing.{Standing, is_of_class, joined, standing_after, standing_of, updated}
+use Rattle.history.specs.Standing.{Standing, is_of_class, joined, standing_after, standing_of}
 use Rattle.history.specs.declared.entry.Entry.{Entry}
 use Rattle.history.specs.declared.entry.Entry.TheVariants.{Read, Write, Fail, Clear, Watch, Miss, Begin, End}
 use Rattle.history.proofs.Ends.{by_ends}
 use Rattle.history.proofs.Appends.{standing_after-push}
 use Rattle.history.proofs.Kept.{kept_if}
-use Rattle.history.proofs.Steps.{any-push, joined-reserved, reservation_of-push, reservation_of-standing, reserved_step, since_last-push, since_step}
+use Rattle.history.proofs.Steps.{any-push, reservation_of-push, reservation_of-standing, reserved_step, since_last-push, since_step}
 
 -- ---- what has passed since a Watch
 

@@ -1,15 +1,14 @@
 -- A row on which a thread is marked is as the marking load-exclusive found it.
-use Rattle.std.proofs.Common.{◌≡◌, ◌≢◌, ℕ, zero, suc, ◌+◌, ◌<◌, ◌≤◌, ◌&&◌, ◌||◌, ◌⊎◌, Bool, true, false, if◌then◌else◌, List, [], ◌∷◌, ◌++◌, Option, Some, None, nat_eq, refl, sym, ap, subst, ◌∙◌, inl, inr, arith, slice_index, append_assoc, replicate, length}
-use Rattle.std.specs.List.{list_any}
+use Rattle.std.proofs.Common.{◌≡◌, ◌≢◌, ℕ, ◌+◌, ◌&&◌, Bool, true, false, if◌then◌else◌, List, [], ◌∷◌, ◌++◌, Option, Some, None, nat_eq, refl, sym, ap, subst, ◌∙◌, inl, inr, slice_index, append_assoc, length}
 use Rattle.std.proofs.lemmas.List.Folds.{list_any-append}
 use Rattle.std.proofs.lemmas.Bool.{and_parts, cases_Bool, cases_lt, eq-eqb, eqb-true, or_from}
 use Rattle.llsc_base.specs.Memory.{row_of, size_bytes, stored}
 use Rattle.llsc_base.specs.declared.access.Place.{Place}
 use Rattle.llsc_base.proofs.Cells.{row_of-byte}
 use Rattle.llsc_base.proofs.Stores.{stored-before, stored-past}
-use Rattle.history.specs.Monitor.{Monitor, accessed, at_rest, is_on, marked_row, monitor_after, unless_on}
+use Rattle.history.specs.Monitor.{Monitor, accessed, at_rest, marked_row, monitor_after, unless_on}
 use Rattle.history.specs.ArmLegal.{IsArmLegal, IsSound, MayAccess}
-use Rattle.history.specs.Marked.{IsMarkedSince, KeepsRow, byte_place, is_load_ex}
+use Rattle.history.specs.Marked.{IsMarkedSince, KeepsRow, is_load_ex}
 use Rattle.history.specs.Standing.{mark_after}
 use Rattle.history.specs.declared.entry.Entry.{Entry}
 use Rattle.history.specs.declared.entry.Entry.TheVariants.{Read, Write, Fail, Clear, Watch, Miss, Begin, End}

@@ -1,22 +1,19 @@
 -- A history is legal exactly where each of its entries may come as things stand.
-use Rattle.std.proofs.Common.{◌≡◌, ◌≢◌, ℕ, ◌+◌, ◌*◌, ◌/◌, ◌%◌, ◌^◌, ◌<◌, ◌≤◌, Bool, true, false, List, [], ◌∷◌, ◌++◌, Option, Some, None, length, nat_eq, slice_index, refl, sym, ap, subst, ◌∙◌, inl, inr, arith, append_assoc, replicate}
-use Rattle.std.specs.List.{list_any}
+use Rattle.std.proofs.Common.{◌≡◌, ◌≢◌, ℕ, ◌*◌, ◌/◌, ◌%◌, ◌<◌, true, false, List, [], ◌∷◌, ◌++◌, Option, None, length, nat_eq, slice_index, refl, sym, ap, subst, ◌∙◌, inl, inr, arith}
 use Rattle.std.proofs.lemmas.List.{length-replicate}
 use Rattle.std.proofs.lemmas.Bool.{cases_Bool, eq-eqb, eqb-true, eqb-false}
-use Rattle.llsc_base.specs.Memory.{cell_of, class_of, is_aligned, row_of, size_bytes, value_at}
+use Rattle.llsc_base.specs.Memory.{cell_of, row_of, value_at}
 use Rattle.llsc_base.specs.Sizes.{Numbers}
 use Rattle.llsc_base.specs.declared.access.Place.{Place}
 use Rattle.row_bytes.specs.Cell.{value_in_cell}
-use Rattle.history.specs.Entry.{is_in_class, thread_of}
-use Rattle.history.specs.Parts.{accesses_of, entries_of}
-use Rattle.history.specs.Monitor.{IsAsLarge, Monitor, accessed, at_rest, marked_row, monitor_after}
+use Rattle.history.specs.Entry.{thread_of}
+use Rattle.history.specs.Parts.{entries_of}
+use Rattle.history.specs.Monitor.{Monitor, at_rest, marked_row, monitor_after}
 use Rattle.history.specs.ArmLegal.{IsArmLegal, IsSound, MayAccess}
-use Rattle.history.specs.Operation.{AreFinished, AreOperations}
-use Rattle.history.specs.Reservation.{reservation_of}
-use Rattle.history.specs.Cause.{HasCause, MayFail, MayMiss, flight_of, is_begin_of_another, is_start_of_another, since_watch, writes_of}
+use Rattle.history.specs.Cause.{HasCause, MayFail, flight_of}
 use Rattle.history.specs.Legal.{IsComplete, IsLegal}
-use Rattle.history.specs.Standing.{Stage, Standing, begun, joined, looked, rests, standing_after, standing_of, updated, written}
-use Rattle.history.specs.Follow.{MayFailAt, MayFollow, MayJoin, MayMissAt, flight_at}
+use Rattle.history.specs.Standing.{Stage, Standing, rests, standing_after, standing_of, updated}
+use Rattle.history.specs.Follow.{MayFailAt, MayFollow, MayJoin, flight_at}
 use Rattle.history.specs.declared.entry.Cause.{Cause}
 use Rattle.history.specs.declared.entry.Cause.TheVariants.{Absent, Lost, Limit}
 use Rattle.history.specs.declared.entry.Entry.{Entry}

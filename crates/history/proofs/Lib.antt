@@ -10,3 +10,4 @@ pub mod Stages
 pub mod Operations
 pub mod Legality
 pub mod SmallMemory
+pub mod Classes

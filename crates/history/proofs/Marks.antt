@@ -1,12 +1,12 @@
 -- The mark of one thread, step by step, and how things stand of it.
-use Rattle.std.proofs.Common.{◌≡◌, ◌≢◌, ℕ, zero, suc, ◌<◌, ◌&&◌, Bool, true, false, if◌then◌else◌, List, [], ◌∷◌, ◌++◌, Option, Some, None, length, map, set, get_or, nat_eq, slice_index_or, replicate, refl, sym, ap, subst, ◌∙◌, inl, inr, arith, get_or-set_same, get_or-set_other, length-set}
+use Rattle.std.proofs.Common.{◌≡◌, ◌≢◌, ℕ, zero, suc, ◌<◌, ◌&&◌, Bool, true, false, if◌then◌else◌, List, [], ◌∷◌, ◌++◌, Option, Some, None, length, map, set, get_or, nat_eq, replicate, refl, sym, ap, ◌∙◌, inl, inr, arith, get_or-set_same, get_or-set_other, length-set}
 use Rattle.std.proofs.Math.ListN.{get_or-map}
-use Rattle.std.proofs.lemmas.List.{length-map, length-replicate}
+use Rattle.std.proofs.lemmas.List.{length-map}
 use Rattle.std.proofs.lemmas.Bool.{cases_eq, eq-eqb, ne_eqb}
 use Rattle.llsc_base.specs.Memory.{row_of}
 use Rattle.llsc_base.proofs.Bytes.{length-stored}
-use Rattle.history.specs.Monitor.{Monitor, IsAsLarge, accessed, at_rest, is_on, marked_row, marks_after, memory_after, monitor_after, unless_on}
-use Rattle.history.specs.ArmLegal.{IsArmLegal, IsSound, MayAccess}
+use Rattle.history.specs.Monitor.{Monitor, IsAsLarge, accessed, at_rest, marked_row, monitor_after, unless_on}
+use Rattle.history.specs.ArmLegal.{IsArmLegal, MayAccess}
 use Rattle.history.specs.Standing.{Standing, joined, mark_after, standing_after, standing_of, updated}
 use Rattle.history.specs.declared.entry.Entry.{Entry}
 use Rattle.history.specs.declared.entry.Entry.TheVariants.{Read, Write, Fail, Clear, Watch, Miss, Begin, End}

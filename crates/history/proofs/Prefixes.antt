@@ -1,5 +1,5 @@
 -- Each beginning of a legal history is legal.
-use Rattle.std.proofs.Common.{◌≡◌, ℕ, List, [], ◌∷◌, ◌++◌, sym, ap, subst, ◌∙◌, append_assoc}
+use Rattle.std.proofs.Common.{ℕ, List, ◌∷◌, ◌++◌, ap, subst, ◌∙◌, append_assoc}
 use Rattle.llsc_base.specs.Sizes.{Numbers}
 use Rattle.history.specs.Parts.{accesses_of, entries_of}
 use Rattle.history.specs.Monitor.{at_rest}

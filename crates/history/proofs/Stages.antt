@@ -1,15 +1,11 @@
 -- A thread's entries are operations exactly where each of them may come at its stage.
-use Rattle.std.proofs.Common.{◌≡◌, ◌≢◌, ℕ, ◌||◌, Bool, true, false, if◌then◌else◌, List, [], ◌∷◌, ◌++◌, Option, Some, None, nat_eq, refl, sym, ap, subst, ◌∙◌, inl, inr, append_assoc, append-nil}
-use Rattle.std.specs.List.{flat_map}
-use Rattle.std.proofs.lemmas.Bool.{cases_Bool, eq-eqb, eqb-true, eqb-false}
+use Rattle.std.proofs.Common.{◌≡◌, ◌≢◌, ℕ, true, false, List, [], ◌∷◌, nat_eq, refl, sym, ap, subst, ◌∙◌, inl, inr}
+use Rattle.std.proofs.lemmas.Bool.{cases_Bool, eqb-true, eqb-false}
 use Rattle.llsc_base.specs.Sizes.{Numbers}
-use Rattle.llsc_base.specs.declared.access.Place.{Place}
 use Rattle.history.specs.Entry.{thread_of}
 use Rattle.history.specs.Parts.{entries_of}
-use Rattle.history.specs.Operation.{AreFinished, AreOperations, Operation, clear, entries_of_operation, fail, load, load_missed, load_watched, store}
 use Rattle.history.specs.Standing.{Stage, Standing, begun, joined, looked, rests, standing_after, updated, written}
 use Rattle.history.specs.Follow.{MayFollow, MayJoin}
-use Rattle.history.specs.declared.entry.Cause.{Cause}
 use Rattle.history.specs.declared.entry.Entry.{Entry}
 use Rattle.history.specs.declared.entry.Entry.TheVariants.{Read, Write, Fail, Clear, Watch, Miss, Begin, End}
 use Rattle.history.proofs.Marks.{updated-same, updated-other}

@@ -1,13 +1,12 @@
 -- What one more entry at the end does to what stands since the last entry of a kind, and to reservations and flights.
-use Rattle.std.proofs.Common.{◌≡◌, ◌≢◌, ℕ, ◌&&◌, ◌||◌, not, Bool, true, false, if◌then◌else◌, List, [], ◌∷◌, ◌++◌, Option, Some, None, nat_eq, refl, sym, ap, subst, ◌∙◌, append_assoc}
+use Rattle.std.proofs.Common.{◌≡◌, ℕ, ◌&&◌, ◌||◌, Bool, true, false, if◌then◌else◌, List, [], ◌∷◌, ◌++◌, Option, Some, None, nat_eq, refl, sym, ap, ◌∙◌}
 use Rattle.std.specs.List.{list_any}
 use Rattle.std.proofs.lemmas.List.Folds.{list_any-append}
 use Rattle.llsc_base.specs.Memory.{class_of, row_of}
 use Rattle.llsc_base.specs.declared.access.Place.{Place}
-use Rattle.history.specs.Entry.{is_in_class}
 use Rattle.history.specs.Since.{Since, begin_of, is_end_of, or_here, since_last, watch_of}
 use Rattle.history.specs.Reservation.{ends_reservation, reservation_of, reserved_since}
-use Rattle.history.specs.Cause.{flight_of, flight_since, later_of, since_watch}
+use Rattle.history.specs.Cause.{flight_of, flight_since}
 use Rattle.history.specs.Standing.{Standing, is_of_class, joined, standing_after, standing_of}
 use Rattle.history.specs.declared.entry.Cause.{Cause}
 use Rattle.history.specs.declared.entry.Entry.{Entry}

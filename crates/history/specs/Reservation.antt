@@ -1,8 +1,7 @@
 -- The reservation of a thread, this project's own: the row that it watches, and what ends that.
-use Rattle.std.specs.Prelude.{ℕ, ◌==◌, ◌&&◌, if◌then◌else◌, Bool, true, false, Option, Some, None, List}
+use Rattle.std.specs.Prelude.{ℕ, ◌==◌, ◌&&◌, if◌then◌else◌, Bool, false, Option, Some, None, List}
 use Rattle.std.specs.List.{list_any}
 use Rattle.llsc_base.specs.Memory.{row_of}
-use Rattle.llsc_base.specs.declared.access.Place.{Place}
 use Rattle.history.specs.Entry.{is_in_class}
 use Rattle.history.specs.Since.{Since, since_last, watch_of}
 use Rattle.history.specs.declared.entry.Entry.{Entry}

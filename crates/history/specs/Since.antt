@@ -1,5 +1,5 @@
 -- What stands in a history since the last entry of some kind.
-use Rattle.std.specs.Prelude.{ℕ, ◌==◌, if◌then◌else◌, Bool, true, false, Option, Some, None, List, [], ◌∷◌}
+use Rattle.std.specs.Prelude.{ℕ, ◌==◌, if◌then◌else◌, Bool, false, Option, Some, None, List, [], ◌∷◌}
 use Rattle.llsc_base.specs.declared.access.Place.{Place}
 use Rattle.history.specs.declared.entry.Entry.{Entry}
 use Rattle.history.specs.declared.entry.Entry.TheVariants.{Watch, Begin, End}

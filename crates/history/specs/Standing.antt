@@ -1,6 +1,6 @@
 -- How things stand after a history, entry by entry: one record, from which proofs go on. Each part that says again what
 -- a definition of this crate says is tied to it by a law (`src/laws.rt`).
-use Rattle.std.specs.Prelude.{ℕ, ◌+◌, ◌==◌, ◌&&◌, ◌||◌, if◌then◌else◌, Bool, true, false, Option, Some, None, List, [], ◌∷◌}
+use Rattle.std.specs.Prelude.{ℕ, ◌+◌, ◌==◌, ◌&&◌, ◌||◌, if◌then◌else◌, Bool, false, Option, Some, None, List, [], ◌∷◌}
 use Rattle.llsc_base.specs.Memory.{cell_of, class_of, row_of}
 use Rattle.llsc_base.specs.declared.access.Place.{Place}
 use Rattle.row_bytes.specs.Cell.{cell_at, cell_with}

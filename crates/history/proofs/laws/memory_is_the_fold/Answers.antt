@@ -1,6 +1,5 @@
-use Rattle.std.proofs.Common.{◌≡◌, ◌*◌, ◌/◌, arith, length, ap, sym, ◌∙◌}
+use Rattle.std.proofs.Common.{◌≡◌, ◌*◌, ◌/◌, arith, length, ◌∙◌}
 use Rattle.std.proofs.Math.Facts.{Fits-lt-pow}
-use Rattle.history.specs.Parts.{accesses_of}
 use Rattle.history.specs.Monitor.{at_rest, monitor_after}
 use Rattle.history.specs.Standing.{standing_after, standing_of}
 use Rattle.history.proofs.Appends.{IsArmLegal-from_accesses_of, monitor_after-accesses_of}

@@ -1,5 +1,5 @@
 -- One more mark is passed.
-use Rattle.std.proofs.Common.{◌≡◌, ◌<◌, ℕ, List, ◌++◌, ◌∷◌, [], ◌+◌, None, Option, arith, drop, get_or, length, length-append, length-take-le, map, min, refl, set, sym, take, ◌∙◌, append_assoc}
+use Rattle.std.proofs.Common.{◌≡◌, ◌<◌, ℕ, List, ◌++◌, ◌∷◌, [], ◌+◌, None, Option, arith, drop, get_or, length, length-take-le, map, set, sym, take, ◌∙◌, append_assoc}
 use Rattle.std.proofs.lemmas.List.{length-map, drop_more, map_more, set_at, get_or_at}
 use Rattle.history.specs.Monitor.{unless_on}
 use Rattle.history.proofs.plain.unmark.Goals as goal

@@ -1,5 +1,5 @@
 -- To end the thread's own mark and then all marks on the row is to end those and then its own.
-use Rattle.std.proofs.Common.{◌≡◌, ◌∙◌, None, arith, length, length-append, length-drop, length-set, length-take, map, refl, set, slice_set, sym}
+use Rattle.std.proofs.Common.{◌≡◌, ◌∙◌, None, arith, length-append, length-drop, length-set, length-take, map, refl, slice_set}
 use Rattle.std.proofs.lemmas.List.{map-set, with_items_is}
 use Rattle.std.specs.Vec.{with_item, with_items}
 use Rattle.llsc_base.specs.Memory.{row_of, stored}
