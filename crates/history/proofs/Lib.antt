@@ -11,3 +11,4 @@ pub mod Operations
 pub mod Legality
 pub mod SmallMemory
 pub mod Classes
+pub mod Pushes
