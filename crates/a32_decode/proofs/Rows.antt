@@ -1,5 +1,5 @@
 -- From what holds of an answer at each row of a table to what the table says.
-use Rattle.std.proofs.Common.{◌≡◌, ℕ, ◌&&◌, not, Bool, true, false, if◌then◌else◌, IsTrue, List, [], ◌∷◌, Result, Err, refl}
+use Rattle.std.proofs.Common.{◌≡◌, ℕ, Bool, true, false, if◌then◌else◌, IsTrue, List, [], ◌∷◌, Result, Err, refl}
 use Rattle.a32_instr.specs.Table.{Row, fits, outcome, meaning}
 use Rattle.a32_instr.specs.declared.instructions.Instr.{Instr}
 use Rattle.a32_instr.specs.declared.instructions.DecodeFault.{DecodeFault}
@@ -11,19 +11,17 @@ abbrev pub FollowsRows : List Row → ℕ → Result Instr DecodeFault → Type 
 FollowsRows [] word answer = Unit {0}
 FollowsRows (row ∷ rows) word answer = (Fits row word → Means row word answer) × FollowsRows rows word answer
 
--- a choice between two answers, and what is left to show of the second
-chosen : (b rest : Bool) (answer here there : Result Instr DecodeFault)
-    → (IsTrue b → answer ≡ here) → (IsTrue (not b && rest) → answer ≡ Err Undefined)
-    → ((IsTrue rest → answer ≡ Err Undefined) → answer ≡ there)
-    → answer ≡ (if b then here else there)
-chosen true rest answer here there fit none others = fit refl
-chosen false rest answer here there fit none others = others none
+-- a choice between two answers, by the test that decides it
+chosen : (test : Bool) (answer here there : Result Instr DecodeFault)
+    → (IsTrue test → answer ≡ here) → (test ≡ false → answer ≡ there) → answer ≡ (if test then here else there)
+chosen true answer here there fits fails = fits refl
+chosen false answer here there fits fails = fails refl
 
 -- an answer that follows the rows, and is undefined where the word fits none, is the table's
 pub meaning_by : (rows : List Row) (word : ℕ) (answer : Result Instr DecodeFault)
     → FollowsRows rows word answer → (NoneFits rows word → answer ≡ Err Undefined) → answer ≡ meaning rows word
 unfolding meaning
-meaning_by [] word answer follows none = none refl
+meaning_by [] word answer follows none = none tt
 meaning_by (row ∷ rows) word answer follows none =
-    chosen (fits row word) _ answer (outcome row word) (meaning rows word) follows.0 none
-    (meaning_by rows word answer follows.1)
+    chosen (fits row word) answer (outcome row word) (meaning rows word) follows.0
+    (λ fails. meaning_by rows word answer follows.1 (λ others. none (fails, others)))

@@ -1,6 +1,5 @@
 -- What the decoder's contracts say of the rows of the table and a word.
-use Rattle.std.specs.Prelude.{◌≡◌, ℕ, not, IsTrue, List, Result}
-use Rattle.std.specs.List.{list_all}
+use Rattle.std.specs.Prelude.{◌≡◌, ℕ, false, IsTrue, List, [], ◌∷◌, Result}
 use Rattle.a32_instr.specs.Table.{Row, fits, outcome}
 use Rattle.a32_instr.specs.declared.instructions.Instr.{Instr}
 use Rattle.a32_instr.specs.declared.instructions.DecodeFault.{DecodeFault}
@@ -15,4 +14,5 @@ Means row word answer = answer ≡ outcome row word
 
 -- the word fits none of the rows
 abbrev pub NoneFits : List Row → ℕ → Type 0
-NoneFits rows word = IsTrue (list_all (λ row. not (fits row word)) rows)
+NoneFits [] word = Unit {0}
+NoneFits (row ∷ rows) word = (fits row word ≡ false) × NoneFits rows word

@@ -1,9 +1,10 @@
-ghost use Rattle.std.specs.Prelude.{◌≡◌};
-ghost use Rattle.a32_instr.specs.Table.{alu_imm, branch, meaning, svc, table, word_imm};
+ghost use Rattle.std.specs.Prelude.{◌≡◌, ◌<◌, ◌∷◌, []};
+ghost use Rattle.a32_instr.specs.Bits.{bits_of};
+ghost use Rattle.a32_instr.specs.Table.{alu_imm, alu_by_num, alu_by_reg, movw, movt, nop, yields, mul, mla, mls, long, clz, extend, rev, word_imm, branch, svc, meaning, table};
 ghost use Rattle.a32_decode.specs.Rows.{Fits, Means, NoneFits};
 
-use crate::bits::bits;
-use crate::{branch, data_processing, load_store};
+use crate::bits::{bit, bits};
+use crate::{branch, data_processing, load_store, media};
 use a32_instr::{DecodeFault, Instr};
 
 /// The instruction that a word is, or why it is none: what the table of words says of it.
@@ -19,6 +20,19 @@ pub fn decode(word: u32) -> Result<Instr, DecodeFault>
 #[inline]
 fn by_class(word: u32) -> Result<Instr, DecodeFault>
     ensures alu_imm { Fits alu_imm word → Means alu_imm word result }
+    ensures alu_by_num { Fits alu_by_num word → Means alu_by_num word result }
+    ensures alu_by_reg { Fits alu_by_reg word → Means alu_by_reg word result }
+    ensures movw { Fits movw word → Means movw word result }
+    ensures movt { Fits movt word → Means movt word result }
+    ensures nop { Fits nop word → Means nop word result }
+    ensures yields { Fits yields word → Means yields word result }
+    ensures mul { Fits mul word → Means mul word result }
+    ensures mla { Fits mla word → Means mla word result }
+    ensures mls { Fits mls word → Means mls word result }
+    ensures long { Fits long word → Means long word result }
+    ensures clz { Fits clz word → Means clz word result }
+    ensures extend { Fits extend word → Means extend word result }
+    ensures rev { Fits rev word → Means rev word result }
     ensures word_imm { Fits word_imm word → Means word_imm word result }
     ensures branch { Fits branch word → Means branch word result }
     ensures svc { Fits svc word → Means svc word result }
@@ -28,13 +42,33 @@ fn by_class(word: u32) -> Result<Instr, DecodeFault>
         return Err(DecodeFault::Undefined);
     }
     match bits(word, 25, 3) {
-        1 => data_processing::immediate(word),
+        0 => data_processing::with_registers(word),
+        1 => data_processing::with_immediate(word),
         2 => load_store::immediate(word),
+        3 => by_register_or_media(word),
         5 => branch::immediate(word),
         7 => branch::supervisor_call(word),
         _ => Err(DecodeFault::Undefined),
     }
 }
 
+// A load or a store with a register offset, of which the table has none yet, or a media instruction: a word whose
+// bits 27:25 are 011 (DDI 0406C A5.1).
+#[inline]
+fn by_register_or_media(word: u32) -> Result<Instr, DecodeFault>
+    requires group { bits_of word 25 3 ≡ 3 }
+    requires cond { bits_of word 28 4 < 15 }
+    ensures extend { Fits extend word → Means extend word result }
+    ensures rev { Fits rev word → Means rev word result }
+    ensures none { NoneFits (extend ∷ rev ∷ []) word → result ≡ Err DecodeFault.Undefined }
+{
+    if !bit(word, 4) {
+        return Err(DecodeFault::Undefined);
+    }
+    media::media(word)
+}
+
+#[cfg(test)]
+mod operation_tests;
 #[cfg(test)]
 mod tests;

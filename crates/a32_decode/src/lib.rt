@@ -11,6 +11,9 @@ mod branch;
 mod data_processing;
 mod decoder;
 mod load_store;
+mod media;
+mod multiply;
+mod pc;
 
 pub use a32_instr::DecodeFault;
 pub use decoder::decode;

@@ -2,16 +2,29 @@
 use Rattle.std.specs.Prelude.{ℕ, if◌then◌else◌, List, [], ◌∷◌}
 use Rattle.llsc_base.specs.Images.{Program}
 use Rattle.a32_instr.specs.declared.instructions.Instr.{Instr}
-use Rattle.a32_instr.specs.declared.instructions.Instr.TheVariants.{Alu, Word, Branch, Svc}
+use Rattle.a32_instr.specs.declared.instructions.Instr.TheVariants.{Alu, Movw, Movt, Nop, Yield, Mul, Mla, Mls, Long, Clz, Extend, Rev, Word, Branch, Svc}
 use Rattle.a32_instr.specs.Condition.{passes}
 use Rattle.a32_instr.specs.State.{State, Effect, completes, advanced}
 use Rattle.a32_instr.specs.DataProcessing.{alu}
+use Rattle.a32_instr.specs.Multiply.{multiplies, multiplies_and_adds, multiplies_and_subtracts, multiplies_long}
+use Rattle.a32_instr.specs.Moves.{moves_wide, moves_top, counts_zeros, reverses, extends}
 use Rattle.a32_instr.specs.LoadStore.{word}
 use Rattle.a32_instr.specs.Branch.{branches, supervisor_call}
 
 -- the condition of an instruction
 abbrev pub condition_of : Instr → ℕ
 condition_of (Alu cond op s rd rn operand) = cond
+condition_of (Movw cond rd imm) = cond
+condition_of (Movt cond rd imm) = cond
+condition_of (Nop cond) = cond
+condition_of (Yield cond) = cond
+condition_of (Mul cond s rd rn rm) = cond
+condition_of (Mla cond s rd rn rm ra) = cond
+condition_of (Mls cond rd rn rm ra) = cond
+condition_of (Long cond kind s lo hi rn rm) = cond
+condition_of (Clz cond rd rm) = cond
+condition_of (Extend cond unsigned half rd rm turn) = cond
+condition_of (Rev cond rd rm) = cond
 condition_of (Word cond load byte index rn rt offset) = cond
 condition_of (Branch cond link words) = cond
 condition_of (Svc cond imm) = cond
@@ -19,6 +32,17 @@ condition_of (Svc cond imm) = cond
 -- what an instruction does whose condition has passed
 abbrev pub acts : Instr → Program → List ℕ → State → Effect
 acts (Alu cond op s rd rn operand) program replies state = alu op s rd rn operand state
+acts (Movw cond rd imm) program replies state = moves_wide rd imm state
+acts (Movt cond rd imm) program replies state = moves_top rd imm state
+acts (Nop cond) program replies state = completes (advanced state)
+acts (Yield cond) program replies state = completes (advanced state)
+acts (Mul cond s rd rn rm) program replies state = multiplies s rd rn rm state
+acts (Mla cond s rd rn rm ra) program replies state = multiplies_and_adds s rd rn rm ra state
+acts (Mls cond rd rn rm ra) program replies state = multiplies_and_subtracts rd rn rm ra state
+acts (Long cond kind s lo hi rn rm) program replies state = multiplies_long kind s lo hi rn rm state
+acts (Clz cond rd rm) program replies state = counts_zeros rd rm state
+acts (Extend cond unsigned half rd rm turn) program replies state = extends unsigned half rd rm turn state
+acts (Rev cond rd rm) program replies state = reverses rd rm state
 acts (Word cond load byte index rn rt offset) program replies state = word program load byte rn rt offset replies state
 acts (Branch cond link words) program replies state = branches link words state
 acts (Svc cond imm) program replies state = supervisor_call imm state

@@ -3,7 +3,10 @@ pub mod Table
 pub mod State
 pub mod Condition
 pub mod Sum
+pub mod Shift
 pub mod DataProcessing
+pub mod Multiply
+pub mod Moves
 pub mod LoadStore
 pub mod Branch
 pub mod Effect

@@ -2,12 +2,16 @@
 use Rattle.std.specs.Prelude.{ℕ, ◌^◌, ◌<◌, ◌==◌, ◌&&◌, ◌||◌, not, nat_lt, if◌then◌else◌, Bool, true, false, IsTrue, List, [], ◌∷◌, codes, Result, Ok, Err, ℤ, pos, ◌-ℤ◌}
 use Rattle.a32_instr.specs.Bits.{Run, runs, runs_of, field, has_bits}
 use Rattle.a32_instr.specs.declared.instructions.AluOp.{AluOp}
-use Rattle.a32_instr.specs.declared.instructions.AluOp.TheVariants.{Sub, Add, Cmp, Mov}
+use Rattle.a32_instr.specs.declared.instructions.AluOp.TheVariants.{And, Eor, Sub, Rsb, Add, Adc, Sbc, Rsc, Tst, Teq, Cmp, Cmn, Orr, Mov, Bic, Mvn}
+use Rattle.a32_instr.specs.declared.instructions.ShiftKind.{ShiftKind}
+use Rattle.a32_instr.specs.declared.instructions.ShiftKind.TheVariants.{Lsl, Lsr, Asr, Ror}
+use Rattle.a32_instr.specs.declared.instructions.LongKind.{LongKind}
+use Rattle.a32_instr.specs.declared.instructions.LongKind.TheVariants.{Umull, Umlal, Smull, Smlal}
 use Rattle.a32_instr.specs.declared.instructions.Operand2.TheVariants as operand
 use Rattle.a32_instr.specs.declared.instructions.Offset.TheVariants as offset
 use Rattle.a32_instr.specs.declared.instructions.Index.TheVariants.{Plain}
 use Rattle.a32_instr.specs.declared.instructions.Instr.{Instr}
-use Rattle.a32_instr.specs.declared.instructions.Instr.TheVariants.{Alu, Word, Branch, Svc}
+use Rattle.a32_instr.specs.declared.instructions.Instr.TheVariants.{Alu, Movw, Movt, Nop, Yield, Mul, Mla, Mls, Long, Clz, Extend, Rev, Word, Branch, Svc}
 use Rattle.a32_instr.specs.declared.instructions.DecodeFault.{DecodeFault}
 use Rattle.a32_instr.specs.declared.instructions.DecodeFault.TheVariants.{Undefined, Unpredictable}
 
@@ -20,6 +24,9 @@ pub record Row : Type 0 where
   pub instr : (ℕ → ℕ) → Instr
 
 -- the letters of the fields
+abbrev pub a : ℕ
+a = 97
+
 abbrev pub b : ℕ
 b = 98
 
@@ -29,11 +36,20 @@ c = 99
 abbrev pub d : ℕ
 d = 100
 
+abbrev pub h : ℕ
+h = 104
+
 abbrev pub i : ℕ
 i = 105
 
+abbrev pub k : ℕ
+k = 107
+
 abbrev pub l : ℕ
 l = 108
+
+abbrev pub m : ℕ
+m = 109
 
 abbrev pub n : ℕ
 n = 110
@@ -43,6 +59,9 @@ o = 111
 
 abbrev pub p : ℕ
 p = 112
+
+abbrev pub q : ℕ
+q = 113
 
 abbrev pub r : ℕ
 r = 114
@@ -64,39 +83,96 @@ w = 119
 -- the data-processing operations by their opcodes (DDI 0406C table A5-3)
 unfoldable pub alu_op : ℕ → AluOp
 alu_op opcode =
+    if opcode == 0 then And else
+    if opcode == 1 then Eor else
     if opcode == 2 then Sub else
+    if opcode == 3 then Rsb else
     if opcode == 4 then Add else
+    if opcode == 5 then Adc else
+    if opcode == 6 then Sbc else
+    if opcode == 7 then Rsc else
+    if opcode == 8 then Tst else
+    if opcode == 9 then Teq else
     if opcode == 10 then Cmp else
-    Mov
+    if opcode == 11 then Cmn else
+    if opcode == 12 then Orr else
+    if opcode == 13 then Mov else
+    if opcode == 14 then Bic else
+    Mvn
 
--- an opcode of one of these operations
-unfoldable pub is_alu_op : ℕ → Bool
-is_alu_op opcode = (opcode == 2) || (opcode == 4) || (opcode == 10) || (opcode == 13)
+-- the kinds of shift by their encodings (DDI 0406C A8.4.3, DecodeRegShift)
+unfoldable pub shift_kind : ℕ → ShiftKind
+shift_kind kind =
+    if kind == 0 then Lsl else
+    if kind == 1 then Lsr else
+    if kind == 2 then Asr else
+    Ror
+
+-- the long multiplications by bits 22:21 (DDI 0406C A5.2.5)
+unfoldable pub long_kind : ℕ → LongKind
+long_kind kind =
+    if kind == 0 then Umull else
+    if kind == 1 then Umlal else
+    if kind == 2 then Smull else
+    Smlal
 
 -- an operation that only sets the flags
 abbrev pub is_compare : AluOp → Bool
+is_compare And = false
+is_compare Eor = false
 is_compare Sub = false
+is_compare Rsb = false
 is_compare Add = false
+is_compare Adc = false
+is_compare Sbc = false
+is_compare Rsc = false
+is_compare Tst = true
+is_compare Teq = true
 is_compare Cmp = true
+is_compare Cmn = true
+is_compare Orr = false
 is_compare Mov = false
+is_compare Bic = false
+is_compare Mvn = false
 
 -- an operation with one operand
 abbrev pub is_move : AluOp → Bool
+is_move And = false
+is_move Eor = false
 is_move Sub = false
+is_move Rsb = false
 is_move Add = false
+is_move Adc = false
+is_move Sbc = false
+is_move Rsc = false
+is_move Tst = false
+is_move Teq = false
 is_move Cmp = false
+is_move Cmn = false
+is_move Orr = false
 is_move Mov = true
+is_move Bic = false
+is_move Mvn = true
 
 -- a compare sets the flags and names no destination; a move names no first operand
-unfoldable pub alu_fits : ℕ → ℕ → ℕ → ℕ → Bool
-alu_fits opcode sets rd rn =
-    is_alu_op opcode
-    && (not (is_compare (alu_op opcode)) || ((sets == 1) && (rd == 0)))
-    && (not (is_move (alu_op opcode)) || (rn == 0))
+unfoldable pub alu_fits : AluOp → ℕ → ℕ → ℕ → Bool
+alu_fits op sets rd rn =
+    (not (is_compare op) || ((sets == 1) && (rd == 0)))
+    && (not (is_move op) || (rn == 0))
 
 -- the flags can't be set by an instruction that writes the PC
-unfoldable pub alu_unpredictable : ℕ → ℕ → ℕ → Bool
-alu_unpredictable opcode sets rd = (sets == 1) && not (is_compare (alu_op opcode)) && (rd == 15)
+unfoldable pub alu_unpredictable : AluOp → ℕ → ℕ → Bool
+alu_unpredictable op sets rd = (sets == 1) && not (is_compare op) && (rd == 15)
+
+-- one of these registers is the PC
+unfoldable pub one_of_2_is_pc : ℕ → ℕ → Bool
+one_of_2_is_pc x y = (x == 15) || (y == 15)
+
+unfoldable pub one_of_3_is_pc : ℕ → ℕ → ℕ → Bool
+one_of_3_is_pc x y z = (x == 15) || (y == 15) || (z == 15)
+
+unfoldable pub one_of_4_is_pc : ℕ → ℕ → ℕ → ℕ → Bool
+one_of_4_is_pc x y z w = (x == 15) || (y == 15) || (z == 15) || (w == 15)
 
 -- a number of 24 bits, read as signed
 unfoldable pub signed24 : ℕ → ℤ
@@ -114,9 +190,120 @@ never f = false
 abbrev pub alu_imm : Row
 alu_imm = record {
   bits = runs (codes "cccc 001o ooos nnnn dddd rrrr iiii iiii");
-  further = λ f. alu_fits (f o) (f s) (f d) (f n);
-  unpredictable = λ f. alu_unpredictable (f o) (f s) (f d);
+  further = λ f. alu_fits (alu_op (f o)) (f s) (f d) (f n);
+  unpredictable = λ f. alu_unpredictable (alu_op (f o)) (f s) (f d);
   instr = λ f. Alu (f c) (alu_op (f o)) (f s == 1) (f d) (f n) (operand.Imm (f r) (f i));
+}
+
+-- data processing with a register that is shifted by a number (DDI 0406C A5.2.1)
+abbrev pub alu_by_num : Row
+alu_by_num = record {
+  bits = runs (codes "cccc 000o ooos nnnn dddd aaaa akk0 mmmm");
+  further = λ f. alu_fits (alu_op (f o)) (f s) (f d) (f n);
+  unpredictable = λ f. alu_unpredictable (alu_op (f o)) (f s) (f d);
+  instr = λ f. Alu (f c) (alu_op (f o)) (f s == 1) (f d) (f n) (operand.ByNum (f m) (shift_kind (f k)) (f a));
+}
+
+-- data processing with a register that is shifted by another (DDI 0406C A5.2.2)
+abbrev pub alu_by_reg : Row
+alu_by_reg = record {
+  bits = runs (codes "cccc 000o ooos nnnn dddd qqqq 0kk1 mmmm");
+  further = λ f. alu_fits (alu_op (f o)) (f s) (f d) (f n);
+  unpredictable = λ f. one_of_4_is_pc (f n) (f d) (f q) (f m);
+  instr = λ f. Alu (f c) (alu_op (f o)) (f s == 1) (f d) (f n) (operand.ByReg (f m) (shift_kind (f k)) (f q));
+}
+
+-- wide moves (DDI 0406C A5.2, A8.8.102, A8.8.106)
+abbrev pub movw : Row
+movw = record {
+  bits = runs (codes "cccc 0011 0000 iiii dddd iiii iiii iiii");
+  further = always;
+  unpredictable = λ f. f d == 15;
+  instr = λ f. Movw (f c) (f d) (f i);
+}
+
+abbrev pub movt : Row
+movt = record {
+  bits = runs (codes "cccc 0011 0100 iiii dddd iiii iiii iiii");
+  further = always;
+  unpredictable = λ f. f d == 15;
+  instr = λ f. Movt (f c) (f d) (f i);
+}
+
+-- hints (DDI 0406C A5.2.11)
+abbrev pub nop : Row
+nop = record {
+  bits = runs (codes "cccc 0011 0010 0000 1111 0000 0000 0000");
+  further = always;
+  unpredictable = never;
+  instr = λ f. Nop (f c);
+}
+
+abbrev pub yields : Row
+yields = record {
+  bits = runs (codes "cccc 0011 0010 0000 1111 0000 0000 0001");
+  further = always;
+  unpredictable = never;
+  instr = λ f. Yield (f c);
+}
+
+-- multiplications (DDI 0406C A5.2.5)
+abbrev pub mul : Row
+mul = record {
+  bits = runs (codes "cccc 0000 000s dddd 0000 mmmm 1001 nnnn");
+  further = always;
+  unpredictable = λ f. one_of_3_is_pc (f d) (f n) (f m);
+  instr = λ f. Mul (f c) (f s == 1) (f d) (f n) (f m);
+}
+
+abbrev pub mla : Row
+mla = record {
+  bits = runs (codes "cccc 0000 001s dddd aaaa mmmm 1001 nnnn");
+  further = always;
+  unpredictable = λ f. one_of_4_is_pc (f d) (f n) (f m) (f a);
+  instr = λ f. Mla (f c) (f s == 1) (f d) (f n) (f m) (f a);
+}
+
+abbrev pub mls : Row
+mls = record {
+  bits = runs (codes "cccc 0000 0110 dddd aaaa mmmm 1001 nnnn");
+  further = always;
+  unpredictable = λ f. one_of_4_is_pc (f d) (f n) (f m) (f a);
+  instr = λ f. Mls (f c) (f d) (f n) (f m) (f a);
+}
+
+abbrev pub long : Row
+long = record {
+  bits = runs (codes "cccc 0000 1kks hhhh llll mmmm 1001 nnnn");
+  further = always;
+  unpredictable = λ f. one_of_4_is_pc (f h) (f l) (f n) (f m) || (f h == f l);
+  instr = λ f. Long (f c) (long_kind (f k)) (f s == 1) (f l) (f h) (f n) (f m);
+}
+
+-- count of leading zeros (DDI 0406C A5.2.12)
+abbrev pub clz : Row
+clz = record {
+  bits = runs (codes "cccc 0001 0110 1111 dddd 1111 0001 mmmm");
+  further = always;
+  unpredictable = λ f. one_of_2_is_pc (f d) (f m);
+  instr = λ f. Clz (f c) (f d) (f m);
+}
+
+-- extended parts and reversed bytes (DDI 0406C A5.4.3)
+abbrev pub extend : Row
+extend = record {
+  bits = runs (codes "cccc 0110 1u1h 1111 dddd rr00 0111 mmmm");
+  further = always;
+  unpredictable = λ f. one_of_2_is_pc (f d) (f m);
+  instr = λ f. Extend (f c) (f u == 1) (f h == 1) (f d) (f m) (f r);
+}
+
+abbrev pub rev : Row
+rev = record {
+  bits = runs (codes "cccc 0110 1011 1111 dddd 1111 0011 mmmm");
+  further = always;
+  unpredictable = λ f. one_of_2_is_pc (f d) (f m);
+  instr = λ f. Rev (f c) (f d) (f m);
 }
 
 -- load and store of a word with an immediate offset and no write-back (DDI 0406C A5.3)
@@ -147,7 +334,9 @@ svc = record {
 }
 
 abbrev pub table : List Row
-table = alu_imm ∷ word_imm ∷ branch ∷ svc ∷ []
+table =
+    alu_imm ∷ alu_by_num ∷ alu_by_reg ∷ movw ∷ movt ∷ nop ∷ yields ∷ mul ∷ mla ∷ mls ∷ long ∷ clz ∷ extend ∷ rev
+    ∷ word_imm ∷ branch ∷ svc ∷ []
 
 -- The meaning of a word.
 

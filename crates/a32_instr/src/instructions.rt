@@ -1,21 +1,85 @@
+ghost use Rattle.std.specs.Prelude.{◌≡◌};
+ghost use Rattle.a32_instr.specs.Table.{is_compare, is_move};
+
 use crate::conditions::Cond;
 use crate::registers::Reg;
 use thiserror::Error;
 
-/// A data-processing operation (DDI 0406C A5.2.1, table A5-3).
+/// A data-processing operation, in the order of the opcodes (DDI 0406C A5.2.1, table A5-3).
 #[derive(Clone, Copy, Debug, PartialEq, Eq)]
 pub enum AluOp {
+    And,
+    Eor,
     Sub,
+    Rsb,
     Add,
+    Adc,
+    Sbc,
+    Rsc,
+    Tst,
+    Teq,
     Cmp,
+    Cmn,
+    Orr,
     Mov,
+    Bic,
+    Mvn,
 }
 
-/// The second operand of a data-processing instruction (DDI 0406C A5.2.4).
+impl AluOp {
+    /// Whether the operation only sets the flags.
+    pub fn is_compare(self) -> bool
+        ensures { result ≡ is_compare self }
+    {
+        matches!(self, AluOp::Tst | AluOp::Teq | AluOp::Cmp | AluOp::Cmn)
+    }
+
+    /// Whether the operation has one operand.
+    pub fn is_move(self) -> bool
+        ensures { result ≡ is_move self }
+    {
+        matches!(self, AluOp::Mov | AluOp::Mvn)
+    }
+}
+
+/// A kind of shift, in the order of its encodings (DDI 0406C A8.4.1).
+#[derive(Clone, Copy, Debug, PartialEq, Eq)]
+pub enum ShiftKind {
+    Lsl,
+    Lsr,
+    Asr,
+    Ror,
+}
+
+/// The second operand of a data-processing instruction (DDI 0406C A5.2.4, A8.4).
 #[derive(Clone, Copy, Debug, PartialEq, Eq)]
 pub enum Operand2 {
     /// `imm8` turned right by twice `turn`, which is at most 15.
-    Imm { turn: u8, imm8: u8 },
+    Imm {
+        turn: u8,
+        imm8: u8,
+    },
+    /// A register shifted by a number, at most 31. At LSR and ASR 0 stands for 32, at ROR for RRX.
+    ByNum {
+        rm: Reg,
+        kind: ShiftKind,
+        amount: u8,
+    },
+    /// A register shifted by the low byte of another.
+    ByReg {
+        rm: Reg,
+        kind: ShiftKind,
+        rs: Reg,
+    },
+}
+
+/// A multiplication of 64 bits (DDI 0406C A8.8.257, A8.8.255, A8.8.189, A8.8.178).
+#[derive(Clone, Copy, Debug, PartialEq, Eq)]
+pub enum LongKind {
+    Umull,
+    Umlal,
+    Smull,
+    Smlal,
 }
 
 /// What is added to the base register of a load or a store, or taken from it (DDI 0406C A5.3).
@@ -43,6 +107,84 @@ pub enum Instr {
         rd: Reg,
         rn: Reg,
         operand: Operand2,
+    },
+    /// MOVW: `imm` into a register (DDI 0406C A8.8.102, encoding A2).
+    Movw {
+        cond: Cond,
+        rd: Reg,
+        imm: u16,
+    },
+    /// MOVT: `imm` into the upper half of a register (DDI 0406C A8.8.106).
+    Movt {
+        cond: Cond,
+        rd: Reg,
+        imm: u16,
+    },
+    /// NOP (DDI 0406C A8.8.119).
+    Nop {
+        cond: Cond,
+    },
+    /// YIELD (DDI 0406C A8.8.426).
+    Yield {
+        cond: Cond,
+    },
+    /// MUL: `rn` times `rm` (DDI 0406C A8.8.114).
+    Mul {
+        cond: Cond,
+        s: bool,
+        rd: Reg,
+        rn: Reg,
+        rm: Reg,
+    },
+    /// MLA: `rn` times `rm`, plus `ra` (DDI 0406C A8.8.100).
+    Mla {
+        cond: Cond,
+        s: bool,
+        rd: Reg,
+        rn: Reg,
+        rm: Reg,
+        ra: Reg,
+    },
+    /// MLS: `ra` minus `rn` times `rm` (DDI 0406C A8.8.101).
+    Mls {
+        cond: Cond,
+        rd: Reg,
+        rn: Reg,
+        rm: Reg,
+        ra: Reg,
+    },
+    /// UMULL, UMLAL, SMULL and SMLAL: `rn` times `rm`, with 64 bits in `hi` and `lo`.
+    Long {
+        cond: Cond,
+        kind: LongKind,
+        s: bool,
+        lo: Reg,
+        hi: Reg,
+        rn: Reg,
+        rm: Reg,
+    },
+    /// CLZ: how many leading bits of `rm` are zero (DDI 0406C A8.8.33).
+    Clz {
+        cond: Cond,
+        rd: Reg,
+        rm: Reg,
+    },
+    /// SXTB, SXTH, UXTB and UXTH: the low byte of `rm`, or with `half` its low half, once `rm` is
+    /// turned right by 8 times `turn`, which is at most 3 (DDI 0406C A8.8.233, A8.8.235, A8.8.274,
+    /// A8.8.276).
+    Extend {
+        cond: Cond,
+        unsigned: bool,
+        half: bool,
+        rd: Reg,
+        rm: Reg,
+        turn: u8,
+    },
+    /// REV: the bytes of `rm` the other way round (DDI 0406C A8.8.145).
+    Rev {
+        cond: Cond,
+        rd: Reg,
+        rm: Reg,
     },
     /// LDR, STR, LDRB and STRB (DDI 0406C A5.3).
     Word {

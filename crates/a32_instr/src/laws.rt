@@ -4,7 +4,9 @@ ghost use Rattle.std.specs.List.{list_all};
 ghost use Rattle.a32_instr.specs.Bits.{width_of};
 ghost use Rattle.a32_instr.specs.Table.{table, meaning, AreApart};
 
-use crate::instructions::{AluOp, DecodeFault, Index, Instr, Offset, Operand2};
+use crate::instructions::{
+    AluOp, DecodeFault, Index, Instr, LongKind, Offset, Operand2, ShiftKind,
+};
 
 /// Each row of the table has 32 bits.
 pub fn rows_have_32_bits()
@@ -19,7 +21,7 @@ pub fn no_word_fits_two_rows()
 /// Worked words, computed by the table: `mov r0, #0`, `subs r2, r2, #1`, `cmp r1, #3`, `ldr r0, [r1]`,
 /// `str r0, [r1, #-4]`, a branch to itself and `svc #0`; a `movs pc, #0`, which is unpredictable; and words that
 /// are undefined: a condition field of 15, a compare that sets no flags, and a branch with a link.
-#[tactic(auto, unfolding(crate::specs::Table::meaning, crate::specs::Table::alu_op, crate::specs::Table::is_alu_op, crate::specs::Table::alu_fits, crate::specs::Table::alu_unpredictable, crate::specs::Table::signed24))]
+#[tactic(auto, unfolding(crate::specs::Table::meaning, crate::specs::Table::alu_op, crate::specs::Table::alu_fits, crate::specs::Table::alu_unpredictable, crate::specs::Table::signed24))]
 pub fn meanings_of_words()
     ensures moves { meaning table 0xE3A00000 ≡ Ok (Instr.Alu 14 AluOp.Mov false 0 0 (Operand2.Imm 0 0)) }
     ensures subtracts { meaning table 0xE2522001 ≡ Ok (Instr.Alu 14 AluOp.Sub true 2 2 (Operand2.Imm 0 1)) }
@@ -30,6 +32,38 @@ pub fn meanings_of_words()
     ensures calls { meaning table 0xEF000000 ≡ Ok (Instr.Svc 14 0) }
     ensures unpredictable { meaning table 0xE3B0F000 ≡ Err DecodeFault.Unpredictable }
     ensures no_condition { meaning table 0xF3A00000 ≡ Err DecodeFault.Undefined }
-    ensures no_flags { meaning table 0xE3410003 ≡ Err DecodeFault.Undefined }
+    ensures no_flags { meaning table 0xE1010003 ≡ Err DecodeFault.Undefined }
     ensures linked { meaning table 0xEBFFFFFE ≡ Err DecodeFault.Undefined }
+{}
+
+/// Worked words of data processing with registers, and of wide moves and hints: `adds r0, r0, #1`,
+/// `mov r1, #8192`, `rsb r3, r0, #1`, `mov r10, r4, lsr #28`, `add r10, r9, r10, lsl #3`, `mvns r1, r2, asr r3`,
+/// `movw r5, #26125`, `movt r5, #25`, `nop` and `yield`.
+#[tactic(auto, unfolding(crate::specs::Table::meaning, crate::specs::Table::alu_op, crate::specs::Table::shift_kind, crate::specs::Table::alu_fits, crate::specs::Table::alu_unpredictable, crate::specs::Table::one_of_4_is_pc))]
+pub fn meanings_of_operations()
+    ensures adds { meaning table 0xE2900001 ≡ Ok (Instr.Alu 14 AluOp.Add true 0 0 (Operand2.Imm 0 1)) }
+    ensures turns { meaning table 0xE3A01A02 ≡ Ok (Instr.Alu 14 AluOp.Mov false 1 0 (Operand2.Imm 10 2)) }
+    ensures reverses { meaning table 0xE2603001 ≡ Ok (Instr.Alu 14 AluOp.Rsb false 3 0 (Operand2.Imm 0 1)) }
+    ensures shifts_right { meaning table 0xE1A0AE24 ≡ Ok (Instr.Alu 14 AluOp.Mov false 10 0 (Operand2.ByNum 4 ShiftKind.Lsr 28)) }
+    ensures shifts_left { meaning table 0xE089A18A ≡ Ok (Instr.Alu 14 AluOp.Add false 10 9 (Operand2.ByNum 10 ShiftKind.Lsl 3)) }
+    ensures shifts_by_register { meaning table 0xE1F01352 ≡ Ok (Instr.Alu 14 AluOp.Mvn true 1 0 (Operand2.ByReg 2 ShiftKind.Asr 3)) }
+    ensures moves_wide { meaning table 0xE306560D ≡ Ok (Instr.Movw 14 5 26125) }
+    ensures moves_top { meaning table 0xE3405019 ≡ Ok (Instr.Movt 14 5 25) }
+    ensures does_nothing { meaning table 0xE320F000 ≡ Ok (Instr.Nop 14) }
+    ensures gives_way { meaning table 0xE320F001 ≡ Ok (Instr.Yield 14) }
+{}
+
+/// Worked words of multiplications, CLZ, extends and REV: `mla r4, r4, r5, r6`, `muls r1, r2, r3`,
+/// `mls r1, r2, r3, r4`, `smlals r1, r2, r3, r4`, `clz r0, r1`, `rev r0, r1` and `uxtb r0, r1, ror #8`; and a
+/// `umull r1, r1, r2, r3`, which is unpredictable.
+#[tactic(auto, unfolding(crate::specs::Table::meaning, crate::specs::Table::alu_op, crate::specs::Table::long_kind, crate::specs::Table::alu_fits, crate::specs::Table::alu_unpredictable, crate::specs::Table::one_of_2_is_pc, crate::specs::Table::one_of_3_is_pc, crate::specs::Table::one_of_4_is_pc))]
+pub fn meanings_of_products_and_parts()
+    ensures adds { meaning table 0xE0246594 ≡ Ok (Instr.Mla 14 false 4 4 5 6) }
+    ensures multiplies { meaning table 0xE0110392 ≡ Ok (Instr.Mul 14 true 1 2 3) }
+    ensures subtracts { meaning table 0xE0614392 ≡ Ok (Instr.Mls 14 1 2 3 4) }
+    ensures multiplies_long { meaning table 0xE0F21493 ≡ Ok (Instr.Long 14 LongKind.Smlal true 1 2 3 4) }
+    ensures counts { meaning table 0xE16F0F11 ≡ Ok (Instr.Clz 14 0 1) }
+    ensures reverses { meaning table 0xE6BF0F31 ≡ Ok (Instr.Rev 14 0 1) }
+    ensures extends { meaning table 0xE6EF0471 ≡ Ok (Instr.Extend 14 true false 0 1 1) }
+    ensures one_destination { meaning table 0xE0811392 ≡ Err DecodeFault.Unpredictable }
 {}

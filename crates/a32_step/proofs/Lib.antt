@@ -1,3 +1,4 @@
+pub mod Amounts
 pub mod Follows
 mod Rotation
 pub mod Tested

@@ -4,7 +4,7 @@ use Rattle.std.specs.Int.Bits.{or_shifted_r, or_self}
 use Rattle.std.proofs.lemmas.Nat.{mod-pow-add, shl-shr, pow-add, pow_pos}
 use Rattle.std.proofs.Math.Nat.{mul-mod_left, div-lt_iff_lt-mul}
 use Rattle.std.specs.Int.{w32, rotate_right}
-use Rattle.a32_instr.specs.DataProcessing.{turned, rotated_right}
+use Rattle.a32_instr.specs.Shift.{turned, rotated_right}
 
 -- the bits that leave at the bottom come in at the top
 pub joined : (x k j : ℕ) → x < 2 ^ (k + j) → bit_or (x / 2 ^ k) (x * 2 ^ j % 2 ^ (k + j)) ≡ x / 2 ^ k + x % 2 ^ k * 2 ^ j

@@ -1,5 +1,5 @@
 -- What a machine asks for has passed its tests.
-use Rattle.std.proofs.Common.{◌≡◌, ◌<◌, ◌+◌, ◌^◌, slice_index, ℕ, Bool, true, false, List, [], ◌∷◌, Option, None, Some, Result, Ok, Err, arith, refl, sym, subst, if◌then◌else◌, ◌==◌, ◌%◌}
+use Rattle.std.proofs.Common.{◌≡◌, ◌<◌, ◌+◌, ◌*◌, ◌^◌, slice_index, ℕ, Bool, true, false, List, [], ◌∷◌, Option, None, Some, Result, Ok, Err, arith, refl, sym, subst, if◌then◌else◌, ◌==◌, ◌%◌}
 use Rattle.llsc_base.specs.Memory.{size_bytes}
 use Rattle.llsc_base.specs.Images.{Program, bar_of}
 use Rattle.llsc_base.specs.declared.access.Bar.{Bar}
@@ -8,13 +8,17 @@ use Rattle.a32_instr.specs.declared.outside.Ask.{Ask}
 use Rattle.a32_instr.specs.declared.outside.Ask.TheVariants.{Load, Store}
 use Rattle.a32_instr.specs.declared.outside.Stop.{Stop}
 use Rattle.a32_instr.specs.declared.instructions.Instr.{Instr}
-use Rattle.a32_instr.specs.declared.instructions.Instr.TheVariants.{Alu, Word, Branch, Svc}
+use Rattle.a32_instr.specs.declared.instructions.Instr.TheVariants.{Alu, Movw, Movt, Nop, Yield, Mul, Mla, Mls, Long, Clz, Extend, Rev, Word, Branch, Svc}
 use Rattle.a32_instr.specs.State.{State, Effect, completes, low32, register, advanced, writes}
 use Rattle.a32_instr.specs.declared.instructions.AluOp.{AluOp}
 use Rattle.a32_instr.specs.declared.arithmetic.Computed.{Computed}
 use Rattle.a32_instr.specs.Condition.{passes}
 use Rattle.a32_instr.specs.Table.{is_compare}
 use Rattle.a32_instr.specs.DataProcessing.{operand_of, computed, with_flags, alu_done}
+use Rattle.std.specs.Int.{w32, leading_zeros}
+use Rattle.a32_instr.specs.Shift.{top_bit, rotated_right}
+use Rattle.a32_instr.specs.Multiply.{multiplied, product_flags, less_product}
+use Rattle.a32_instr.specs.Moves.{with_top, reversed, extended, width_of}
 use Rattle.a32_instr.specs.LoadStore.{asks_unless, loads, stores, accesses, moved, access_size, part_of}
 use Rattle.a32_instr.specs.Effect.{acts, condition_of}
 use Rattle.a32_step.specs.declared.phases.Wanted.{Wanted}
@@ -65,10 +69,29 @@ alu_tested program replies op sets rd result state =
     chosen program replies (is_compare op) (completes (advanced (with_flags sets result.flags state))) (writes (with_flags sets result.flags state) rd result.value)
     tt (writes_tested program replies (with_flags sets result.flags state) rd result.value)
 
+product_tested : (program : Program) (replies : List ℕ) (sets : Bool) (rd value : ℕ) (state : State) → IsTested program replies (wanted_of (multiplied sets rd value state))
+product_tested program replies sets rd value state =
+    writes_tested program replies (with_flags sets (product_flags (top_bit value) value state.flags) state) rd value
+
 -- what an instruction asks for is tested
 acts_tested : (instr : Instr) (program : Program) (replies : List ℕ) (state : State) → AreWords state.regs → IsTested program replies (wanted_of (acts instr program replies state))
 acts_tested (Alu cond op s rd rn operand) program replies state words =
     alu_tested program replies op s rd (computed op (register state rn) (operand_of operand state) state.flags) state
+acts_tested (Movw cond rd imm) program replies state words = writes_tested program replies state rd imm
+acts_tested (Movt cond rd imm) program replies state words = writes_tested program replies state rd (with_top (register state rd) imm)
+acts_tested (Nop cond) program replies state words = tt
+acts_tested (Yield cond) program replies state words = tt
+acts_tested (Mul cond s rd rn rm) program replies state words =
+    product_tested program replies s rd (low32 (register state rn * register state rm)) state
+acts_tested (Mla cond s rd rn rm ra) program replies state words =
+    product_tested program replies s rd (low32 (register state rn * register state rm + register state ra)) state
+acts_tested (Mls cond rd rn rm ra) program replies state words =
+    writes_tested program replies state rd (less_product (register state ra) (register state rn) (register state rm))
+acts_tested (Long cond kind s lo hi rn rm) program replies state words = tt
+acts_tested (Clz cond rd rm) program replies state words = writes_tested program replies state rd (leading_zeros w32 (register state rm))
+acts_tested (Extend cond unsigned half rd rm turn) program replies state words =
+    writes_tested program replies state rd (extended unsigned (width_of half) (rotated_right (register state rm) (8 * turn)))
+acts_tested (Rev cond rd rm) program replies state words = writes_tested program replies state rd (reversed (register state rm))
 acts_tested (Word cond load byte index rn rt offset) program replies state words =
     word_tested program load byte (moved (register state rn) offset) rt replies state words
 acts_tested (Branch cond link distance) program replies state words = tt

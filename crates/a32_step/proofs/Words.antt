@@ -1,5 +1,5 @@
 -- Registers hold 32 bits.
-use Rattle.std.proofs.Common.{◌<◌, ◌^◌, slice_set, ℕ, zero, suc, List, [], ◌∷◌, arith}
+use Rattle.std.proofs.Common.{◌≡◌, ◌≤◌, length, refl, ap, ◌<◌, ◌^◌, slice_set, ℕ, zero, suc, List, [], ◌∷◌, arith}
 use Rattle.a32_step.specs.Words.{AreWords}
 
 pub words_none : AreWords []
@@ -16,3 +16,9 @@ words_set (x ∷ xs) zero v words small zero = small
 words_set (x ∷ xs) zero v words small (suc j) = words (suc j)
 words_set (x ∷ xs) (suc i) v words small zero = words zero
 words_set (x ∷ xs) (suc i) v words small (suc j) = words_set xs i v (λ k. words (suc k)) small j
+
+-- a place past the end is none of them
+pub set_past : (xs : List ℕ) (i v : ℕ) → length xs ≤ i → slice_set xs i v ≡ xs
+set_past [] i v past = refl
+set_past (x ∷ xs) zero v past = absurd (omega arith)
+set_past (x ∷ xs) (suc i) v past = ap (λ (ys : List ℕ). x ∷ ys) (set_past xs i v (omega arith))

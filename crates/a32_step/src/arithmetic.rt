@@ -1,13 +1,14 @@
-//! Sums and rotations of 32-bit numbers, and the data-processing operations on them.
-ghost use Rattle.std.specs.Prelude.{◌≡◌, ◌<◌, ◌≤◌, ◌*◌, ℤ, ◌+ℤ◌, ◌^◌, ◌-◌, pos};
-ghost use Rattle.a32_instr.specs.Sum.{signed, is_out_of_range, sum_of, complement};
-ghost use Rattle.a32_instr.specs.Table.{is_compare};
-ghost use Rattle.a32_instr.specs.DataProcessing.{top_bit, rotated_right, immediate, summed, logical, computed};
+//! Sums of 32-bit numbers, and the data-processing operations on them.
+ghost use Rattle.std.specs.Prelude.{◌≡◌, ◌<◌, ◌+ℤ◌, pos};
+ghost use Rattle.a32_instr.specs.Sum.{signed, is_out_of_range, sum_of};
+ghost use Rattle.a32_instr.specs.DataProcessing.{summed, logical, computed, one_if};
 
+use crate::shifts::is_negative;
 use a32_instr::{AluOp, Computed, Flags, Shifted, Sum};
 
 /// A 32-bit number read as signed.
-fn as_signed(x: u32) -> i64
+#[inline(always)]
+pub fn as_signed(x: u32) -> i64
     ensures { result ≡ signed x }
 {
     if x < 1 << 31 {
@@ -37,41 +38,6 @@ pub fn sum(x: u32, y: u32, carry: u32) -> Sum
         value: (wide & 0xffff_ffff) as u32,
         carry: wide >= 1 << 32,
         overflow: overflows(x, y, carry),
-    }
-}
-
-/// Bit 31.
-pub fn is_negative(x: u32) -> bool
-    ensures { result ≡ top_bit x }
-{
-    x >= 1 << 31
-}
-
-/// A number rotated right (DDI 0406C A2.2.1, ROR).
-pub fn rotate_right(x: u32, amount: u32) -> u32
-    ensures { result ≡ rotated_right x amount }
-{
-    x.rotate_right(amount)
-}
-
-/// Whether an operation only sets the flags.
-pub fn is_compare(op: AluOp) -> bool
-    ensures { result ≡ is_compare op }
-{
-    match op {
-        AluOp::Cmp => true,
-        AluOp::Sub | AluOp::Add | AluOp::Mov => false,
-    }
-}
-
-/// An immediate operand: one that isn't turned keeps the carry (DDI 0406C A5.2.4).
-pub fn immediate(turn: u8, imm8: u8, carry: bool) -> Shifted
-    ensures { result ≡ immediate turn imm8 carry }
-{
-    let value = rotate_right(u32::from(imm8), 2 * u32::from(turn));
-    Shifted {
-        value,
-        carry: if turn == 0 { carry } else { is_negative(value) },
     }
 }
 
@@ -105,13 +71,32 @@ fn of_logic(value: u32, carry: bool, flags: Flags) -> Computed
     }
 }
 
+/// A flag as a number.
+#[inline(always)]
+fn as_number(flag: bool) -> u32
+    ensures value { result ≡ one_if flag }
+    ensures bound { result < 2 }
+{
+    u32::from(flag)
+}
+
 /// A data-processing operation (DDI 0406C A8.8) on its first operand and its second.
+#[inline]
 pub fn compute(op: AluOp, x: u32, y: Shifted, flags: Flags) -> Computed
     ensures { result ≡ computed op x y flags }
 {
     match op {
+        AluOp::And | AluOp::Tst => of_logic(x & y.value, y.carry, flags),
+        AluOp::Eor | AluOp::Teq => of_logic(x ^ y.value, y.carry, flags),
         AluOp::Sub | AluOp::Cmp => of_sum(sum(x, !y.value, 1)),
-        AluOp::Add => of_sum(sum(x, y.value, 0)),
+        AluOp::Rsb => of_sum(sum(!x, y.value, 1)),
+        AluOp::Add | AluOp::Cmn => of_sum(sum(x, y.value, 0)),
+        AluOp::Adc => of_sum(sum(x, y.value, as_number(flags.c))),
+        AluOp::Sbc => of_sum(sum(x, !y.value, as_number(flags.c))),
+        AluOp::Rsc => of_sum(sum(!x, y.value, as_number(flags.c))),
+        AluOp::Orr => of_logic(x | y.value, y.carry, flags),
         AluOp::Mov => of_logic(y.value, y.carry, flags),
+        AluOp::Bic => of_logic(x & !y.value, y.carry, flags),
+        AluOp::Mvn => of_logic(!y.value, y.carry, flags),
     }
 }

@@ -35,6 +35,17 @@ pub fn condition(instr: &Instr) -> Cond
 {
     match instr {
         Instr::Alu { cond, .. } => *cond,
+        Instr::Movw { cond, .. } => *cond,
+        Instr::Movt { cond, .. } => *cond,
+        Instr::Nop { cond } => *cond,
+        Instr::Yield { cond } => *cond,
+        Instr::Mul { cond, .. } => *cond,
+        Instr::Mla { cond, .. } => *cond,
+        Instr::Mls { cond, .. } => *cond,
+        Instr::Long { cond, .. } => *cond,
+        Instr::Clz { cond, .. } => *cond,
+        Instr::Extend { cond, .. } => *cond,
+        Instr::Rev { cond, .. } => *cond,
         Instr::Word { cond, .. } => *cond,
         Instr::Branch { cond, .. } => *cond,
         Instr::Svc { cond, .. } => *cond,

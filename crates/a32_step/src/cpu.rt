@@ -1,6 +1,6 @@
 //! One guest thread's core.
 ghost use Rattle.std.specs.Prelude.{◌≡◌, ◌≢◌, ◌<◌, ◌≤◌, ◌%◌, ◌+◌, ◌^◌, length, slice_index, IsTrue, if◌then◌else◌, false, [], None, Some};
-ghost use Rattle.a32_instr.specs.State.{register, advanced, jumps, writes, answered, stops};
+ghost use Rattle.a32_instr.specs.State.{register, with_register, advanced, jumps, writes, answered, stops};
 ghost use Rattle.a32_instr.specs.Effect.{acts, effect_of};
 ghost use Rattle.llsc_base.specs.Images.{word_at};
 ghost use Rattle.a32_step.specs.Words.{AreWords};
@@ -18,6 +18,8 @@ use std::marker::Model;
 mod branches;
 mod data_processing;
 mod load_store;
+mod moves;
+mod multiply;
 
 /// The core of one guest thread: r0 to r14, the flags, the PC, and where it stands in its
 /// instruction. Registers, flags and PC keep their values until an instruction is complete.
@@ -132,6 +134,17 @@ impl Cpu {
             self.pc.wrapping_add(8)
         } else {
             self.regs[num as usize]
+        }
+    }
+
+    /// One of r0 to r14 set to a value.
+    #[tactic(auto, using(crate::proofs::Words::words_set, crate::proofs::Words::set_past))]
+    fn set(&mut self, r: Reg, value: u32)
+        ensures { self.new ≡ record self.old { state = with_register self.old.state r value } }
+    {
+        let num = r.num() as usize;
+        if num < self.regs.len() {
+            self.regs[num] = value;
         }
     }
 
@@ -266,6 +279,38 @@ impl Cpu {
                 operand,
                 ..
             } => self.alu(op, s, rd, rn, operand),
+            Instr::Movw { rd, imm, .. } => self.move_wide(rd, imm),
+            Instr::Movt { rd, imm, .. } => self.move_top(rd, imm),
+            Instr::Nop { .. } | Instr::Yield { .. } => self.advance(),
+            Instr::Mul { s, rd, rn, rm, .. } => self.multiply(s, rd, rn, rm),
+            Instr::Mla {
+                s,
+                rd,
+                rn,
+                rm,
+                ra,
+                ..
+            } => self.multiply_and_add(s, rd, rn, rm, ra),
+            Instr::Mls { rd, rn, rm, ra, .. } => self.multiply_and_subtract(rd, rn, rm, ra),
+            Instr::Long {
+                kind,
+                s,
+                lo,
+                hi,
+                rn,
+                rm,
+                ..
+            } => self.multiply_long(kind, s, lo, hi, rn, rm),
+            Instr::Clz { rd, rm, .. } => self.count_zeros(rd, rm),
+            Instr::Extend {
+                unsigned,
+                half,
+                rd,
+                rm,
+                turn,
+                ..
+            } => self.extend(unsigned, half, rd, rm, turn),
+            Instr::Rev { rd, rm, .. } => self.reverse(rd, rm),
             Instr::Word {
                 load,
                 byte,

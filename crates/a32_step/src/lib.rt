@@ -11,8 +11,11 @@ mod arithmetic;
 mod conditions;
 mod cpu;
 mod operands;
+mod parts;
 mod phases;
+mod products;
 mod replies;
+mod shifts;
 
 pub use a32_instr::{Ask, CallAsk, Flags, Stop};
 pub use cpu::Cpu;

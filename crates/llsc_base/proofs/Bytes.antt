@@ -1,6 +1,6 @@
 -- The numbers that bytes spell, and memory after a store.
 use Rattle.std.proofs.Common.{◌≡◌, ℕ, zero, suc, ◌+◌, ◌/◌, ◌%◌, ◌^◌, ◌<◌, ◌≤◌, List, [], ◌∷◌, ◌++◌, length, take, drop, slice_index, refl, sym, ap, ◌∙◌, arith, length-append, length-take, length-drop, inl, inr, subst}
-use Rattle.std.proofs.lemmas.List.{drop_more, get_or-take, get_or-drop, get_or_past}
+use Rattle.std.proofs.lemmas.List.{append_assoc, drop_at, take_at, length-take-le, drop_more, get_or-take, get_or-drop, get_or_past}
 use Rattle.std.proofs.lemmas.Bool.{cases_lt}
 use Rattle.std.proofs.Math.Nat.{div-div-eq-div-mul, div-one, one-le-pow, pow-suc, pow-succ'}
 use Rattle.std.proofs.Math.Arith.{mod-mul}
@@ -156,3 +156,15 @@ length-stored memory place value inside = omega (arith, length-append (take plac
 
 -- what loads and stores are shown by
 pub ruleset byte_rules = (number_of-read_1, number_of-read_2, number_of-read_4, number_of-read_8, bytes_of-1, bytes_of-2, bytes_of-4, bytes_of-8)
+
+-- a store inside puts the number there, but for what is above its size
+pub value_at-stored : (memory : List ℕ) (place : Place) (value : ℕ)
+    → place.addr + size_bytes place.size ≤ length memory
+    → value_at (stored memory place value) place ≡ value % 256 ^ size_bytes place.size
+value_at-stored memory place value inside =
+    let front = take place.addr memory in
+    let bytes = bytes_of (size_bytes place.size) value in
+    let rest = drop (place.addr + size_bytes place.size) memory in
+    let long : length front ≡ place.addr = length-take-le place.addr memory (omega arith) in
+    rw (append_assoc front bytes rest, drop_at front (bytes ++ rest) place.addr long, take_at bytes rest (size_bytes place.size) (length-bytes_of _ value))
+    (number_of-bytes_of _ value)

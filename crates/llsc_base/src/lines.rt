@@ -60,6 +60,6 @@ mod tests {
         let mut line = Line::new();
         line.push(b'h');
         line.push(b'i');
-        assert_eq!(rt; line.bytes(), b"hi");
+        assert_eq!(rt; line.bytes(), b"hi".as_slice());
     }
 }

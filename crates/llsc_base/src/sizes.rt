@@ -1,6 +1,6 @@
 ghost use Rattle.std.specs.Prelude.{◌≡◌, ◌+◌, ◌*◌, ◌%◌, ◌^◌, ◌≤◌, MatchResult, Some, None, IsTrue};
 ghost use Rattle.std.specs.Int.{is_power_of_two};
-ghost use Rattle.llsc_base.specs.Sizes.{numbers, room_of, size_fault, size_fault_name};
+ghost use Rattle.llsc_base.specs.Sizes.{AreInRange, numbers, room_of, size_fault, size_fault_name};
 
 use std::marker::Model;
 use thiserror::Error;
@@ -95,6 +95,7 @@ impl MachineSize {
         ensures least { 65536 ≤ result }
         ensures most { result ≤ 16777216 }
         ensures pages { result % 4096 ≡ 0 }
+        ensures in_range { AreInRange self.now }
     {
         self.mem
     }
@@ -130,6 +131,8 @@ impl MachineSize {
     pub fn room(&self) -> u32
         ensures number { result ≡ room_of self.now }
         ensures whole { result + 4096 * self.now.threads ≡ self.now.mem }
+        ensures memory { self.now.mem ≤ 16777216 }
+        ensures threads { self.now.threads ≤ 16 }
         ensures pages { result % 4096 ≡ 0 }
     {
         self.mem - 4096 * self.threads

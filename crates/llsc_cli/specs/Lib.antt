@@ -2,3 +2,11 @@ pub mod Host
 pub mod MemoryHost
 pub mod MemoryHostInside
 pub mod Request
+pub mod Run
+pub mod Solo
+pub mod Working
+pub mod Calls
+pub mod Report
+pub mod ReportText
+pub mod Answer
+pub mod Reads

@@ -1,13 +1,14 @@
 //! The host of the program as it runs: files by their paths, and standard output.
 //!
 //! This is the trusted edge. No clause says what a file holds or what reaches the output.
-ghost use Rattle.std.specs.Prelude.{◌≡◌, ◌≤◌, [], length, IfOk};
+ghost use Rattle.std.specs.Prelude.{◌≡◌, ℕ, ◌<◌, ◌≤◌, List, [], length, IfOk, IsTrue};
+ghost use Rattle.llsc_cli.specs.Host.{Adds, AddsFront, AreBytes};
 
 use crate::host::{Failed, Host, ReadFault};
 use std::alloc::Global;
-use std::fs;
-use std::io::{ErrorKind, Read};
+use std::io::{ErrorKind, Read, Write};
 use std::rt::Files;
+use std::{fs, io};
 
 // How many bytes one read asks for at most.
 const PIECE: usize = 8192;
@@ -69,7 +70,7 @@ impl<R: Files + Print> Host for RealHost<R> {
     }
 
     fn write(&mut self, bytes: &[u8]) -> Result<(), Failed> {
-        if write_whole(&self.runtime, bytes) {
+        if write_whole(&mut io::writer(&self.runtime), bytes) {
             return Ok(());
         }
         self.write_faults = self.write_faults.saturating_add(1);
@@ -77,9 +78,12 @@ impl<R: Files + Print> Host for RealHost<R> {
     }
 }
 
-// All that the reader gives, of `most` bytes at most. It takes no more than one byte past these.
+// All that the reader has left, of `most` bytes at most. It takes no more than one byte past these.
 fn read_within<R: Read>(alloc: Global, file: &mut R, most: usize) -> Result<Vec<u8>, ReadFault>
-    ensures { IfOk result (λ bytes. length bytes.items ≤ most) }
+    ensures whole { IfOk result (λ bytes. AreBytes (R.remaining file.old) bytes.items) }
+    ensures fits { IfOk result (λ bytes. length bytes.items ≤ most) }
+    ensures too_long { result ≡ Err ReadFault.FileTooLong →
+        (bytes : List ℕ) × AreBytes (R.remaining file.old) bytes × (most < length bytes) }
 {
     let mut bytes = Vec::new(alloc);
     let mut piece = [0u8; PIECE];
@@ -89,9 +93,11 @@ fn read_within<R: Read>(alloc: Global, file: &mut R, most: usize) -> Result<Vec<
         match file.read(&mut piece[..wanted]) {
             Ok(0) => return Ok(bytes),
             Ok(count) if count > room => return Err(ReadFault::FileTooLong),
-            Ok(count) => bytes
-                .extend_from_slice(&piece[..count])
-                .map_err(|_| ReadFault::Memory)?,
+            Ok(count) => {
+                if bytes.extend_from_slice(&piece[..count]).is_err() {
+                    return Err(ReadFault::Memory);
+                }
+            }
             Err(error) if matches!(error.kind(), ErrorKind::Interrupted) => {}
             Err(_) => return Err(ReadFault::Failed),
         }
@@ -99,14 +105,17 @@ fn read_within<R: Read>(alloc: Global, file: &mut R, most: usize) -> Result<Vec<
     Err(ReadFault::Failed)
 }
 
-// Writes all of the bytes, each part at once, or answers false.
-fn write_whole<R: Print>(runtime: &R, bytes: &[u8]) -> bool {
+// Writes all of the bytes, or answers false after some of them.
+fn write_whole<W: Write>(output: &mut W, bytes: &[u8]) -> bool
+    ensures whole { IsTrue result → Adds (W.contents output.old) (W.contents output.new) bytes.now }
+    ensures front { AddsFront (W.contents output.old) (W.contents output.new) bytes.now }
+{
     let mut done = 0;
     for _ in 0..u64::MAX {
         if done >= bytes.len() {
             return true;
         }
-        match runtime.write_some(&bytes[done..]) {
+        match output.write(&bytes[done..]) {
             Ok(0) => return false,
             Ok(count) => done += count,
             Err(error) if matches!(error.kind(), ErrorKind::Interrupted) => {}

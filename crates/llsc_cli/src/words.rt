@@ -1,13 +1,24 @@
 //! The words of a call, and what they ask for.
 ghost use Rattle.std.specs.Prelude.{◌≡◌, map, string_bytes};
 ghost use Rattle.std.specs.Option.{option_map};
-ghost use Rattle.llsc_cli.specs.Request.{asked, request_of};
+ghost use Rattle.llsc_cli.specs.Request.{asked, request_of, Solo};
 
 /// What a call asks for.
 #[derive(Drop)]
 pub enum Request<'a> {
     /// To run the file of this name, a flat image, as one thread.
     Solo { file: &'a str },
+}
+
+impl<'a> Request<'a> {
+    /// The name of the program file.
+    pub fn file(&self) -> &'a str
+        ensures { asked self.now ≡ Solo result.now }
+    {
+        match self {
+            Request::Solo { file } => file,
+        }
+    }
 }
 
 /// What the words ask for, `None` where they are refused. The words do not include the program's

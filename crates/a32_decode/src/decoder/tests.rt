@@ -89,13 +89,12 @@ fn refuses_words_of_no_row(rt: HostRuntime) {
     let words = [
         // A condition field of 15; cmp without S; mov with rn 1; cmp with rd 1; movs pc, #0
         (0xFFFFFFFF, UNDEFINED),
-        (0xE3410003, UNDEFINED),
+        (0xE1410002, UNDEFINED),
         (0xE3A10000, UNDEFINED),
         (0xE3511003, UNDEFINED),
         (0xE3B0F000, UNPREDICTABLE),
-        // Not in the table yet: bl; andeq r0, r0, r0; ldr r0, [r1, #4]!; ldrb r0, [r1]
+        // Not in the table yet: bl; ldr r0, [r1, #4]!; ldrb r0, [r1]
         (0xEBFFFFFE, UNDEFINED),
-        (0x00000000, UNDEFINED),
         (0xE5B10004, UNDEFINED),
         (0xE5D10000, UNDEFINED),
     ];

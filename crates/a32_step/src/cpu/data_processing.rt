@@ -4,8 +4,9 @@ ghost use Rattle.a32_instr.specs.DataProcessing.{operand_of, alu};
 ghost use Rattle.a32_step.specs.Machine.{wanted_of, moved_on};
 
 use super::Cpu;
-use crate::arithmetic::{compute, immediate, is_compare};
+use crate::arithmetic::compute;
 use crate::phases::Wanted;
+use crate::shifts::{immediate, shift, shift_by_number};
 use a32_instr::{AluOp, Instr, Operand2, Reg, Shifted};
 
 impl Cpu {
@@ -15,6 +16,12 @@ impl Cpu {
     {
         match operand {
             Operand2::Imm { turn, imm8 } => immediate(turn, imm8, self.flags.c),
+            Operand2::ByNum { rm, kind, amount } => {
+                shift_by_number(kind, self.operand(rm), amount, self.flags.c)
+            }
+            Operand2::ByReg { rm, kind, rs } => {
+                shift(kind, self.operand(rm), self.operand(rs) % 256, self.flags.c)
+            }
         }
     }
 
@@ -33,7 +40,7 @@ impl Cpu {
         let second = self.second_operand(operand);
         let computed = compute(op, self.operand(rn), second, self.flags);
         let flags = if sets { computed.flags } else { self.flags };
-        if is_compare(op) {
+        if op.is_compare() {
             self.flags = flags;
             return self.advance();
         }

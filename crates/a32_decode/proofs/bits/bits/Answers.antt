@@ -11,5 +11,6 @@ mask number width h =
     let kept : 1 * 2 ^ width % 2 ^ 32 ≡ 2 ^ width = mod-eq_of_lt below ∙ omega arith in
     rw kept (and_mask number width)
 
+-- the bits are the shifted word under that mask
 pub returns-clause-value : goal.returns-clause-value
 returns-clause-value c = mask (c.args.word / 2 ^ c.args.low) c.args.width c.requires.width

@@ -1,0 +1,386 @@
+//! Words of data processing, multiplications, moves and extends as the GNU assembler encodes them, and words on
+//! either side of what the manual asks of each (DDI 0406C A5.2, A5.4, A8.8).
+ghost use Rattle.std.specs.Prelude.{◌<◌};
+
+use super::*;
+use a32_instr::{AluOp, Cond, LongKind, Operand2, Reg, ShiftKind};
+
+const UNDEFINED: Result<Instr, DecodeFault> = Err(DecodeFault::Undefined);
+
+const UNPREDICTABLE: Result<Instr, DecodeFault> = Err(DecodeFault::Unpredictable);
+
+fn r(num: u8) -> Reg
+    requires { num < 16 }
+{
+    Reg::new(num)
+}
+
+fn alu(
+    cond: u8,
+    op: AluOp,
+    s: bool,
+    rd: u8,
+    rn: u8,
+    operand: Operand2,
+) -> Result<Instr, DecodeFault>
+    requires cond { cond < 15 }
+    requires rd { rd < 16 }
+    requires rn { rn < 16 }
+{
+    Ok(Instr::Alu {
+        cond: Cond::new(cond),
+        op,
+        s,
+        rd: r(rd),
+        rn: r(rn),
+        operand,
+    })
+}
+
+fn by_num(rm: u8, kind: ShiftKind, amount: u8) -> Operand2
+    requires { rm < 16 }
+{
+    Operand2::ByNum {
+        rm: r(rm),
+        kind,
+        amount,
+    }
+}
+
+fn by_reg(rm: u8, kind: ShiftKind, rs: u8) -> Operand2
+    requires rm { rm < 16 }
+    requires rs { rs < 16 }
+{
+    Operand2::ByReg {
+        rm: r(rm),
+        kind,
+        rs: r(rs),
+    }
+}
+
+fn long(cond: u8, kind: LongKind, s: bool) -> Result<Instr, DecodeFault>
+    requires { cond < 15 }
+{
+    Ok(Instr::Long {
+        cond: Cond::new(cond),
+        kind,
+        s,
+        lo: r(1),
+        hi: r(2),
+        rn: r(3),
+        rm: r(4),
+    })
+}
+
+fn extend(unsigned: bool, half: bool, rd: u8, rm: u8, turn: u8) -> Result<Instr, DecodeFault>
+    requires rd { rd < 16 }
+    requires rm { rm < 16 }
+{
+    Ok(Instr::Extend {
+        cond: Cond::new(14),
+        unsigned,
+        half,
+        rd: r(rd),
+        rm: r(rm),
+        turn,
+    })
+}
+
+#[test]
+fn decodes_data_processing(rt: HostRuntime) {
+    let words = [
+        // andeq r0, r0, r0; adds r0, r0, #1; mov r1, #8192; rsb r3, r0, #1; tst r3, #0xff0
+        (
+            0x00000000,
+            alu(0, AluOp::And, false, 0, 0, by_num(0, ShiftKind::Lsl, 0)),
+        ),
+        (
+            0xE2900001,
+            alu(
+                14,
+                AluOp::Add,
+                true,
+                0,
+                0,
+                Operand2::Imm { turn: 0, imm8: 1 },
+            ),
+        ),
+        (
+            0xE3A01A02,
+            alu(
+                14,
+                AluOp::Mov,
+                false,
+                1,
+                0,
+                Operand2::Imm { turn: 10, imm8: 2 },
+            ),
+        ),
+        (
+            0xE2603001,
+            alu(
+                14,
+                AluOp::Rsb,
+                false,
+                3,
+                0,
+                Operand2::Imm { turn: 0, imm8: 1 },
+            ),
+        ),
+        (
+            0xE3130EFF,
+            alu(
+                14,
+                AluOp::Tst,
+                true,
+                0,
+                3,
+                Operand2::Imm {
+                    turn: 14,
+                    imm8: 255,
+                },
+            ),
+        ),
+        // mov r10, r4, lsr #28; add r10, r9, r10, lsl #3; cmp r1, r2; mov pc, lr
+        (
+            0xE1A0AE24,
+            alu(14, AluOp::Mov, false, 10, 0, by_num(4, ShiftKind::Lsr, 28)),
+        ),
+        (
+            0xE089A18A,
+            alu(14, AluOp::Add, false, 10, 9, by_num(10, ShiftKind::Lsl, 3)),
+        ),
+        (
+            0xE1510002,
+            alu(14, AluOp::Cmp, true, 0, 1, by_num(2, ShiftKind::Lsl, 0)),
+        ),
+        (
+            0xE1A0F00E,
+            alu(14, AluOp::Mov, false, 15, 0, by_num(14, ShiftKind::Lsl, 0)),
+        ),
+        // rscs r4, r5, r6, ror #1; mov r7, r8, rrx; bics r9, r10, r11, asr #32
+        (
+            0xE0F540E6,
+            alu(14, AluOp::Rsc, true, 4, 5, by_num(6, ShiftKind::Ror, 1)),
+        ),
+        (
+            0xE1A07068,
+            alu(14, AluOp::Mov, false, 7, 0, by_num(8, ShiftKind::Ror, 0)),
+        ),
+        (
+            0xE1DA904B,
+            alu(14, AluOp::Bic, true, 9, 10, by_num(11, ShiftKind::Asr, 0)),
+        ),
+        // mov r1, r2, lsl r3; orrne r1, r2, r3, ror r4; cmnle r12, r14, lsr r1; eor r1, r2, r3, asr r4
+        (
+            0xE1A01312,
+            alu(14, AluOp::Mov, false, 1, 0, by_reg(2, ShiftKind::Lsl, 3)),
+        ),
+        (
+            0x11821473,
+            alu(1, AluOp::Orr, false, 1, 2, by_reg(3, ShiftKind::Ror, 4)),
+        ),
+        (
+            0xD17C013E,
+            alu(13, AluOp::Cmn, true, 0, 12, by_reg(14, ShiftKind::Lsr, 1)),
+        ),
+        (
+            0xE0221453,
+            alu(14, AluOp::Eor, false, 1, 2, by_reg(3, ShiftKind::Asr, 4)),
+        ),
+    ];
+    for (word, want) in words {
+        assert_eq!(rt; decode(word), want, "at {word:#x}");
+    }
+}
+
+#[test]
+fn decodes_moves_and_products(rt: HostRuntime) {
+    let cond = Cond::new(14);
+    let (rd, rn, rm, ra) = (r(1), r(2), r(3), r(4));
+    let words = [
+        // movw r5, #26125; movw r0, #0xffff; movt r5, #25; movt r14, #0x1234; nop; yieldeq
+        (
+            0xE306560D,
+            Ok(Instr::Movw {
+                cond,
+                rd: r(5),
+                imm: 26125,
+            }),
+        ),
+        (
+            0xE30F0FFF,
+            Ok(Instr::Movw {
+                cond,
+                rd: r(0),
+                imm: 0xffff,
+            }),
+        ),
+        (
+            0xE3405019,
+            Ok(Instr::Movt {
+                cond,
+                rd: r(5),
+                imm: 25,
+            }),
+        ),
+        (
+            0xE341E234,
+            Ok(Instr::Movt {
+                cond,
+                rd: r(14),
+                imm: 0x1234,
+            }),
+        ),
+        (0xE320F000, Ok(Instr::Nop { cond })),
+        (0x0320F001, Ok(Instr::Yield { cond: Cond::new(0) })),
+        // muls r1, r2, r3; mul r1, r2, r3; mla r1, r2, r3, r4; mlas r1, r2, r3, r4; mls r1, r2, r3, r4
+        (
+            0xE0110392,
+            Ok(Instr::Mul {
+                cond,
+                s: true,
+                rd,
+                rn,
+                rm,
+            }),
+        ),
+        (
+            0xE0010392,
+            Ok(Instr::Mul {
+                cond,
+                s: false,
+                rd,
+                rn,
+                rm,
+            }),
+        ),
+        (
+            0xE0214392,
+            Ok(Instr::Mla {
+                cond,
+                s: false,
+                rd,
+                rn,
+                rm,
+                ra,
+            }),
+        ),
+        (
+            0xE0314392,
+            Ok(Instr::Mla {
+                cond,
+                s: true,
+                rd,
+                rn,
+                rm,
+                ra,
+            }),
+        ),
+        (
+            0xE0614392,
+            Ok(Instr::Mls {
+                cond,
+                rd,
+                rn,
+                rm,
+                ra,
+            }),
+        ),
+        // umull, umlals, smull and smlalge r1, r2, r3, r4
+        (0xE0821493, long(14, LongKind::Umull, false)),
+        (0xE0B21493, long(14, LongKind::Umlal, true)),
+        (0xE0C21493, long(14, LongKind::Smull, false)),
+        (0xA0E21493, long(10, LongKind::Smlal, false)),
+        // clz r0, r1; rev r0, r1; sxtb r0, r1; sxth r2, r3, ror #16; uxtb r0, r1, ror #8; uxth r14, r12, ror #24
+        (
+            0xE16F0F11,
+            Ok(Instr::Clz {
+                cond,
+                rd: r(0),
+                rm: r(1),
+            }),
+        ),
+        (
+            0xE6BF0F31,
+            Ok(Instr::Rev {
+                cond,
+                rd: r(0),
+                rm: r(1),
+            }),
+        ),
+        (0xE6AF0071, extend(false, false, 0, 1, 0)),
+        (0xE6BF2873, extend(false, true, 2, 3, 2)),
+        (0xE6EF0471, extend(true, false, 0, 1, 1)),
+        (0xE6FFEC7C, extend(true, true, 14, 12, 3)),
+    ];
+    for (word, want) in words {
+        assert_eq!(rt; decode(word), want, "at {word:#x}");
+    }
+}
+
+#[test]
+fn refuses_words_beside_each_row(rt: HostRuntime) {
+    let words = [
+        // cmp with rd 1; cmp without S; mov with rn 1; each again with a shift by a register
+        (0xE1511002, UNDEFINED),
+        (0xE1410002, UNDEFINED),
+        (0xE1A10002, UNDEFINED),
+        (0xE1511312, UNDEFINED),
+        (0xE1410312, UNDEFINED),
+        (0xE1A11312, UNDEFINED),
+        // wfe; a write to the flags; nop with rd 14; a write to the saved flags
+        (0xE320F002, UNDEFINED),
+        (0xE321F000, UNDEFINED),
+        (0xE320E000, UNDEFINED),
+        (0xE360F000, UNDEFINED),
+        // mul with bits 15:12 set; mls with S; umaal
+        (0xE0011392, UNDEFINED),
+        (0xE0714392, UNDEFINED),
+        (0xE0414392, UNDEFINED),
+        // clz with other bits at 11:8 and 19:16; sxtab; sxtb with bit 8 set; sxtb16; rev16; rev with bit 8 clear
+        (0xE16F0011, UNDEFINED),
+        (0xE16E0F11, UNDEFINED),
+        (0xE6A20071, UNDEFINED),
+        (0xE6AF0171, UNDEFINED),
+        (0xE68F0071, UNDEFINED),
+        (0xE6BF0FB1, UNDEFINED),
+        (0xE6BF0E31, UNDEFINED),
+    ];
+    for (word, want) in words {
+        assert_eq!(rt; decode(word), want, "at {word:#x}");
+    }
+}
+
+#[test]
+fn refuses_the_pc_where_it_may_not_stand(rt: HostRuntime) {
+    let words = [
+        // movs pc, lr; a shift by a register with the PC in each place
+        (0xE1B0F00E, UNPREDICTABLE),
+        (0xE1A01F12, UNPREDICTABLE),
+        (0xE1A0131F, UNPREDICTABLE),
+        (0xE1A0F312, UNPREDICTABLE),
+        (0xE08F1312, UNPREDICTABLE),
+        // movw and movt; mul with each; mla with ra
+        (0xE306F60D, UNPREDICTABLE),
+        (0xE340F019, UNPREDICTABLE),
+        (0xE00F0392, UNPREDICTABLE),
+        (0xE001039F, UNPREDICTABLE),
+        (0xE0010F92, UNPREDICTABLE),
+        (0xE021F392, UNPREDICTABLE),
+        // umull with one register for both halves, with the PC as each half
+        (0xE0811493, UNPREDICTABLE),
+        (0xE08F1493, UNPREDICTABLE),
+        (0xE082F493, UNPREDICTABLE),
+        // clz, sxtb and rev with each
+        (0xE16FFF11, UNPREDICTABLE),
+        (0xE16F0F1F, UNPREDICTABLE),
+        (0xE6AFF071, UNPREDICTABLE),
+        (0xE6AF007F, UNPREDICTABLE),
+        (0xE6BFFF31, UNPREDICTABLE),
+        (0xE6BF0F3F, UNPREDICTABLE),
+    ];
+    for (word, want) in words {
+        assert_eq!(rt; decode(word), want, "at {word:#x}");
+    }
+}

@@ -1,0 +1,55 @@
+//! Halves and bytes of 32-bit numbers (DDI 0406C A5.4.3, A8.8.106).
+ghost use Rattle.std.specs.Prelude.{◌≡◌};
+ghost use Rattle.a32_instr.specs.Moves.{with_top, reversed, extended, width_of};
+
+/// A number with another upper half.
+#[inline(always)]
+pub fn with_upper_half(x: u32, imm: u16) -> u32
+    ensures { result ≡ with_top x imm }
+{
+    u32::from(imm) * 0x1_0000 + x % 0x1_0000
+}
+
+/// The bytes of a number the other way round.
+#[inline(always)]
+pub fn reverse(x: u32) -> u32
+    ensures { result ≡ reversed x }
+{
+    x.swap_bytes()
+}
+
+/// The low byte of a number, or its low half, with zeros above or with its sign.
+#[inline]
+pub fn extend(unsigned: bool, half: bool, x: u32) -> u32
+    ensures { result ≡ extended unsigned (width_of half) x }
+{
+    if half {
+        extend_half(unsigned, x)
+    } else {
+        extend_byte(unsigned, x)
+    }
+}
+
+#[inline(always)]
+fn extend_byte(unsigned: bool, x: u32) -> u32
+    ensures { result ≡ extended unsigned 8 x }
+{
+    let byte = x % 0x100;
+    if unsigned || byte < 0x80 {
+        byte
+    } else {
+        byte + 0xffff_ff00
+    }
+}
+
+#[inline(always)]
+fn extend_half(unsigned: bool, x: u32) -> u32
+    ensures { result ≡ extended unsigned 16 x }
+{
+    let half = x % 0x1_0000;
+    if unsigned || half < 0x8000 {
+        half
+    } else {
+        half + 0xffff_0000
+    }
+}

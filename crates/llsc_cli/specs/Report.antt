@@ -1,0 +1,44 @@
+-- The report of a run of one thread.
+use Rattle.std.specs.Prelude.{ℕ, ◌+◌, ◌/◌, ◌%◌, nat_lt, if◌then◌else◌, List, [], ◌∷◌, ◌++◌, codes}
+use Rattle.std.specs.Fmt.{decimal}
+use Rattle.a32_instr.specs.declared.outside.Stop.{Stop}
+use Rattle.a32_instr.specs.declared.outside.Stop.TheVariants.{Exit, Undefined, Unpredictable, Alignment, Outside, ReadOnly, Thumb, Budget, TagLimit}
+use Rattle.llsc_cli.specs.declared.threads.ThreadEnd.{ThreadEnd}
+
+-- a hexadecimal digit in lower case
+abbrev pub hex_digit : ℕ → ℕ
+hex_digit value = if nat_lt value 10 then 48 + value else 87 + value
+
+-- a number below 65,536 as four of them
+unfoldable pub half_text : ℕ → List ℕ
+half_text half = hex_digit (half / 4096) ∷ hex_digit (half / 256 % 16) ∷ hex_digit (half / 16 % 16) ∷ hex_digit (half % 16) ∷ []
+
+-- an address as eight of them
+unfoldable pub address_text : ℕ → List ℕ
+address_text addr = half_text (addr / 65536) ++ half_text (addr % 65536)
+
+-- a stop by its name and its number: a code, an address, or for the budget the budget itself
+abbrev pub stop_text : ℕ → Stop → List ℕ
+stop_text budget (Exit code) = codes "exit " ++ decimal code
+stop_text budget (Undefined pc) = codes "undefined " ++ address_text pc
+stop_text budget (Unpredictable pc) = codes "unpredictable " ++ address_text pc
+stop_text budget (Alignment addr) = codes "alignment " ++ address_text addr
+stop_text budget (Outside addr) = codes "outside " ++ address_text addr
+stop_text budget (ReadOnly addr) = codes "readonly " ++ address_text addr
+stop_text budget (Thumb pc) = codes "thumb " ++ address_text pc
+stop_text budget Budget = codes "budget " ++ decimal budget
+stop_text budget (TagLimit addr) = codes "taglimit " ++ address_text addr
+
+-- the line of a thread, whose output has no bytes
+abbrev pub head_line : ℕ → ℕ → ThreadEnd → List ℕ
+head_line thread budget end =
+    codes "thread " ++ (decimal thread ++ (codes " stop " ++ (stop_text budget end.stop ++ (codes " steps " ++ (decimal end.steps ++ codes " out 0\n")))))
+
+-- the line of the counts
+abbrev pub last_line : ThreadEnd → List ℕ
+last_line end =
+    codes "reads " ++ (decimal end.reads ++ (codes " writes " ++ (decimal end.writes ++ (codes " fails " ++ (decimal end.fails ++ codes "\n")))))
+
+-- the report of thread 0: its line, its output on a line of its own, and the counts
+abbrev pub report_of : ℕ → ThreadEnd → List ℕ
+report_of budget end = head_line 0 budget end ++ (codes "\n" ++ last_line end)
