@@ -1,4 +1,4 @@
--- What a history says of a class of rows: how many of its writes have begun and are over, and who came last.
+-- What a history says of a class of rows, this project's own: how many of its writes have begun and are over, and who came last.
 use Rattle.std.specs.Prelude.{ℕ, ◌+◌, if◌then◌else◌, Bool, false, Option, Some, None, List, [], ◌∷◌, count_by}
 use Rattle.history.specs.Entry.{is_in_class}
 use Rattle.history.specs.declared.entry.Entry.{Entry}
