@@ -10,3 +10,5 @@ pub mod Stages
 pub mod Operations
 pub mod Legality
 pub mod SmallMemory
+pub mod Classes
+pub mod Pushes

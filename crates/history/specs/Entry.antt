@@ -1,4 +1,4 @@
--- Entries of a history: whose they are, what they are about, and which of them are accesses.
+-- Entries of a history, this project's own: whose they are, and which of them are accesses.
 use Rattle.std.specs.Prelude.{ℕ, ◌==◌, Bool, true, false, not}
 use Rattle.llsc_base.specs.Memory.{class_of, row_of}
 use Rattle.llsc_base.specs.declared.access.Place.{Place}

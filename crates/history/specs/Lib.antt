@@ -11,3 +11,4 @@ pub mod Standing
 pub mod Follow
 pub mod Marked
 pub mod Worked
+pub mod Class

@@ -1,4 +1,4 @@
--- Parts of a history: its accesses, and the entries of one thread, each in the order of the history.
+-- Parts of a history, this project's own: its accesses, and the entries of one thread, each in the history's order.
 use Rattle.std.specs.Prelude.{ℕ, ◌==◌, List}
 use Rattle.std.specs.List.{filter}
 use Rattle.history.specs.Entry.{is_access, thread_of}

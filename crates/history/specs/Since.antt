@@ -1,4 +1,4 @@
--- What stands in a history since the last entry of some kind.
+-- What stands in a history since the last entry of some kind: words of this project's own.
 use Rattle.std.specs.Prelude.{ℕ, ◌==◌, if◌then◌else◌, Bool, false, Option, Some, None, List, [], ◌∷◌}
 use Rattle.llsc_base.specs.declared.access.Place.{Place}
 use Rattle.history.specs.declared.entry.Entry.{Entry}

@@ -49,7 +49,7 @@ abbrev pub is_of_class : ℕ → ℕ → Option ℕ → Bool
 is_of_class classes class (Some row) = class == class_of classes row
 is_of_class classes class None = false
 
--- a mark of a thread after a write by another or by itself
+-- a thread's mark after a write of a row, where an exclusive write of its own ends it in any case
 abbrev pub mark_after : Option ℕ → Bool → ℕ → Option ℕ
 mark_after mark ends row = if ends then None else unless_on row mark
 

@@ -2,7 +2,7 @@
 //!
 //! How things stand after a history (`standing_after`) is one record that grows entry by entry. The laws named
 //! `.._the_fold` say that each of its parts is what a definition of this crate says of the history.
-ghost use Rattle.std.specs.Prelude.{◌≡◌, ◌+◌, ◌*◌, ◌%◌, ◌<◌, ◌≤◌, ◌↔◌, ◌++◌, ◌∷◌, [], ℕ, IsTrue, length};
+ghost use Rattle.std.specs.Prelude.{◌≡◌, ◌+◌, ◌*◌, ◌%◌, ◌<◌, ◌≤◌, ◌↔◌, ◌++◌, ◌∷◌, [], ℕ, IsTrue, length, unwrap_or};
 ghost use Rattle.std.specs.List.{list_any};
 ghost use Rattle.llsc_base.specs.Memory.{cell_of, class_of, is_aligned, size_bytes, value_at};
 ghost use Rattle.row_bytes.specs.Cell.{cell_at, value_in_cell};
@@ -12,6 +12,7 @@ ghost use Rattle.history.specs.ArmLegal.{IsArmLegal};
 ghost use Rattle.history.specs.Marked.{IsMarkedSince};
 ghost use Rattle.history.specs.Reservation.{reservation_of};
 ghost use Rattle.history.specs.Cause.{flight_of, is_begin, is_begin_of_another, is_start_of_another, since_watch, writes_of};
+ghost use Rattle.history.specs.Class.{comer_in, edges_of, last_of, name_of, writer_in};
 ghost use Rattle.history.specs.Legal.{IsComplete, IsLegal};
 ghost use Rattle.history.specs.Standing.{rests, standing_after, standing_of};
 ghost use Rattle.history.specs.Follow.{MayFollow, flight_at};
@@ -59,8 +60,7 @@ pub fn reservation_is_the_fold(bytes: &[u8], classes: u32, history: &[Entry], th
         ≡ (standing_after classes (standing_of bytes.now) history.now).reserved thread }
 {}
 
-/// Where a thread holds a reservation on a row, what has passed in its class since is what stands; and so is how many
-/// Writes the class of a row has had.
+/// Where a thread holds a reservation on a row, what has passed in its class since its Watch is what stands.
 pub fn causes_are_the_fold(bytes: &[u8], classes: u32, history: &[Entry], thread: u32, row: u32)
     requires { reservation_of classes thread history.now ≡ Some row }
     ensures passed { list_any (is_start_of_another classes thread row) (since_watch thread history.now)
@@ -71,10 +71,17 @@ pub fn causes_are_the_fold(bytes: &[u8], classes: u32, history: &[Entry], thread
         ≡ (standing_after classes (standing_of bytes.now) history.now).stirred thread }
 {}
 
-/// How many Writes the class of a row has had is the number that stands.
-pub fn writes_are_the_fold(bytes: &[u8], classes: u32, history: &[Entry], row: u32)
-    ensures { writes_of classes row history.now
+/// What a history says of the class of a row is what stands: how many Writes it has had, how many Begins and Ends, and
+/// the threads of its last Begin and of its last Watch or Begin.
+pub fn classes_are_the_fold(bytes: &[u8], classes: u32, history: &[Entry], row: u32)
+    ensures writes { writes_of classes row history.now
         ≡ (standing_after classes (standing_of bytes.now) history.now).writes (class_of classes row) }
+    ensures edges { edges_of classes row history.now
+        ≡ (standing_after classes (standing_of bytes.now) history.now).edges (class_of classes row) }
+    ensures holder { unwrap_or (last_of (writer_in classes row) history.now) 0
+        ≡ (standing_after classes (standing_of bytes.now) history.now).holder (class_of classes row) }
+    ensures name { name_of (last_of (comer_in classes row) history.now)
+        ≡ (standing_after classes (standing_of bytes.now) history.now).name (class_of classes row) }
 {}
 
 /// The write of a thread that is in flight after a legal history is the one that stands.

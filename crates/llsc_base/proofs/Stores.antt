@@ -69,13 +69,13 @@ value_at-same one other place first second same =
     let long : length (take (size_bytes place.size) (drop place.addr one)) ≡ size_bytes place.size = omega (arith, length-take (size_bytes place.size) (drop place.addr one), length-drop place.addr one) in
     let longer : length (take (size_bytes place.size) (drop place.addr other)) ≡ size_bytes place.size = omega (arith, length-take (size_bytes place.size) (drop place.addr other), length-drop place.addr other) in
     ap number_of (ext_get_or 0 (take (size_bytes place.size) (drop place.addr one)) (take (size_bytes place.size) (drop place.addr other)) (long ∙ sym longer)
-        (λ k below.
-            let h : k < size_bytes place.size = omega arith in
-            get_or-take (size_bytes place.size) (drop place.addr one) k 0 h
-            ∙ get_or-drop place.addr one k 0
-            ∙ same (place.addr + k) (omega arith) (omega arith)
-            ∙ sym (get_or-drop place.addr other k 0)
-            ∙ sym (get_or-take (size_bytes place.size) (drop place.addr other) k 0 h)))
+    (λ k below.
+    let h : k < size_bytes place.size = omega arith in
+    get_or-take (size_bytes place.size) (drop place.addr one) k 0 h
+    ∙ get_or-drop place.addr one k 0
+    ∙ same (place.addr + k) (omega arith) (omega arith)
+    ∙ sym (get_or-drop place.addr other k 0)
+    ∙ sym (get_or-take (size_bytes place.size) (drop place.addr other) k 0 h)))
 
 -- the value of the place of a store
 pub value_at-stored : (memory : List ℕ) (place : Place) (value : ℕ) → place.addr + size_bytes place.size ≤ length memory
@@ -84,13 +84,13 @@ value_at-stored memory place value inside fits =
     let kept = length-stored memory place value inside in
     let long : length (take (size_bytes place.size) (drop place.addr (stored memory place value))) ≡ size_bytes place.size = omega (arith, length-take (size_bytes place.size) (drop place.addr (stored memory place value)), length-drop place.addr (stored memory place value)) in
     ap number_of (ext_get_or 0 (take (size_bytes place.size) (drop place.addr (stored memory place value))) (bytes_of (size_bytes place.size) value) (long ∙ sym (length-bytes_of (size_bytes place.size) value))
-        (λ k below.
-            let h : k < size_bytes place.size = omega arith in
-            let back : place.addr + k - place.addr ≡ k = omega arith in
-            get_or-take (size_bytes place.size) (drop place.addr (stored memory place value)) k 0 h
-            ∙ get_or-drop place.addr (stored memory place value) k 0
-            ∙ stored-within memory place value (place.addr + k) inside (omega arith) (omega arith)
-            ∙ ap (slice_index (bytes_of (size_bytes place.size) value)) back))
+    (λ k below.
+    let h : k < size_bytes place.size = omega arith in
+    let back : place.addr + k - place.addr ≡ k = omega arith in
+    get_or-take (size_bytes place.size) (drop place.addr (stored memory place value)) k 0 h
+    ∙ get_or-drop place.addr (stored memory place value) k 0
+    ∙ stored-within memory place value (place.addr + k) inside (omega arith) (omega arith)
+    ∙ ap (slice_index (bytes_of (size_bytes place.size) value)) back))
     ∙ number_of-bytes_of (size_bytes place.size) value
     ∙ mod-eq_of_lt fits
 
