@@ -336,3 +336,6 @@ impl Cpu {
         }
     }
 }
+
+#[cfg(test)]
+mod tests;
