@@ -1,27 +1,23 @@
 //! One instruction at a time, against what a processor did. Each table was made by running the instruction in a
-//! program for Arm Linux under `qemu-arm`: a row has the word, r0 to r3 and the flags before it, and what it left.
-//! The flags are N, Z, C and V as bits 3, 2, 1 and 0.
+//! program for Arm Linux under `qemu-arm`. A row has the word, r0 to r3 and the flags before it, and then r0, r1 and
+//! the flags after it, all in hexadecimal; the flags are N, Z, C and V as bits 3, 2, 1 and 0. A line that begins
+//! with a semicolon is a comment.
 ghost use Rattle.a32_step.specs.Machine.{IsReady};
 
 use super::*;
-use crate::phases::Wanted;
 use llsc_base::MachineSize;
 use std::alloc::Global;
-use thiserror::Error;
+use std::test::Fail;
 
 mod conditions;
 mod operations;
 mod products;
 mod shifts;
 
-#[derive(Debug, Drop, Error)]
-#[error("no image")]
-struct NoImage;
-
 // An image whose first instruction is this word.
-fn image(alloc: Global, word: u32) -> Result<Image, NoImage> {
-    let size = MachineSize::new(65_536, 1, 1, 1).map_err(|_| NoImage)?;
-    Image::flat(alloc, &word.to_le_bytes(), &size).map_err(|_| NoImage)
+fn image(alloc: Global, word: u32) -> Result<Image, Fail> {
+    let size = MachineSize::new(65_536, 1, 1, 1)?;
+    Ok(Image::flat(alloc, &word.to_le_bytes(), &size)?)
 }
 
 fn flags_of(bits: u32) -> Flags {
@@ -46,4 +42,31 @@ fn cpu(r0: u32, r1: u32, r2: u32, r3: u32, flags: u32) -> Cpu
         replies: Replies::new(),
         near: 0,
     }
+}
+
+fn number(text: Option<&str>) -> Result<u32, Fail> {
+    Ok(u32::from_str_radix(text.ok_or("a row is short")?, 16)?)
+}
+
+// Whether the core does what a row says.
+fn agrees(alloc: Global, row: &str) -> Result<bool, Fail> {
+    if row.starts_with(';') {
+        return Ok(true);
+    }
+    let mut words = row.split_whitespace();
+    let image = image(alloc, number(words.next())?)?;
+    let mut cpu = cpu(
+        number(words.next())?,
+        number(words.next())?,
+        number(words.next())?,
+        number(words.next())?,
+        number(words.next())?,
+    );
+    if cpu.next(&image) != Wanted::Done || cpu.pc() != 0x1004 {
+        return Ok(false);
+    }
+    if cpu.reg(0) != number(words.next())? || cpu.reg(1) != number(words.next())? {
+        return Ok(false);
+    }
+    Ok(cpu.flags() == flags_of(number(words.next())?))
 }

@@ -22,7 +22,7 @@ const CONDITIONS: [[u32; 2]; 15] = [
 ];
 
 #[test]
-fn passes_conditions(rt: HostRuntime) -> Result<(), NoImage> {
+fn passes_conditions(rt: HostRuntime) -> Result<(), Fail> {
     for [word, passing] in CONDITIONS {
         let image = image(rt.alloc(), word)?;
         for flags in 0..16u32 {
@@ -41,7 +41,7 @@ fn passes_conditions(rt: HostRuntime) -> Result<(), NoImage> {
 
 // `mov pc, r1`: the PC takes a multiple of 4, and nothing else (DDI 0406C A2.3.2, BXWritePC).
 #[test]
-fn writes_the_pc(rt: HostRuntime) -> Result<(), NoImage> {
+fn writes_the_pc(rt: HostRuntime) -> Result<(), Fail> {
     let image = image(rt.alloc(), 0xe1a0_f001)?;
     let cases = [
         (0x1008, Wanted::Done, 0x1008),

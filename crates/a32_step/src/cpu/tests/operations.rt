@@ -2,286 +2,241 @@
 
 use super::*;
 
-// The word, r0 to r3, the flags before; r0 and the flags after.
-const OPERATIONS: [[u32; 8]; 181] = [
-    // Sums.
-    // subs r0, r1, r2
-    [0xe0510002, 0, 0, 0, 0, 0xf, 0, 0x6],
-    [0xe0510002, 0, 0, 1, 0, 0, 0xffffffff, 0x8],
-    [0xe0510002, 0, 1, 0, 0, 0, 1, 0x2],
-    [0xe0510002, 0, 1, 1, 0, 0xf, 0, 0x6],
-    [0xe0510002, 0, 0x7fffffff, 1, 0, 0xf, 0x7ffffffe, 0x2],
-    [0xe0510002, 0, 0x80000000, 1, 0, 0, 0x7fffffff, 0x3],
-    [0xe0510002, 0, 0x80000000, 0x80000000, 0, 0xf, 0, 0x6],
-    [0xe0510002, 0, 0xffffffff, 1, 0, 0xf, 0xfffffffe, 0xa],
-    [0xe0510002, 0, 0xffffffff, 0xffffffff, 0, 0xf, 0, 0x6],
-    [0xe0510002, 0, 0, 0x80000000, 0, 0xf, 0x80000000, 0x9],
-    [
-        0xe0510002, 0, 0x7fffffff, 0xffffffff, 0, 0xf, 0x80000000, 0x9,
-    ],
-    [0xe0510002, 0, 0, 0xffffffff, 0, 0, 1, 0],
-    // rsbs r0, r1, r2
-    [0xe0710002, 0, 0, 0, 0, 0xf, 0, 0x6],
-    [0xe0710002, 0, 0, 1, 0, 0, 1, 0x2],
-    [0xe0710002, 0, 1, 0, 0, 0, 0xffffffff, 0x8],
-    [0xe0710002, 0, 1, 1, 0, 0xf, 0, 0x6],
-    [0xe0710002, 0, 0x7fffffff, 1, 0, 0xf, 0x80000002, 0x8],
-    [0xe0710002, 0, 0x80000000, 1, 0, 0, 0x80000001, 0x9],
-    [0xe0710002, 0, 0x80000000, 0x80000000, 0, 0xf, 0, 0x6],
-    [0xe0710002, 0, 0xffffffff, 1, 0, 0xf, 0x2, 0],
-    [0xe0710002, 0, 0xffffffff, 0xffffffff, 0, 0xf, 0, 0x6],
-    [0xe0710002, 0, 0, 0x80000000, 0, 0xf, 0x80000000, 0xa],
-    [
-        0xe0710002, 0, 0x7fffffff, 0xffffffff, 0, 0xf, 0x80000000, 0xa,
-    ],
-    [0xe0710002, 0, 0, 0xffffffff, 0, 0, 0xffffffff, 0xa],
-    // adds r0, r1, r2
-    [0xe0910002, 0, 0, 0, 0, 0xf, 0, 0x4],
-    [0xe0910002, 0, 0, 1, 0, 0, 1, 0],
-    [0xe0910002, 0, 1, 0, 0, 0, 1, 0],
-    [0xe0910002, 0, 1, 1, 0, 0xf, 0x2, 0],
-    [0xe0910002, 0, 0x7fffffff, 1, 0, 0xf, 0x80000000, 0x9],
-    [0xe0910002, 0, 0x80000000, 1, 0, 0, 0x80000001, 0x8],
-    [0xe0910002, 0, 0x80000000, 0x80000000, 0, 0xf, 0, 0x7],
-    [0xe0910002, 0, 0xffffffff, 1, 0, 0xf, 0, 0x6],
-    [
-        0xe0910002, 0, 0xffffffff, 0xffffffff, 0, 0xf, 0xfffffffe, 0xa,
-    ],
-    [0xe0910002, 0, 0, 0x80000000, 0, 0xf, 0x80000000, 0x8],
-    [
-        0xe0910002, 0, 0x7fffffff, 0xffffffff, 0, 0xf, 0x7ffffffe, 0x2,
-    ],
-    [0xe0910002, 0, 0, 0xffffffff, 0, 0, 0xffffffff, 0x8],
-    // adcs r0, r1, r2
-    [0xe0b10002, 0, 0, 0, 0, 0, 0, 0x4],
-    [0xe0b10002, 0, 0, 0, 0, 0x2, 1, 0],
-    [0xe0b10002, 0, 0, 1, 0, 0, 1, 0],
-    [0xe0b10002, 0, 0, 1, 0, 0x2, 0x2, 0],
-    [0xe0b10002, 0, 1, 0, 0, 0, 1, 0],
-    [0xe0b10002, 0, 1, 0, 0, 0x2, 0x2, 0],
-    [0xe0b10002, 0, 1, 1, 0, 0, 0x2, 0],
-    [0xe0b10002, 0, 1, 1, 0, 0x2, 0x3, 0],
-    [0xe0b10002, 0, 0x7fffffff, 1, 0, 0, 0x80000000, 0x9],
-    [0xe0b10002, 0, 0x7fffffff, 1, 0, 0x2, 0x80000001, 0x9],
-    [0xe0b10002, 0, 0x80000000, 1, 0, 0, 0x80000001, 0x8],
-    [0xe0b10002, 0, 0x80000000, 1, 0, 0x2, 0x80000002, 0x8],
-    [0xe0b10002, 0, 0x80000000, 0x80000000, 0, 0, 0, 0x7],
-    [0xe0b10002, 0, 0x80000000, 0x80000000, 0, 0x2, 1, 0x3],
-    [0xe0b10002, 0, 0xffffffff, 1, 0, 0, 0, 0x6],
-    [0xe0b10002, 0, 0xffffffff, 1, 0, 0x2, 1, 0x2],
-    [0xe0b10002, 0, 0xffffffff, 0xffffffff, 0, 0, 0xfffffffe, 0xa],
-    [
-        0xe0b10002, 0, 0xffffffff, 0xffffffff, 0, 0x2, 0xffffffff, 0xa,
-    ],
-    [0xe0b10002, 0, 0, 0x80000000, 0, 0, 0x80000000, 0x8],
-    [0xe0b10002, 0, 0, 0x80000000, 0, 0x2, 0x80000001, 0x8],
-    [0xe0b10002, 0, 0x7fffffff, 0xffffffff, 0, 0, 0x7ffffffe, 0x2],
-    [
-        0xe0b10002, 0, 0x7fffffff, 0xffffffff, 0, 0x2, 0x7fffffff, 0x2,
-    ],
-    [0xe0b10002, 0, 0, 0xffffffff, 0, 0, 0xffffffff, 0x8],
-    [0xe0b10002, 0, 0, 0xffffffff, 0, 0x2, 0, 0x6],
-    // sbcs r0, r1, r2
-    [0xe0d10002, 0, 0, 0, 0, 0, 0xffffffff, 0x8],
-    [0xe0d10002, 0, 0, 0, 0, 0x2, 0, 0x6],
-    [0xe0d10002, 0, 0, 1, 0, 0, 0xfffffffe, 0x8],
-    [0xe0d10002, 0, 0, 1, 0, 0x2, 0xffffffff, 0x8],
-    [0xe0d10002, 0, 1, 0, 0, 0, 0, 0x6],
-    [0xe0d10002, 0, 1, 0, 0, 0x2, 1, 0x2],
-    [0xe0d10002, 0, 1, 1, 0, 0, 0xffffffff, 0x8],
-    [0xe0d10002, 0, 1, 1, 0, 0x2, 0, 0x6],
-    [0xe0d10002, 0, 0x7fffffff, 1, 0, 0, 0x7ffffffd, 0x2],
-    [0xe0d10002, 0, 0x7fffffff, 1, 0, 0x2, 0x7ffffffe, 0x2],
-    [0xe0d10002, 0, 0x80000000, 1, 0, 0, 0x7ffffffe, 0x3],
-    [0xe0d10002, 0, 0x80000000, 1, 0, 0x2, 0x7fffffff, 0x3],
-    [0xe0d10002, 0, 0x80000000, 0x80000000, 0, 0, 0xffffffff, 0x8],
-    [0xe0d10002, 0, 0x80000000, 0x80000000, 0, 0x2, 0, 0x6],
-    [0xe0d10002, 0, 0xffffffff, 1, 0, 0, 0xfffffffd, 0xa],
-    [0xe0d10002, 0, 0xffffffff, 1, 0, 0x2, 0xfffffffe, 0xa],
-    [0xe0d10002, 0, 0xffffffff, 0xffffffff, 0, 0, 0xffffffff, 0x8],
-    [0xe0d10002, 0, 0xffffffff, 0xffffffff, 0, 0x2, 0, 0x6],
-    [0xe0d10002, 0, 0, 0x80000000, 0, 0, 0x7fffffff, 0],
-    [0xe0d10002, 0, 0, 0x80000000, 0, 0x2, 0x80000000, 0x9],
-    [0xe0d10002, 0, 0x7fffffff, 0xffffffff, 0, 0, 0x7fffffff, 0],
-    [
-        0xe0d10002, 0, 0x7fffffff, 0xffffffff, 0, 0x2, 0x80000000, 0x9,
-    ],
-    [0xe0d10002, 0, 0, 0xffffffff, 0, 0, 0, 0x4],
-    [0xe0d10002, 0, 0, 0xffffffff, 0, 0x2, 1, 0],
-    // rscs r0, r1, r2
-    [0xe0f10002, 0, 0, 0, 0, 0, 0xffffffff, 0x8],
-    [0xe0f10002, 0, 0, 0, 0, 0x2, 0, 0x6],
-    [0xe0f10002, 0, 0, 1, 0, 0, 0, 0x6],
-    [0xe0f10002, 0, 0, 1, 0, 0x2, 1, 0x2],
-    [0xe0f10002, 0, 1, 0, 0, 0, 0xfffffffe, 0x8],
-    [0xe0f10002, 0, 1, 0, 0, 0x2, 0xffffffff, 0x8],
-    [0xe0f10002, 0, 1, 1, 0, 0, 0xffffffff, 0x8],
-    [0xe0f10002, 0, 1, 1, 0, 0x2, 0, 0x6],
-    [0xe0f10002, 0, 0x7fffffff, 1, 0, 0, 0x80000001, 0x8],
-    [0xe0f10002, 0, 0x7fffffff, 1, 0, 0x2, 0x80000002, 0x8],
-    [0xe0f10002, 0, 0x80000000, 1, 0, 0, 0x80000000, 0x9],
-    [0xe0f10002, 0, 0x80000000, 1, 0, 0x2, 0x80000001, 0x9],
-    [0xe0f10002, 0, 0x80000000, 0x80000000, 0, 0, 0xffffffff, 0x8],
-    [0xe0f10002, 0, 0x80000000, 0x80000000, 0, 0x2, 0, 0x6],
-    [0xe0f10002, 0, 0xffffffff, 1, 0, 0, 1, 0],
-    [0xe0f10002, 0, 0xffffffff, 1, 0, 0x2, 0x2, 0],
-    [0xe0f10002, 0, 0xffffffff, 0xffffffff, 0, 0, 0xffffffff, 0x8],
-    [0xe0f10002, 0, 0xffffffff, 0xffffffff, 0, 0x2, 0, 0x6],
-    [0xe0f10002, 0, 0, 0x80000000, 0, 0, 0x7fffffff, 0x3],
-    [0xe0f10002, 0, 0, 0x80000000, 0, 0x2, 0x80000000, 0xa],
-    [0xe0f10002, 0, 0x7fffffff, 0xffffffff, 0, 0, 0x7fffffff, 0x3],
-    [
-        0xe0f10002, 0, 0x7fffffff, 0xffffffff, 0, 0x2, 0x80000000, 0xa,
-    ],
-    [0xe0f10002, 0, 0, 0xffffffff, 0, 0, 0xfffffffe, 0xa],
-    [0xe0f10002, 0, 0, 0xffffffff, 0, 0x2, 0xffffffff, 0xa],
-    // cmp r1, r2
-    [0xe1510002, 0x9, 1, 1, 0, 0, 0x9, 0x6],
-    [0xe1510002, 0x9, 0x7fffffff, 1, 0, 0, 0x9, 0x2],
-    [0xe1510002, 0x9, 0x80000000, 1, 0, 0, 0x9, 0x3],
-    [0xe1510002, 0x9, 0x80000000, 0x80000000, 0, 0, 0x9, 0x6],
-    [0xe1510002, 0x9, 0xffffffff, 1, 0, 0, 0x9, 0xa],
-    [0xe1510002, 0x9, 0xffffffff, 0xffffffff, 0, 0, 0x9, 0x6],
-    [0xe1510002, 0x9, 0, 0x80000000, 0, 0, 0x9, 0x9],
-    // cmn r1, r2
-    [0xe1710002, 0x9, 1, 1, 0, 0, 0x9, 0],
-    [0xe1710002, 0x9, 0x7fffffff, 1, 0, 0, 0x9, 0x9],
-    [0xe1710002, 0x9, 0x80000000, 1, 0, 0, 0x9, 0x8],
-    [0xe1710002, 0x9, 0x80000000, 0x80000000, 0, 0, 0x9, 0x7],
-    [0xe1710002, 0x9, 0xffffffff, 1, 0, 0, 0x9, 0x6],
-    [0xe1710002, 0x9, 0xffffffff, 0xffffffff, 0, 0, 0x9, 0xa],
-    [0xe1710002, 0x9, 0, 0x80000000, 0, 0, 0x9, 0x8],
-    // Logical operations.
-    // ands r0, r1, r2, lsl #1
-    [0xe0110082, 0, 0xf0f0f0f, 0xff00ff, 0, 1, 0x10e010e, 1],
-    [0xe0110082, 0, 0xffffffff, 0x80000000, 0, 0x2, 0, 0x6],
-    [0xe0110082, 0, 0x7fffffff, 0x80000000, 0, 0x3, 0, 0x7],
-    // eors r0, r1, r2, lsl #1
-    [0xe0310082, 0, 0xf0f0f0f, 0xff00ff, 0, 1, 0xef10ef1, 1],
-    [
-        0xe0310082, 0, 0xffffffff, 0x80000000, 0, 0x2, 0xffffffff, 0xa,
-    ],
-    [
-        0xe0310082, 0, 0x7fffffff, 0x80000000, 0, 0x3, 0x7fffffff, 0x3,
-    ],
-    // orrs r0, r1, r2, lsl #1
-    [0xe1910082, 0, 0xf0f0f0f, 0xff00ff, 0, 1, 0xfff0fff, 1],
-    [
-        0xe1910082, 0, 0xffffffff, 0x80000000, 0, 0x2, 0xffffffff, 0xa,
-    ],
-    [
-        0xe1910082, 0, 0x7fffffff, 0x80000000, 0, 0x3, 0x7fffffff, 0x3,
-    ],
-    // bics r0, r1, r2, lsl #1
-    [0xe1d10082, 0, 0xf0f0f0f, 0xff00ff, 0, 1, 0xe010e01, 1],
-    [
-        0xe1d10082, 0, 0xffffffff, 0x80000000, 0, 0x2, 0xffffffff, 0xa,
-    ],
-    [
-        0xe1d10082, 0, 0x7fffffff, 0x80000000, 0, 0x3, 0x7fffffff, 0x3,
-    ],
-    // tst r1, r2, lsr #1
-    [0xe11100a2, 0x9, 0xf0f0f0f, 0xff00ff, 0, 0x3, 0x9, 0x3],
-    [0xe11100a2, 0x9, 0xffffffff, 0x80000000, 0, 0, 0x9, 0],
-    [0xe11100a2, 0x9, 0x7fffffff, 0x80000000, 0, 1, 0x9, 1],
-    // teq r1, r2, lsr #1
-    [0xe13100a2, 0x9, 0xf0f0f0f, 0xff00ff, 0, 0x3, 0x9, 0x3],
-    [0xe13100a2, 0x9, 0xffffffff, 0x80000000, 0, 0, 0x9, 0x8],
-    [0xe13100a2, 0x9, 0x7fffffff, 0x80000000, 0, 1, 0x9, 1],
-    // mvns r0, r1, ror #4
-    [0xe1f00261, 0, 0, 0, 0, 0x3, 0xffffffff, 0x9],
-    [0xe1f00261, 0, 0xffffffff, 0, 0, 0x3, 0, 0x7],
-    [0xe1f00261, 0, 0x12345678, 0, 0, 0x3, 0x7edcba98, 0x3],
-    // and r0, r1, r2
-    [
-        0xe0010002, 0, 0xffffffff, 0x80000001, 0, 0x6, 0x80000001, 0x6,
-    ],
-    // sub r0, r1, r2
-    [
-        0xe0410002, 0, 0xffffffff, 0x80000001, 0, 0x6, 0x7ffffffe, 0x6,
-    ],
-    // mov r0, r2
-    [
-        0xe1a00002, 0, 0xffffffff, 0x80000001, 0, 0x6, 0x80000001, 0x6,
-    ],
-    // adc r0, r1, r2
-    [
-        0xe0a10002, 0, 0xffffffff, 0x80000001, 0, 0x6, 0x80000001, 0x6,
-    ],
-    // Moves and parts.
-    // movw r0, #0xffff
-    [0xe30f0fff, 0x12345678, 0, 0, 0, 0x9, 0xffff, 0x9],
-    // movw r0, #0x8001
-    [0xe3080001, 0xffffffff, 0, 0, 0, 0, 0x8001, 0],
-    // movt r0, #0xffff
-    [0xe34f0fff, 0x12345678, 0, 0, 0, 0x9, 0xffff5678, 0x9],
-    // movt r0, #0
-    [0xe3400000, 0xffff1234, 0, 0, 0, 0, 0x1234, 0],
-    // nop
-    [0xe320f000, 0x5, 0, 0, 0, 0xa, 0x5, 0xa],
-    // yield
-    [0xe320f001, 0x5, 0, 0, 0, 0x5, 0x5, 0x5],
-    // clz r0, r1
-    [0xe16f0f11, 0, 0, 0, 0, 0x4, 0x20, 0x4],
-    [0xe16f0f11, 0, 1, 0, 0, 0x4, 0x1f, 0x4],
-    [0xe16f0f11, 0, 0x7fffffff, 0, 0, 0x4, 1, 0x4],
-    [0xe16f0f11, 0, 0x80000000, 0, 0, 0x4, 0, 0x4],
-    [0xe16f0f11, 0, 0xffffffff, 0, 0, 0x4, 0, 0x4],
-    [0xe16f0f11, 0, 0x10000, 0, 0, 0x4, 0xf, 0x4],
-    // rev r0, r1
-    [0xe6bf0f31, 0, 0x12345678, 0, 0, 0, 0x78563412, 0],
-    [0xe6bf0f31, 0, 0x80000001, 0, 0, 0, 0x1000080, 0],
-    // sxtb r0, r1
-    [0xe6af0071, 0, 0x7fff8080, 0, 0, 0, 0xffffff80, 0],
-    [0xe6af0071, 0, 0x80807f7f, 0, 0, 0, 0x7f, 0],
-    // sxtb r0, r1, ror #8
-    [0xe6af0471, 0, 0x1280ff34, 0, 0, 0, 0xffffffff, 0],
-    // sxtb r0, r1, ror #16
-    [0xe6af0871, 0, 0x8081ff34, 0, 0, 0, 0xffffff81, 0],
-    // sxtb r0, r1, ror #24
-    [0xe6af0c71, 0, 0xf0123480, 0, 0, 0, 0xfffffff0, 0],
-    // sxth r0, r1
-    [0xe6bf0071, 0, 0x7fff8080, 0, 0, 0, 0xffff8080, 0],
-    [0xe6bf0071, 0, 0x80807f7f, 0, 0, 0, 0x7f7f, 0],
-    // sxth r0, r1, ror #8
-    [0xe6bf0471, 0, 0x1280ff34, 0, 0, 0, 0xffff80ff, 0],
-    // sxth r0, r1, ror #16
-    [0xe6bf0871, 0, 0x8081ff34, 0, 0, 0, 0xffff8081, 0],
-    // sxth r0, r1, ror #24
-    [0xe6bf0c71, 0, 0xf0123480, 0, 0, 0, 0xffff80f0, 0],
-    // uxtb r0, r1
-    [0xe6ef0071, 0, 0x7fff8080, 0, 0, 0, 0x80, 0],
-    [0xe6ef0071, 0, 0x80807f7f, 0, 0, 0, 0x7f, 0],
-    // uxtb r0, r1, ror #8
-    [0xe6ef0471, 0, 0x1280ff34, 0, 0, 0, 0xff, 0],
-    // uxtb r0, r1, ror #16
-    [0xe6ef0871, 0, 0x8081ff34, 0, 0, 0, 0x81, 0],
-    // uxtb r0, r1, ror #24
-    [0xe6ef0c71, 0, 0xf0123480, 0, 0, 0, 0xf0, 0],
-    // uxth r0, r1
-    [0xe6ff0071, 0, 0x7fff8080, 0, 0, 0, 0x8080, 0],
-    [0xe6ff0071, 0, 0x80807f7f, 0, 0, 0, 0x7f7f, 0],
-    // uxth r0, r1, ror #8
-    [0xe6ff0471, 0, 0x1280ff34, 0, 0, 0, 0x80ff, 0],
-    // uxth r0, r1, ror #16
-    [0xe6ff0871, 0, 0x8081ff34, 0, 0, 0, 0x8081, 0],
-    // uxth r0, r1, ror #24
-    [0xe6ff0c71, 0, 0xf0123480, 0, 0, 0, 0x80f0, 0],
-];
+const OPERATIONS: &str = "\
+; word    r0       r1       r2       r3  flags   r0       r1  flags
+; Sums
+; subs r0, r1, r2
+e0510002         0        0        0        0 f         0        0 6
+e0510002         0        0        1        0 0  ffffffff        0 8
+e0510002         0        1        0        0 0         1        1 2
+e0510002         0        1        1        0 f         0        1 6
+e0510002         0 7fffffff        1        0 f  7ffffffe 7fffffff 2
+e0510002         0 80000000        1        0 0  7fffffff 80000000 3
+e0510002         0 80000000 80000000        0 f         0 80000000 6
+e0510002         0 ffffffff        1        0 f  fffffffe ffffffff a
+e0510002         0 ffffffff ffffffff        0 f         0 ffffffff 6
+e0510002         0        0 80000000        0 f  80000000        0 9
+e0510002         0 7fffffff ffffffff        0 f  80000000 7fffffff 9
+e0510002         0        0 ffffffff        0 0         1        0 0
+; rsbs r0, r1, r2
+e0710002         0        0        0        0 f         0        0 6
+e0710002         0        0        1        0 0         1        0 2
+e0710002         0        1        0        0 0  ffffffff        1 8
+e0710002         0        1        1        0 f         0        1 6
+e0710002         0 7fffffff        1        0 f  80000002 7fffffff 8
+e0710002         0 80000000        1        0 0  80000001 80000000 9
+e0710002         0 80000000 80000000        0 f         0 80000000 6
+e0710002         0 ffffffff        1        0 f         2 ffffffff 0
+e0710002         0 ffffffff ffffffff        0 f         0 ffffffff 6
+e0710002         0        0 80000000        0 f  80000000        0 a
+e0710002         0 7fffffff ffffffff        0 f  80000000 7fffffff a
+e0710002         0        0 ffffffff        0 0  ffffffff        0 a
+; adds r0, r1, r2
+e0910002         0        0        0        0 f         0        0 4
+e0910002         0        0        1        0 0         1        0 0
+e0910002         0        1        0        0 0         1        1 0
+e0910002         0        1        1        0 f         2        1 0
+e0910002         0 7fffffff        1        0 f  80000000 7fffffff 9
+e0910002         0 80000000        1        0 0  80000001 80000000 8
+e0910002         0 80000000 80000000        0 f         0 80000000 7
+e0910002         0 ffffffff        1        0 f         0 ffffffff 6
+e0910002         0 ffffffff ffffffff        0 f  fffffffe ffffffff a
+e0910002         0        0 80000000        0 f  80000000        0 8
+e0910002         0 7fffffff ffffffff        0 f  7ffffffe 7fffffff 2
+e0910002         0        0 ffffffff        0 0  ffffffff        0 8
+; adcs r0, r1, r2
+e0b10002         0        0        0        0 0         0        0 4
+e0b10002         0        0        0        0 2         1        0 0
+e0b10002         0        0        1        0 0         1        0 0
+e0b10002         0        0        1        0 2         2        0 0
+e0b10002         0        1        0        0 0         1        1 0
+e0b10002         0        1        0        0 2         2        1 0
+e0b10002         0        1        1        0 0         2        1 0
+e0b10002         0        1        1        0 2         3        1 0
+e0b10002         0 7fffffff        1        0 0  80000000 7fffffff 9
+e0b10002         0 7fffffff        1        0 2  80000001 7fffffff 9
+e0b10002         0 80000000        1        0 0  80000001 80000000 8
+e0b10002         0 80000000        1        0 2  80000002 80000000 8
+e0b10002         0 80000000 80000000        0 0         0 80000000 7
+e0b10002         0 80000000 80000000        0 2         1 80000000 3
+e0b10002         0 ffffffff        1        0 0         0 ffffffff 6
+e0b10002         0 ffffffff        1        0 2         1 ffffffff 2
+e0b10002         0 ffffffff ffffffff        0 0  fffffffe ffffffff a
+e0b10002         0 ffffffff ffffffff        0 2  ffffffff ffffffff a
+e0b10002         0        0 80000000        0 0  80000000        0 8
+e0b10002         0        0 80000000        0 2  80000001        0 8
+e0b10002         0 7fffffff ffffffff        0 0  7ffffffe 7fffffff 2
+e0b10002         0 7fffffff ffffffff        0 2  7fffffff 7fffffff 2
+e0b10002         0        0 ffffffff        0 0  ffffffff        0 8
+e0b10002         0        0 ffffffff        0 2         0        0 6
+; sbcs r0, r1, r2
+e0d10002         0        0        0        0 0  ffffffff        0 8
+e0d10002         0        0        0        0 2         0        0 6
+e0d10002         0        0        1        0 0  fffffffe        0 8
+e0d10002         0        0        1        0 2  ffffffff        0 8
+e0d10002         0        1        0        0 0         0        1 6
+e0d10002         0        1        0        0 2         1        1 2
+e0d10002         0        1        1        0 0  ffffffff        1 8
+e0d10002         0        1        1        0 2         0        1 6
+e0d10002         0 7fffffff        1        0 0  7ffffffd 7fffffff 2
+e0d10002         0 7fffffff        1        0 2  7ffffffe 7fffffff 2
+e0d10002         0 80000000        1        0 0  7ffffffe 80000000 3
+e0d10002         0 80000000        1        0 2  7fffffff 80000000 3
+e0d10002         0 80000000 80000000        0 0  ffffffff 80000000 8
+e0d10002         0 80000000 80000000        0 2         0 80000000 6
+e0d10002         0 ffffffff        1        0 0  fffffffd ffffffff a
+e0d10002         0 ffffffff        1        0 2  fffffffe ffffffff a
+e0d10002         0 ffffffff ffffffff        0 0  ffffffff ffffffff 8
+e0d10002         0 ffffffff ffffffff        0 2         0 ffffffff 6
+e0d10002         0        0 80000000        0 0  7fffffff        0 0
+e0d10002         0        0 80000000        0 2  80000000        0 9
+e0d10002         0 7fffffff ffffffff        0 0  7fffffff 7fffffff 0
+e0d10002         0 7fffffff ffffffff        0 2  80000000 7fffffff 9
+e0d10002         0        0 ffffffff        0 0         0        0 4
+e0d10002         0        0 ffffffff        0 2         1        0 0
+; rscs r0, r1, r2
+e0f10002         0        0        0        0 0  ffffffff        0 8
+e0f10002         0        0        0        0 2         0        0 6
+e0f10002         0        0        1        0 0         0        0 6
+e0f10002         0        0        1        0 2         1        0 2
+e0f10002         0        1        0        0 0  fffffffe        1 8
+e0f10002         0        1        0        0 2  ffffffff        1 8
+e0f10002         0        1        1        0 0  ffffffff        1 8
+e0f10002         0        1        1        0 2         0        1 6
+e0f10002         0 7fffffff        1        0 0  80000001 7fffffff 8
+e0f10002         0 7fffffff        1        0 2  80000002 7fffffff 8
+e0f10002         0 80000000        1        0 0  80000000 80000000 9
+e0f10002         0 80000000        1        0 2  80000001 80000000 9
+e0f10002         0 80000000 80000000        0 0  ffffffff 80000000 8
+e0f10002         0 80000000 80000000        0 2         0 80000000 6
+e0f10002         0 ffffffff        1        0 0         1 ffffffff 0
+e0f10002         0 ffffffff        1        0 2         2 ffffffff 0
+e0f10002         0 ffffffff ffffffff        0 0  ffffffff ffffffff 8
+e0f10002         0 ffffffff ffffffff        0 2         0 ffffffff 6
+e0f10002         0        0 80000000        0 0  7fffffff        0 3
+e0f10002         0        0 80000000        0 2  80000000        0 a
+e0f10002         0 7fffffff ffffffff        0 0  7fffffff 7fffffff 3
+e0f10002         0 7fffffff ffffffff        0 2  80000000 7fffffff a
+e0f10002         0        0 ffffffff        0 0  fffffffe        0 a
+e0f10002         0        0 ffffffff        0 2  ffffffff        0 a
+; cmp r1, r2
+e1510002         9        1        1        0 0         9        1 6
+e1510002         9 7fffffff        1        0 0         9 7fffffff 2
+e1510002         9 80000000        1        0 0         9 80000000 3
+e1510002         9 80000000 80000000        0 0         9 80000000 6
+e1510002         9 ffffffff        1        0 0         9 ffffffff a
+e1510002         9 ffffffff ffffffff        0 0         9 ffffffff 6
+e1510002         9        0 80000000        0 0         9        0 9
+; cmn r1, r2
+e1710002         9        1        1        0 0         9        1 0
+e1710002         9 7fffffff        1        0 0         9 7fffffff 9
+e1710002         9 80000000        1        0 0         9 80000000 8
+e1710002         9 80000000 80000000        0 0         9 80000000 7
+e1710002         9 ffffffff        1        0 0         9 ffffffff 6
+e1710002         9 ffffffff ffffffff        0 0         9 ffffffff a
+e1710002         9        0 80000000        0 0         9        0 8
+; Logical operations
+; ands r0, r1, r2, lsl #1
+e0110082         0  f0f0f0f   ff00ff        0 1   10e010e  f0f0f0f 1
+e0110082         0 ffffffff 80000000        0 2         0 ffffffff 6
+e0110082         0 7fffffff 80000000        0 3         0 7fffffff 7
+; eors r0, r1, r2, lsl #1
+e0310082         0  f0f0f0f   ff00ff        0 1   ef10ef1  f0f0f0f 1
+e0310082         0 ffffffff 80000000        0 2  ffffffff ffffffff a
+e0310082         0 7fffffff 80000000        0 3  7fffffff 7fffffff 3
+; orrs r0, r1, r2, lsl #1
+e1910082         0  f0f0f0f   ff00ff        0 1   fff0fff  f0f0f0f 1
+e1910082         0 ffffffff 80000000        0 2  ffffffff ffffffff a
+e1910082         0 7fffffff 80000000        0 3  7fffffff 7fffffff 3
+; bics r0, r1, r2, lsl #1
+e1d10082         0  f0f0f0f   ff00ff        0 1   e010e01  f0f0f0f 1
+e1d10082         0 ffffffff 80000000        0 2  ffffffff ffffffff a
+e1d10082         0 7fffffff 80000000        0 3  7fffffff 7fffffff 3
+; tst r1, r2, lsr #1
+e11100a2         9  f0f0f0f   ff00ff        0 3         9  f0f0f0f 3
+e11100a2         9 ffffffff 80000000        0 0         9 ffffffff 0
+e11100a2         9 7fffffff 80000000        0 1         9 7fffffff 1
+; teq r1, r2, lsr #1
+e13100a2         9  f0f0f0f   ff00ff        0 3         9  f0f0f0f 3
+e13100a2         9 ffffffff 80000000        0 0         9 ffffffff 8
+e13100a2         9 7fffffff 80000000        0 1         9 7fffffff 1
+; mvns r0, r1, ror #4
+e1f00261         0        0        0        0 3  ffffffff        0 9
+e1f00261         0 ffffffff        0        0 3         0 ffffffff 7
+e1f00261         0 12345678        0        0 3  7edcba98 12345678 3
+; and r0, r1, r2
+e0010002         0 ffffffff 80000001        0 6  80000001 ffffffff 6
+; sub r0, r1, r2
+e0410002         0 ffffffff 80000001        0 6  7ffffffe ffffffff 6
+; mov r0, r2
+e1a00002         0 ffffffff 80000001        0 6  80000001 ffffffff 6
+; adc r0, r1, r2
+e0a10002         0 ffffffff 80000001        0 6  80000001 ffffffff 6
+; Moves and parts
+; movw r0, #0xffff
+e30f0fff  12345678        0        0        0 9      ffff        0 9
+; movw r0, #0x8001
+e3080001  ffffffff        0        0        0 0      8001        0 0
+; movt r0, #0xffff
+e34f0fff  12345678        0        0        0 9  ffff5678        0 9
+; movt r0, #0
+e3400000  ffff1234        0        0        0 0      1234        0 0
+; nop
+e320f000         5        0        0        0 a         5        0 a
+; yield
+e320f001         5        0        0        0 5         5        0 5
+; clz r0, r1
+e16f0f11         0        0        0        0 4        20        0 4
+e16f0f11         0        1        0        0 4        1f        1 4
+e16f0f11         0 7fffffff        0        0 4         1 7fffffff 4
+e16f0f11         0 80000000        0        0 4         0 80000000 4
+e16f0f11         0 ffffffff        0        0 4         0 ffffffff 4
+e16f0f11         0    10000        0        0 4         f    10000 4
+; rev r0, r1
+e6bf0f31         0 12345678        0        0 0  78563412 12345678 0
+e6bf0f31         0 80000001        0        0 0   1000080 80000001 0
+; sxtb r0, r1
+e6af0071         0 7fff8080        0        0 0  ffffff80 7fff8080 0
+e6af0071         0 80807f7f        0        0 0        7f 80807f7f 0
+; sxtb r0, r1, ror #8
+e6af0471         0 1280ff34        0        0 0  ffffffff 1280ff34 0
+; sxtb r0, r1, ror #16
+e6af0871         0 8081ff34        0        0 0  ffffff81 8081ff34 0
+; sxtb r0, r1, ror #24
+e6af0c71         0 f0123480        0        0 0  fffffff0 f0123480 0
+; sxth r0, r1
+e6bf0071         0 7fff8080        0        0 0  ffff8080 7fff8080 0
+e6bf0071         0 80807f7f        0        0 0      7f7f 80807f7f 0
+; sxth r0, r1, ror #8
+e6bf0471         0 1280ff34        0        0 0  ffff80ff 1280ff34 0
+; sxth r0, r1, ror #16
+e6bf0871         0 8081ff34        0        0 0  ffff8081 8081ff34 0
+; sxth r0, r1, ror #24
+e6bf0c71         0 f0123480        0        0 0  ffff80f0 f0123480 0
+; uxtb r0, r1
+e6ef0071         0 7fff8080        0        0 0        80 7fff8080 0
+e6ef0071         0 80807f7f        0        0 0        7f 80807f7f 0
+; uxtb r0, r1, ror #8
+e6ef0471         0 1280ff34        0        0 0        ff 1280ff34 0
+; uxtb r0, r1, ror #16
+e6ef0871         0 8081ff34        0        0 0        81 8081ff34 0
+; uxtb r0, r1, ror #24
+e6ef0c71         0 f0123480        0        0 0        f0 f0123480 0
+; uxth r0, r1
+e6ff0071         0 7fff8080        0        0 0      8080 7fff8080 0
+e6ff0071         0 80807f7f        0        0 0      7f7f 80807f7f 0
+; uxth r0, r1, ror #8
+e6ff0471         0 1280ff34        0        0 0      80ff 1280ff34 0
+; uxth r0, r1, ror #16
+e6ff0871         0 8081ff34        0        0 0      8081 8081ff34 0
+; uxth r0, r1, ror #24
+e6ff0c71         0 f0123480        0        0 0      80f0 f0123480 0
+";
 
 #[test]
-fn operates(rt: HostRuntime) -> Result<(), NoImage> {
-    for [word, r0, r1, r2, r3, flags, value, after] in OPERATIONS {
-        let image = image(rt.alloc(), word)?;
-        let mut cpu = cpu(r0, r1, r2, r3, flags);
-        assert_eq!(rt; cpu.next(&image), Wanted::Done, "at {word:#x}");
-        assert_eq!(rt; cpu.reg(0), value, "at {word:#x} with {r1:#x} and {r2:#x}");
-        assert_eq!(rt;
-            cpu.flags(),
-            flags_of(after),
-            "at {word:#x} with {r1:#x} and {r2:#x}"
-        );
-        assert_eq!(rt; cpu.pc(), 0x1004);
+fn operates(rt: HostRuntime) -> Result<(), Fail> {
+    for row in OPERATIONS.lines() {
+        assert!(rt; agrees(rt.alloc(), row)?, "{row}");
     }
     Ok(())
 }

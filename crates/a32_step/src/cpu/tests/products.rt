@@ -2,176 +2,85 @@
 
 use super::*;
 
-// The word, r0 to r3, the flags before; r0 and the flags after.
-const PRODUCTS: [[u32; 8]; 18] = [
-    // Multiplications.
-    // muls r0, r1, r2
-    [0xe0100291, 0, 0, 0x5, 0, 0, 0, 0x4],
-    [0xe0100291, 0, 0xffffffff, 0xffffffff, 0, 0, 1, 0],
-    [0xe0100291, 0, 0x80000000, 0x2, 0, 0, 0, 0x4],
-    [0xe0100291, 0, 0x10001, 0xffff, 0, 0, 0xffffffff, 0x8],
-    [0xe0100291, 0, 0x7fffffff, 0x3, 0, 0, 0x7ffffffd, 0],
-    [0xe0100291, 0, 0, 0x5, 0, 0x3, 0, 0x7],
-    [0xe0100291, 0, 0xffffffff, 0xffffffff, 0, 0x3, 1, 0x3],
-    [0xe0100291, 0, 0x80000000, 0x2, 0, 0x3, 0, 0x7],
-    [0xe0100291, 0, 0x10001, 0xffff, 0, 0x3, 0xffffffff, 0xb],
-    [0xe0100291, 0, 0x7fffffff, 0x3, 0, 0x3, 0x7ffffffd, 0x3],
-    // mlas r0, r1, r2, r3
-    [
-        0xe0303291, 0, 0xffffffff, 0xffffffff, 0xffffffff, 0x3, 0, 0x7,
-    ],
-    // mls r0, r1, r2, r3
-    [
-        0xe0603291, 0, 0xffffffff, 0xffffffff, 0xffffffff, 0x6, 0xfffffffe, 0x6,
-    ],
-    // mlas r0, r1, r2, r3
-    [0xe0303291, 0, 0x80000000, 0x2, 0x7, 0x3, 0x7, 0x3],
-    // mls r0, r1, r2, r3
-    [0xe0603291, 0, 0x80000000, 0x2, 0x7, 0x6, 0x7, 0x6],
-    // mlas r0, r1, r2, r3
-    [0xe0303291, 0, 0x3, 0x5, 0xfffffff1, 0x3, 0, 0x7],
-    // mls r0, r1, r2, r3
-    [0xe0603291, 0, 0x3, 0x5, 0xfffffff1, 0x6, 0xffffffe2, 0x6],
-    // mlas r0, r1, r2, r3
-    [
-        0xe0303291, 0, 0x7fffffff, 0x7fffffff, 0x80000000, 0x3, 0x80000001, 0xb,
-    ],
-    // mls r0, r1, r2, r3
-    [
-        0xe0603291, 0, 0x7fffffff, 0x7fffffff, 0x80000000, 0x6, 0x7fffffff, 0x6,
-    ],
-];
-
-// The word, r0 to r3; r0, r1 and the flags after, with C and V set before.
-const LONG_PRODUCTS: [[u32; 8]; 40] = [
-    // umulls r0, r1, r2, r3
-    [
-        0xe0910392, 0x9, 0x9, 0xffffffff, 0xffffffff, 1, 0xfffffffe, 0xb,
-    ],
-    [
-        0xe0910392, 0x9, 0x9, 0x80000000, 0x80000000, 0, 0x40000000, 0x3,
-    ],
-    [
-        0xe0910392, 0x9, 0x9, 0x80000000, 0x7fffffff, 0x80000000, 0x3fffffff, 0x3,
-    ],
-    [0xe0910392, 0x9, 0x9, 0, 0xffffffff, 0, 0, 0x7],
-    [0xe0910392, 0x9, 0x9, 0xffffffff, 0x2, 0xfffffffe, 1, 0x3],
-    // umlals r0, r1, r2, r3
-    [
-        0xe0b10392, 1, 0xfffffffe, 0xffffffff, 0xffffffff, 0x2, 0xfffffffc, 0xb,
-    ],
-    [0xe0b10392, 0, 1, 0xffffffff, 0xffffffff, 1, 0xffffffff, 0xb],
-    [
-        0xe0b10392, 0xffffffff, 0xffffffff, 0xffffffff, 0xffffffff, 0, 0xfffffffe, 0xb,
-    ],
-    [
-        0xe0b10392, 1, 0xfffffffe, 0x80000000, 0x80000000, 1, 0x3ffffffe, 0x3,
-    ],
-    [0xe0b10392, 0, 1, 0x80000000, 0x80000000, 0, 0x40000001, 0x3],
-    [
-        0xe0b10392, 0xffffffff, 0xffffffff, 0x80000000, 0x80000000, 0xffffffff, 0x3fffffff, 0x3,
-    ],
-    [
-        0xe0b10392, 1, 0xfffffffe, 0x80000000, 0x7fffffff, 0x80000001, 0x3ffffffd, 0x3,
-    ],
-    [
-        0xe0b10392, 0, 1, 0x80000000, 0x7fffffff, 0x80000000, 0x40000000, 0x3,
-    ],
-    [
-        0xe0b10392, 0xffffffff, 0xffffffff, 0x80000000, 0x7fffffff, 0x7fffffff, 0x3fffffff, 0x3,
-    ],
-    [0xe0b10392, 1, 0xfffffffe, 0, 0xffffffff, 1, 0xfffffffe, 0xb],
-    [0xe0b10392, 0, 1, 0, 0xffffffff, 0, 1, 0x3],
-    [
-        0xe0b10392, 0xffffffff, 0xffffffff, 0, 0xffffffff, 0xffffffff, 0xffffffff, 0xb,
-    ],
-    [
-        0xe0b10392, 1, 0xfffffffe, 0xffffffff, 0x2, 0xffffffff, 0xffffffff, 0xb,
-    ],
-    [0xe0b10392, 0, 1, 0xffffffff, 0x2, 0xfffffffe, 0x2, 0x3],
-    [
-        0xe0b10392, 0xffffffff, 0xffffffff, 0xffffffff, 0x2, 0xfffffffd, 1, 0x3,
-    ],
-    // smulls r0, r1, r2, r3
-    [0xe0d10392, 0x9, 0x9, 0xffffffff, 0xffffffff, 1, 0, 0x3],
-    [
-        0xe0d10392, 0x9, 0x9, 0x80000000, 0x80000000, 0, 0x40000000, 0x3,
-    ],
-    [
-        0xe0d10392, 0x9, 0x9, 0x80000000, 0x7fffffff, 0x80000000, 0xc0000000, 0xb,
-    ],
-    [0xe0d10392, 0x9, 0x9, 0, 0xffffffff, 0, 0, 0x7],
-    [
-        0xe0d10392, 0x9, 0x9, 0xffffffff, 0x2, 0xfffffffe, 0xffffffff, 0xb,
-    ],
-    // smlals r0, r1, r2, r3
-    [
-        0xe0f10392, 1, 0xfffffffe, 0xffffffff, 0xffffffff, 0x2, 0xfffffffe, 0xb,
-    ],
-    [0xe0f10392, 0, 1, 0xffffffff, 0xffffffff, 1, 1, 0x3],
-    [
-        0xe0f10392, 0xffffffff, 0xffffffff, 0xffffffff, 0xffffffff, 0, 0, 0x7,
-    ],
-    [
-        0xe0f10392, 1, 0xfffffffe, 0x80000000, 0x80000000, 1, 0x3ffffffe, 0x3,
-    ],
-    [0xe0f10392, 0, 1, 0x80000000, 0x80000000, 0, 0x40000001, 0x3],
-    [
-        0xe0f10392, 0xffffffff, 0xffffffff, 0x80000000, 0x80000000, 0xffffffff, 0x3fffffff, 0x3,
-    ],
-    [
-        0xe0f10392, 1, 0xfffffffe, 0x80000000, 0x7fffffff, 0x80000001, 0xbffffffe, 0xb,
-    ],
-    [
-        0xe0f10392, 0, 1, 0x80000000, 0x7fffffff, 0x80000000, 0xc0000001, 0xb,
-    ],
-    [
-        0xe0f10392, 0xffffffff, 0xffffffff, 0x80000000, 0x7fffffff, 0x7fffffff, 0xc0000000, 0xb,
-    ],
-    [0xe0f10392, 1, 0xfffffffe, 0, 0xffffffff, 1, 0xfffffffe, 0xb],
-    [0xe0f10392, 0, 1, 0, 0xffffffff, 0, 1, 0x3],
-    [
-        0xe0f10392, 0xffffffff, 0xffffffff, 0, 0xffffffff, 0xffffffff, 0xffffffff, 0xb,
-    ],
-    [
-        0xe0f10392, 1, 0xfffffffe, 0xffffffff, 0x2, 0xffffffff, 0xfffffffd, 0xb,
-    ],
-    [0xe0f10392, 0, 1, 0xffffffff, 0x2, 0xfffffffe, 0, 0x3],
-    [
-        0xe0f10392, 0xffffffff, 0xffffffff, 0xffffffff, 0x2, 0xfffffffd, 0xffffffff, 0xb,
-    ],
-];
+const PRODUCTS: &str = "\
+; word    r0       r1       r2       r3  flags   r0       r1  flags
+; muls r0, r1, r2
+e0100291         0        0        5        0 0         0        0 4
+e0100291         0 ffffffff ffffffff        0 0         1 ffffffff 0
+e0100291         0 80000000        2        0 0         0 80000000 4
+e0100291         0    10001     ffff        0 0  ffffffff    10001 8
+e0100291         0 7fffffff        3        0 0  7ffffffd 7fffffff 0
+e0100291         0        0        5        0 3         0        0 7
+e0100291         0 ffffffff ffffffff        0 3         1 ffffffff 3
+e0100291         0 80000000        2        0 3         0 80000000 7
+e0100291         0    10001     ffff        0 3  ffffffff    10001 b
+e0100291         0 7fffffff        3        0 3  7ffffffd 7fffffff 3
+; mlas r0, r1, r2, r3
+e0303291         0 ffffffff ffffffff ffffffff 3         0 ffffffff 7
+; mls r0, r1, r2, r3
+e0603291         0 ffffffff ffffffff ffffffff 6  fffffffe ffffffff 6
+; mlas r0, r1, r2, r3
+e0303291         0 80000000        2        7 3         7 80000000 3
+; mls r0, r1, r2, r3
+e0603291         0 80000000        2        7 6         7 80000000 6
+; mlas r0, r1, r2, r3
+e0303291         0        3        5 fffffff1 3         0        3 7
+; mls r0, r1, r2, r3
+e0603291         0        3        5 fffffff1 6  ffffffe2        3 6
+; mlas r0, r1, r2, r3
+e0303291         0 7fffffff 7fffffff 80000000 3  80000001 7fffffff b
+; mls r0, r1, r2, r3
+e0603291         0 7fffffff 7fffffff 80000000 6  7fffffff 7fffffff 6
+; umulls r0, r1, r2, r3
+e0910392         9        9 ffffffff ffffffff 3         1 fffffffe b
+e0910392         9        9 80000000 80000000 3         0 40000000 3
+e0910392         9        9 80000000 7fffffff 3  80000000 3fffffff 3
+e0910392         9        9        0 ffffffff 3         0        0 7
+e0910392         9        9 ffffffff        2 3  fffffffe        1 3
+; umlals r0, r1, r2, r3
+e0b10392         1 fffffffe ffffffff ffffffff 3         2 fffffffc b
+e0b10392         0        1 ffffffff ffffffff 3         1 ffffffff b
+e0b10392  ffffffff ffffffff ffffffff ffffffff 3         0 fffffffe b
+e0b10392         1 fffffffe 80000000 80000000 3         1 3ffffffe 3
+e0b10392         0        1 80000000 80000000 3         0 40000001 3
+e0b10392  ffffffff ffffffff 80000000 80000000 3  ffffffff 3fffffff 3
+e0b10392         1 fffffffe 80000000 7fffffff 3  80000001 3ffffffd 3
+e0b10392         0        1 80000000 7fffffff 3  80000000 40000000 3
+e0b10392  ffffffff ffffffff 80000000 7fffffff 3  7fffffff 3fffffff 3
+e0b10392         1 fffffffe        0 ffffffff 3         1 fffffffe b
+e0b10392         0        1        0 ffffffff 3         0        1 3
+e0b10392  ffffffff ffffffff        0 ffffffff 3  ffffffff ffffffff b
+e0b10392         1 fffffffe ffffffff        2 3  ffffffff ffffffff b
+e0b10392         0        1 ffffffff        2 3  fffffffe        2 3
+e0b10392  ffffffff ffffffff ffffffff        2 3  fffffffd        1 3
+; smulls r0, r1, r2, r3
+e0d10392         9        9 ffffffff ffffffff 3         1        0 3
+e0d10392         9        9 80000000 80000000 3         0 40000000 3
+e0d10392         9        9 80000000 7fffffff 3  80000000 c0000000 b
+e0d10392         9        9        0 ffffffff 3         0        0 7
+e0d10392         9        9 ffffffff        2 3  fffffffe ffffffff b
+; smlals r0, r1, r2, r3
+e0f10392         1 fffffffe ffffffff ffffffff 3         2 fffffffe b
+e0f10392         0        1 ffffffff ffffffff 3         1        1 3
+e0f10392  ffffffff ffffffff ffffffff ffffffff 3         0        0 7
+e0f10392         1 fffffffe 80000000 80000000 3         1 3ffffffe 3
+e0f10392         0        1 80000000 80000000 3         0 40000001 3
+e0f10392  ffffffff ffffffff 80000000 80000000 3  ffffffff 3fffffff 3
+e0f10392         1 fffffffe 80000000 7fffffff 3  80000001 bffffffe b
+e0f10392         0        1 80000000 7fffffff 3  80000000 c0000001 b
+e0f10392  ffffffff ffffffff 80000000 7fffffff 3  7fffffff c0000000 b
+e0f10392         1 fffffffe        0 ffffffff 3         1 fffffffe b
+e0f10392         0        1        0 ffffffff 3         0        1 3
+e0f10392  ffffffff ffffffff        0 ffffffff 3  ffffffff ffffffff b
+e0f10392         1 fffffffe ffffffff        2 3  ffffffff fffffffd b
+e0f10392         0        1 ffffffff        2 3  fffffffe        0 3
+e0f10392  ffffffff ffffffff ffffffff        2 3  fffffffd ffffffff b
+";
 
 #[test]
-fn multiplies(rt: HostRuntime) -> Result<(), NoImage> {
-    for [word, r0, r1, r2, r3, flags, value, after] in PRODUCTS {
-        let image = image(rt.alloc(), word)?;
-        let mut cpu = cpu(r0, r1, r2, r3, flags);
-        assert_eq!(rt; cpu.next(&image), Wanted::Done, "at {word:#x}");
-        assert_eq!(rt; cpu.reg(0), value, "at {word:#x} with {r1:#x} and {r2:#x}");
-        assert_eq!(rt;
-            cpu.flags(),
-            flags_of(after),
-            "at {word:#x} with {r1:#x} and {r2:#x}"
-        );
-        assert_eq!(rt; cpu.pc(), 0x1004);
-    }
-    Ok(())
-}
-
-#[test]
-fn multiplies_long(rt: HostRuntime) -> Result<(), NoImage> {
-    for [word, r0, r1, r2, r3, low, high, after] in LONG_PRODUCTS {
-        let image = image(rt.alloc(), word)?;
-        let mut cpu = cpu(r0, r1, r2, r3, 3);
-        assert_eq!(rt; cpu.next(&image), Wanted::Done, "at {word:#x}");
-        assert_eq!(rt; cpu.reg(0), low, "at {word:#x} with {r2:#x} and {r3:#x}");
-        assert_eq!(rt; cpu.reg(1), high, "at {word:#x} with {r2:#x} and {r3:#x}");
-        assert_eq!(rt;
-            cpu.flags(),
-            flags_of(after),
-            "at {word:#x} with {r2:#x} and {r3:#x}"
-        );
+fn multiplies(rt: HostRuntime) -> Result<(), Fail> {
+    for row in PRODUCTS.lines() {
+        assert!(rt; agrees(rt.alloc(), row)?, "{row}");
     }
     Ok(())
 }
