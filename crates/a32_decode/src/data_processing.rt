@@ -42,7 +42,7 @@ pub fn with_registers(word: u32) -> Result<Instr, DecodeFault>
 
 /// Data processing with an immediate, wide moves and hints: a word whose bits 27:25 are 001 (DDI 0406C A5.2).
 #[inline]
-#[tactic(auto, using(crate::proofs::Groups::silent_compare))]
+#[tactic(auto, using(a32_instr::proofs::SilentCompare::silent_compare))]
 pub fn with_immediate(word: u32) -> Result<Instr, DecodeFault>
     requires group { bits_of word 25 3 ≡ 1 }
     requires cond { bits_of word 28 4 < 15 }
@@ -105,7 +105,7 @@ fn shifted_by_number(word: u32) -> Result<Instr, DecodeFault>
 
 // Data processing with a register that is shifted by another, and its neighbours (DDI 0406C A5.2.2, A5.2.12).
 #[inline]
-#[tactic(auto, using(crate::proofs::Groups::silent_compare))]
+#[tactic(auto, using(a32_instr::proofs::SilentCompare::silent_compare))]
 fn shifted_by_register(word: u32) -> Result<Instr, DecodeFault>
     requires group { bits_of word 25 3 ≡ 0 }
     requires by_register { bits_of word 4 1 ≡ 1 }

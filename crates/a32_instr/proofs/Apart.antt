@@ -1,13 +1,13 @@
 -- Rows that no word fits together, by a test of their fixed bits that computes.
-use Rattle.std.proofs.Common.{◌≡◌, ℕ, zero, suc, ◌+◌, ◌-◌, ◌/◌, ◌%◌, ◌^◌, ◌<◌, ◌≤◌, ◌==◌, nat_le, nat_lt, ◌&&◌, ◌||◌, not, Bool, true, false, IsTrue, List, [], ◌∷◌, All, AllPairs, ⊎_elim, arith, refl, ◌∙◌, sym, ap, shr-shr, subst}
+use Rattle.std.proofs.Common.{◌≡◌, ℕ, zero, suc, ◌+◌, ◌-◌, ◌/◌, ◌%◌, ◌^◌, ◌<◌, ◌≤◌, ◌==◌, nat_le, nat_lt, ◌&&◌, ◌||◌, not, Bool, true, false, IsTrue, List, [], ◌∷◌, All, AllPairs, ⊎_elim, arith, refl, ◌∙◌, sym, ap, shr-shr}
 use Rattle.std.specs.List.{list_any, list_all}
 use Rattle.std.proofs.lemmas.Bool.{and_parts, or_cases, eqb-true, leb-true, ltb-true, eq-eqb, both_ways, not-true}
 use Rattle.std.proofs.lemmas.Nat.{field_of, mod-pow-add}
 use Rattle.std.proofs.lemmas.List.Elements.{All-cons, All-nil}
 use Rattle.std.proofs.lemmas.List.Kept.{AllPairs-cons}
 use Rattle.a32_instr.specs.Bits.{Run, bits_of, value_of, has_all, has_bits, runs_of, field}
-use Rattle.a32_instr.specs.declared.instructions.AluOp.{AluOp}
-use Rattle.a32_instr.specs.Table.{Row, fits, AreApart, condition_fits, c, is_compare, is_move, alu_op, alu_fits}
+use Rattle.a32_instr.specs.Table.{Row, fits, AreApart, condition_fits, c, alu_op, alu_fits}
+use Rattle.a32_instr.proofs.SilentCompare.{silent_compare}
 
 -- The test.
 
@@ -141,27 +141,6 @@ fixes_is word p value (run ∷ runs) all e =
 abbrev pub is_silent : Row → Bool
 is_silent row = fixes 24 1 (runs_of 0 row.bits) && (fixes 23 0 (runs_of 0 row.bits) && fixes 20 0 (runs_of 0 row.bits))
 
-compare_op : (k : ℕ) → k < 4 → is_compare (alu_op (8 + k)) ≡ true
-unfolding alu_op
-compare_op zero small = refl
-compare_op (suc zero) small = refl
-compare_op (suc (suc zero)) small = refl
-compare_op (suc (suc (suc zero))) small = refl
-compare_op (suc (suc (suc (suc k)))) small = absurd (omega arith)
-
--- a compare that sets no flags fits no row of data processing
-silent_compare : (op : AluOp) (sets rd rn : ℕ) → is_compare op ≡ true → sets ≡ 0 → IsTrue (alu_fits op sets rd rn) → ⊥
-unfolding alu_fits
-silent_compare op sets rd rn compare silent h =
-    let parts : IsTrue (not (is_compare op) || ((sets == 1) && (rd == 0))) × IsTrue (not (is_move op) || (rn == 0)) =
-    and_parts (not (is_compare op) || ((sets == 1) && (rd == 0))) (not (is_move op) || (rn == 0)) h in
-    ⊎_elim
-    (λ other. both_ways (is_compare op) (not-true (is_compare op) other) compare)
-    (λ loud.
-    let set : sets ≡ 1 = eqb-true sets 1 (and_parts (sets == 1) (rd == 0) loud).0 in
-    omega arith)
-    (or_cases (not (is_compare op)) ((sets == 1) && (rd == 0)) parts.0)
-
 -- a row asks for the form of data processing
 abbrev pub IsData : Row → Type 0
 IsData row = (word : ℕ) → IsTrue (row.further (field word row.bits)) → (rd rn : ℕ) × IsTrue (alu_fits (alu_op (bits_of word 21 4)) (bits_of word 20 1) rd rn)
@@ -176,11 +155,8 @@ silent_apart row other data_row e word small h g =
     let bit_24 : word / 2 ^ 24 % 2 ≡ 1 = fixes_is word 24 1 (runs_of 0 other.bits) all parts.0 in
     let bit_23 : word / 2 ^ 23 % 2 ≡ 0 = fixes_is word 23 0 (runs_of 0 other.bits) all low.0 in
     let bit_20 : word / 2 ^ 20 % 2 ≡ 0 = fixes_is word 20 0 (runs_of 0 other.bits) all low.1 in
-    let opcode : 8 + bits_of word 21 2 ≡ bits_of word 21 4 = omega arith in
-    let compare : is_compare (alu_op (bits_of word 21 4)) ≡ true =
-    subst (λ (o : ℕ). is_compare (alu_op o) ≡ true) opcode (compare_op (bits_of word 21 2) (omega arith)) in
     let form : (rd rn : ℕ) × IsTrue (alu_fits (alu_op (bits_of word 21 4)) (bits_of word 20 1) rd rn) = data_row word (further_of row word h) in
-    silent_compare (alu_op (bits_of word 21 4)) (bits_of word 20 1) form.0 form.1 compare bit_20 form.2
+    silent_compare word form.0 form.1 form.2 (omega arith) bit_20
 
 -- Rows against a list of rows.
 

@@ -346,3 +346,6 @@ impl Cpu {
         }
     }
 }
+
+#[cfg(test)]
+mod tests;

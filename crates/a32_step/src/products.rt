@@ -26,7 +26,7 @@ pub fn product_plus(x: u32, y: u32, z: u32) -> u32
 /// A number less a product, modulo 2 to the 32.
 #[inline(always)]
 #[tactic(auto, unfolding(a32_instr::specs::Multiply::less_product))]
-pub fn less(x: u32, y: u32, z: u32) -> u32
+pub fn minus_product(x: u32, y: u32, z: u32) -> u32
     ensures { result ≡ less_product x y z }
 {
     x.wrapping_sub(y.wrapping_mul(z))

@@ -5,7 +5,7 @@ ghost use Rattle.a32_step.specs.Machine.{wanted_of, moved_on, between};
 
 use super::Cpu;
 use crate::phases::Wanted;
-use crate::products::{less, product, product_plus, wide};
+use crate::products::{minus_product, product, product_plus, wide};
 use crate::shifts::is_negative;
 use a32_instr::{Flags, Instr, LongKind, Reg};
 
@@ -73,7 +73,7 @@ impl Cpu {
         ensures wanted { result ≡ wanted_of (multiplies_and_subtracts rd rn rm ra self.old.state) }
         ensures state { (instr : Instr) → self.new ≡ moved_on instr self.old (multiplies_and_subtracts rd rn rm ra self.old.state) }
     {
-        let value = less(self.operand(ra), self.operand(rn), self.operand(rm));
+        let value = minus_product(self.operand(ra), self.operand(rn), self.operand(rm));
         self.write(self.flags, rd, value)
     }
 

@@ -1,0 +1,59 @@
+//! Conditions, and writes to the PC.
+
+use super::*;
+
+// A move of 1 to r0 under each condition, and the flags at which it was done: bit F is set for flags F.
+const CONDITIONS: [[u32; 2]; 15] = [
+    [0x03a00001, 0xf0f0],
+    [0x13a00001, 0x0f0f],
+    [0x23a00001, 0xcccc],
+    [0x33a00001, 0x3333],
+    [0x43a00001, 0xff00],
+    [0x53a00001, 0x00ff],
+    [0x63a00001, 0xaaaa],
+    [0x73a00001, 0x5555],
+    [0x83a00001, 0x0c0c],
+    [0x93a00001, 0xf3f3],
+    [0xa3a00001, 0xaa55],
+    [0xb3a00001, 0x55aa],
+    [0xc3a00001, 0x0a05],
+    [0xd3a00001, 0xf5fa],
+    [0xe3a00001, 0xffff],
+];
+
+#[test]
+fn passes_conditions(rt: HostRuntime) -> Result<(), Fail> {
+    for [word, passing] in CONDITIONS {
+        let image = image(rt.alloc(), word)?;
+        for flags in 0..16u32 {
+            let mut cpu = cpu(0, 0, 0, 0, flags);
+            assert_eq!(rt; cpu.next(&image), Wanted::Done, "at {word:#x}");
+            assert_eq!(rt;
+                cpu.reg(0),
+                passing >> flags & 1,
+                "at {word:#x} with {flags}"
+            );
+            assert_eq!(rt; cpu.pc(), 0x1004);
+        }
+    }
+    Ok(())
+}
+
+// `mov pc, r1`: the PC takes a multiple of 4, and nothing else (DDI 0406C A2.3.2, BXWritePC).
+#[test]
+fn writes_the_pc(rt: HostRuntime) -> Result<(), Fail> {
+    let image = image(rt.alloc(), 0xe1a0_f001)?;
+    let cases = [
+        (0x1008, Wanted::Done, 0x1008),
+        (0xffff_fffc, Wanted::Done, 0xffff_fffc),
+        (0x1001, Wanted::Stopped(Stop::Thumb(0x1000)), 0x1000),
+        (0x1003, Wanted::Stopped(Stop::Thumb(0x1000)), 0x1000),
+        (0x1002, Wanted::Stopped(Stop::Unpredictable(0x1000)), 0x1000),
+    ];
+    for (target, wanted, pc) in cases {
+        let mut cpu = cpu(0, target, 0, 0, 0);
+        assert_eq!(rt; cpu.next(&image), wanted, "to {target:#x}");
+        assert_eq!(rt; cpu.pc(), pc, "to {target:#x}");
+    }
+    Ok(())
+}
