@@ -230,3 +230,6 @@ pub fn llsc<H: Host>(alloc: Global, words: &[String], host: &mut H) -> Ended
         Some(request) => run_file(alloc, host, request.file()),
     }
 }
+
+#[cfg(test)]
+mod tests;
