@@ -43,6 +43,7 @@ fn say<H: Host>(host: &mut H, text: &[u8], status: u8) -> Ended
     ensures ended { (result.status ≡ status) ⊎ (result.status ≡ 5) }
     ensures said { result.status ≡ status → Adds (H.written host.old) (H.written host.new) text.now }
     ensures cut { result.status ≡ 5 → Rose (H.write_faults host.old) (H.write_faults host.new) × AddsFront (H.written host.old) (H.written host.new) text.now }
+    ensures write_answered { result.status ≢ 5 → H.write_faults host.new ≡ H.write_faults host.old }
     ensures files { H.file host.new ≡ H.file host.old }
     ensures read_faults { H.read_faults host.new ≡ H.read_faults host.old }
     ensures lost { H.lost host.new ≡ H.lost host.old }
@@ -80,6 +81,7 @@ fn refuse<H: Host>(alloc: Global, host: &mut H, name: &str) -> Ended
     ensures said { result.status ≡ 4 → Adds (H.written host.old) (H.written host.new) (refusal_text name.now) }
     ensures cut { result.status ≡ 5 → Rose (H.write_faults host.old) (H.write_faults host.new) × AddsFront (H.written host.old) (H.written host.new) (refusal_text name.now) }
     ensures memory { result.status ≡ 6 → H.written host.new ≡ H.written host.old }
+    ensures write_answered { result.status ≢ 5 → H.write_faults host.new ≡ H.write_faults host.old }
     ensures files { H.file host.new ≡ H.file host.old }
     ensures read_faults { H.read_faults host.new ≡ H.read_faults host.old }
     ensures lost { H.lost host.new ≡ H.lost host.old }
@@ -99,6 +101,7 @@ fn run<H: Host>(alloc: Global, host: &mut H, image: &Image) -> Ended
     ensures cut { result.status ≡ 5 → Rose (H.write_faults host.old) (H.write_faults host.new) × (end : ThreadEnd) × (IsSoloEnd image.now solo_size solo_budget end
         × AddsFront (H.written host.old) (H.written host.new) (report_of solo_budget end)) }
     ensures memory { result.status ≡ 6 → H.written host.new ≡ H.written host.old }
+    ensures write_answered { result.status ≢ 5 → H.write_faults host.new ≡ H.write_faults host.old }
     ensures files { H.file host.new ≡ H.file host.old }
     ensures read_faults { H.read_faults host.new ≡ H.read_faults host.old }
     ensures lost { H.lost host.new ≡ H.lost host.old }
@@ -124,6 +127,7 @@ fn refuse_flat<H: Host>(alloc: Global, host: &mut H, fault: FlatFault) -> Ended
     ensures said { result.status ≡ 4 → Adds (H.written host.old) (H.written host.new) (refusal_text (flat_fault_name fault)) }
     ensures cut { result.status ≡ 5 → Rose (H.write_faults host.old) (H.write_faults host.new) × AddsFront (H.written host.old) (H.written host.new) (refusal_text (flat_fault_name fault)) }
     ensures memory { result.status ≡ 6 → H.written host.new ≡ H.written host.old }
+    ensures write_answered { result.status ≢ 5 → H.write_faults host.new ≡ H.write_faults host.old }
     ensures files { H.file host.new ≡ H.file host.old }
     ensures read_faults { H.read_faults host.new ≡ H.read_faults host.old }
     ensures lost { H.lost host.new ≡ H.lost host.old }
@@ -141,6 +145,7 @@ fn respond<H: Host>(alloc: Global, host: &mut H, file: &[u8]) -> Ended
     ensures done { IsDone result.status → (text : List ℕ) × (Answers file.now result.status text × Adds (H.written host.old) (H.written host.new) text) }
     ensures cut { result.status ≡ 5 → Rose (H.write_faults host.old) (H.write_faults host.new) × (status : ℕ) × (text : List ℕ) × (Answers file.now status text × AddsFront (H.written host.old) (H.written host.new) text) }
     ensures memory { result.status ≡ 6 → H.written host.new ≡ H.written host.old }
+    ensures write_answered { result.status ≢ 5 → H.write_faults host.new ≡ H.write_faults host.old }
     ensures files { H.file host.new ≡ H.file host.old }
     ensures read_faults { H.read_faults host.new ≡ H.read_faults host.old }
     ensures lost { H.lost host.new ≡ H.lost host.old }
@@ -161,6 +166,7 @@ fn refuse_read<H: Host>(host: &mut H, fault: ReadFault) -> Ended
     ensures said_too_long { result.status ≡ 4 → Adds (H.written host.old) (H.written host.new) (refusal_text (codes "FileTooLong")) }
     ensures cut { result.status ≡ 5 → Rose (H.write_faults host.old) (H.write_faults host.new) × CutAfter fault (H.written host.old) (H.written host.new) }
     ensures memory { result.status ≡ 6 → H.written host.new ≡ H.written host.old }
+    ensures write_answered { result.status ≢ 5 → H.write_faults host.new ≡ H.write_faults host.old }
     ensures files { H.file host.new ≡ H.file host.old }
     ensures read_faults { H.read_faults host.new ≡ H.read_faults host.old }
     ensures lost { H.lost host.new ≡ H.lost host.old }
@@ -180,7 +186,8 @@ fn run_file<H: Host>(alloc: Global, host: &mut H, name: &str) -> Ended
     ensures write { result.status ≡ 5 → Rose (H.write_faults host.old) (H.write_faults host.new) }
     ensures cut { result.status ≡ 5 → IsCutFile (H.file host.old name.now) (Rose (H.read_faults host.old) (H.read_faults host.new) × (H.lost host.new ≡ name.now)) (H.written host.old) (H.written host.new) }
     ensures memory { result.status ≡ 6 → H.written host.new ≡ H.written host.old }
-    ensures no_fault { result.status ≡ 6 → H.read_faults host.new ≡ H.read_faults host.old }
+    ensures write_answered { result.status ≢ 5 → H.write_faults host.new ≡ H.write_faults host.old }
+    ensures read_answered { result.status ≢ 3 → result.status ≢ 5 → H.read_faults host.new ≡ H.read_faults host.old }
 {
     let Ok(owned) = String::from_str(alloc, name) else {
         return out_of_memory();
@@ -221,12 +228,18 @@ pub fn llsc<H: Host>(alloc: Global, words: &[String], host: &mut H) -> Ended
         (ReadFailed (request_of (map string_bytes words.now)) (H.read_faults host.old) (H.read_faults host.new) (H.lost host.new))
         (H.written host.old) (H.written host.new) }
 
-    // Want of memory leaves no trace, and no failed read is answered as want of memory.
+    // And each failure that the host had in this call is answered as one.
+    ensures write_answered { result.status ≢ 5 → H.write_faults host.new ≡ H.write_faults host.old }
+    ensures read_answered { result.status ≢ 3 → result.status ≢ 5 → H.read_faults host.new ≡ H.read_faults host.old }
+
+    // Want of memory leaves no trace.
     ensures memory { result.status ≡ 6 → H.written host.new ≡ H.written host.old }
-    ensures no_fault { result.status ≡ 6 → H.read_faults host.new ≡ H.read_faults host.old }
 {
     match parse(words) {
         None => say(host, b"llsc: words\n", 2),
         Some(request) => run_file(alloc, host, request.file()),
     }
 }
+
+#[cfg(test)]
+mod tests;
