@@ -1,5 +1,5 @@
 -- Rows that no word fits together, by a test of their fixed bits that computes.
-use Rattle.std.proofs.Common.{◌≡◌, ℕ, zero, suc, ◌+◌, ◌-◌, ◌/◌, ◌%◌, ◌^◌, ◌<◌, ◌≤◌, ◌==◌, nat_le, nat_lt, ◌&&◌, ◌||◌, not, Bool, true, false, IsTrue, List, [], ◌∷◌, All, AllPairs, ⊎_elim, arith, refl, ◌∙◌, sym, ap, shr-shr}
+use Rattle.std.proofs.Common.{◌≡◌, ℕ, zero, suc, ◌+◌, ◌-◌, ◌/◌, ◌%◌, ◌^◌, ◌<◌, ◌≤◌, ◌==◌, nat_le, nat_lt, ◌&&◌, ◌||◌, not, Bool, true, false, IsTrue, List, [], ◌∷◌, All, AllPairs, ⊎_elim, arith, refl, ◌∙◌, sym, ap, shr-shr, subst}
 use Rattle.std.specs.List.{list_any, list_all}
 use Rattle.std.proofs.lemmas.Bool.{and_parts, or_cases, eqb-true, leb-true, ltb-true, eq-eqb, both_ways, not-true}
 use Rattle.std.proofs.lemmas.Nat.{field_of, mod-pow-add}
