@@ -41,7 +41,7 @@ fn host_of(
 
 #[test]
 fn answers_each_program(rt: HostRuntime) -> Result<(), Fail> {
-    let cases: [(&[u32], u8, &str); 12] = [
+    let cases: [(&[u32], u8, &str); 18] = [
         (
             LEAVE,
             0,
@@ -111,6 +111,81 @@ fn answers_each_program(rt: HostRuntime) -> Result<(), Fail> {
             &[0xe3a0_f000],
             1,
             "thread 0 stop outside 00000000 steps 1 out 0\n\nreads 0 writes 0 fails 0\n",
+        ),
+        // a load-exclusive and a store-exclusive of the word, whose status is the code
+        (
+            &[
+                0xe3a0_1a02,
+                0xe191_0f9f,
+                0xe280_0007,
+                0xe181_2f90,
+                0xe1a0_0002,
+                0xe3a0_7001,
+                0xef00_0000,
+            ],
+            0,
+            "thread 0 stop exit 0 steps 7 out 0\n\nreads 1 writes 1 fails 0\n",
+        ),
+        // a store-exclusive with no load-exclusive before it
+        (
+            &[
+                0xe3a0_1a02,
+                0xe181_2f90,
+                0xe1a0_0002,
+                0xe3a0_7001,
+                0xef00_0000,
+            ],
+            1,
+            "thread 0 stop exit 1 steps 5 out 0\n\nreads 0 writes 0 fails 1\n",
+        ),
+        // one behind a clear-exclusive
+        (
+            &[
+                0xe3a0_1a02,
+                0xe191_0f9f,
+                0xf57f_f01f,
+                0xe181_2f90,
+                0xe1a0_0002,
+                0xe3a0_7001,
+                0xef00_0000,
+            ],
+            1,
+            "thread 0 stop exit 1 steps 7 out 0\n\nreads 1 writes 0 fails 1\n",
+        ),
+        // a second one behind a first
+        (
+            &[
+                0xe3a0_1a02,
+                0xe191_0f9f,
+                0xe181_2f90,
+                0xe181_2f90,
+                0xe1a0_0002,
+                0xe3a0_7001,
+                0xef00_0000,
+            ],
+            1,
+            "thread 0 stop exit 1 steps 7 out 0\n\nreads 1 writes 1 fails 1\n",
+        ),
+        // one behind the thread's own store to another row
+        (
+            &[
+                0xe3a0_1a02,
+                0xe3a0_3a0a,
+                0xe191_0f9f,
+                0xe583_0000,
+                0xe181_2f90,
+                0xe1a0_0002,
+                0xe3a0_7001,
+                0xef00_0000,
+            ],
+            0,
+            "thread 0 stop exit 0 steps 8 out 0\n\nreads 1 writes 2 fails 0\n",
+        ),
+        // one whose status register is that of its value
+        (
+            &[0xe181_0f90],
+            1,
+            "thread 0 stop unpredictable 00001000 steps 0 out 0\n\nreads 0 writes 0 fails 0\n",
         ),
         (&[], 4, "llsc: Length\n"),
         (&[0x464c_457f], 4, "llsc: Elf\n"),
