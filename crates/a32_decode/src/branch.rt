@@ -1,10 +1,10 @@
 //! Branches and supervisor calls (DDI 0406C A5.5, A5.6).
 ghost use Rattle.std.specs.Prelude.{◌≡◌, ◌<◌, ◌^◌, ◌∷◌, []};
 ghost use Rattle.a32_instr.specs.Bits.{bits_of};
-ghost use Rattle.a32_instr.specs.Table.{branch, svc, signed24};
+ghost use Rattle.a32_instr.specs.Table.{branch, branch_reg, svc, signed24};
 ghost use Rattle.a32_decode.specs.Rows.{Fits, Means, NoneFits};
 
-use crate::bits::{bit, bits, condition};
+use crate::bits::{bit, bits, condition, register};
 use a32_instr::{DecodeFault, Instr};
 
 /// A branch: a word whose bits 27:25 are 101 (DDI 0406C A5.5).
@@ -15,14 +15,33 @@ pub fn immediate(word: u32) -> Result<Instr, DecodeFault>
     ensures branch { Fits branch word → Means branch word result }
     ensures none { NoneFits (branch ∷ []) word → result ≡ Err DecodeFault.Undefined }
 {
-    let link = bit(word, 24);
-    if link {
-        return Err(DecodeFault::Undefined);
-    }
     Ok(Instr::Branch {
         cond: condition(word),
-        link,
+        link: bit(word, 24),
         words: signed(bits(word, 0, 24)),
+    })
+}
+
+/// BX and BLX: a word whose bits 27:20 are 00010010 (DDI 0406C A5.2.12).
+#[inline]
+pub fn by_register(word: u32) -> Result<Instr, DecodeFault>
+    requires group { bits_of word 20 8 ≡ 0x12 }
+    requires cond { bits_of word 28 4 < 15 }
+    ensures branch_reg { Fits branch_reg word → Means branch_reg word result }
+    ensures none { NoneFits (branch_reg ∷ []) word → result ≡ Err DecodeFault.Undefined }
+{
+    if bits(word, 8, 12) != 0xfff || bits(word, 6, 2) != 0 || bits(word, 4, 1) != 1 {
+        return Err(DecodeFault::Undefined);
+    }
+    let link = bit(word, 5);
+    let rm = register(word, 0);
+    if link && rm.num() == 15 {
+        return Err(DecodeFault::Unpredictable);
+    }
+    Ok(Instr::BranchReg {
+        cond: condition(word),
+        link,
+        rm,
     })
 }
 

@@ -1,12 +1,12 @@
 //! Data-processing instructions and their neighbours (DDI 0406C A5.2).
 ghost use Rattle.std.specs.Prelude.{◌≡◌, ◌<◌, ◌==◌, ◌&&◌, ◌∷◌, []};
 ghost use Rattle.a32_instr.specs.Bits.{bits_of};
-ghost use Rattle.a32_instr.specs.Table.{alu_imm, alu_by_num, alu_by_reg, movw, movt, nop, yields, mul, mla, mls, long, clz, load_ex, store_ex, alu_fits, alu_op, alu_unpredictable, shift_kind};
+ghost use Rattle.a32_instr.specs.Table.{alu_imm, alu_by_num, alu_by_reg, movw, movt, nop, yields, mul, mla, mls, long, clz, branch_reg, load_ex, store_ex, alu_fits, alu_op, alu_unpredictable, shift_kind};
 ghost use Rattle.a32_decode.specs.Rows.{Fits, Means, NoneFits};
 
 use crate::bits::{bit, bits, condition, register};
 use crate::pc::{one_of_2_is_pc, one_of_4_is_pc};
-use crate::{multiply, synchronization};
+use crate::{branch, multiply, synchronization};
 use a32_instr::{AluOp, DecodeFault, Instr, Operand2, Reg, ShiftKind};
 
 /// Data processing with registers, multiplications and exclusives: a word whose bits 27:25 are 000 (DDI 0406C A5.2).
@@ -21,9 +21,10 @@ pub fn with_registers(word: u32) -> Result<Instr, DecodeFault>
     ensures mls { Fits mls word → Means mls word result }
     ensures long { Fits long word → Means long word result }
     ensures clz { Fits clz word → Means clz word result }
+    ensures branch_reg { Fits branch_reg word → Means branch_reg word result }
     ensures load_ex { Fits load_ex word → Means load_ex word result }
     ensures store_ex { Fits store_ex word → Means store_ex word result }
-    ensures none { NoneFits (alu_by_num ∷ alu_by_reg ∷ mul ∷ mla ∷ mls ∷ long ∷ clz ∷ load_ex ∷ store_ex ∷ []) word → result ≡ Err DecodeFault.Undefined }
+    ensures none { NoneFits (alu_by_num ∷ alu_by_reg ∷ mul ∷ mla ∷ mls ∷ long ∷ clz ∷ branch_reg ∷ load_ex ∷ store_ex ∷ []) word → result ≡ Err DecodeFault.Undefined }
 {
     if !bit(word, 4) {
         return shifted_by_number(word);
@@ -113,10 +114,11 @@ fn shifted_by_register(word: u32) -> Result<Instr, DecodeFault>
     requires cond { bits_of word 28 4 < 15 }
     ensures alu_by_reg { Fits alu_by_reg word → Means alu_by_reg word result }
     ensures clz { Fits clz word → Means clz word result }
-    ensures none { NoneFits (alu_by_reg ∷ clz ∷ []) word → result ≡ Err DecodeFault.Undefined }
+    ensures branch_reg { Fits branch_reg word → Means branch_reg word result }
+    ensures none { NoneFits (alu_by_reg ∷ clz ∷ branch_reg ∷ []) word → result ≡ Err DecodeFault.Undefined }
 {
     if is_silent_compare(word) {
-        return leading_zeros(word);
+        return miscellaneous(word);
     }
     if !is_form(word) {
         return Err(DecodeFault::Undefined);
@@ -179,6 +181,23 @@ fn hint(word: u32) -> Result<Instr, DecodeFault>
         0x20f001 => Ok(Instr::Yield { cond }),
         _ => Err(DecodeFault::Undefined),
     }
+}
+
+// Miscellaneous instructions (DDI 0406C A5.2.12).
+#[inline]
+fn miscellaneous(word: u32) -> Result<Instr, DecodeFault>
+    requires group { bits_of word 25 3 ≡ 0 }
+    requires compare { bits_of word 23 2 ≡ 2 }
+    requires silent { bits_of word 20 1 ≡ 0 }
+    requires cond { bits_of word 28 4 < 15 }
+    ensures clz { Fits clz word → Means clz word result }
+    ensures branch_reg { Fits branch_reg word → Means branch_reg word result }
+    ensures none { NoneFits (clz ∷ branch_reg ∷ []) word → result ≡ Err DecodeFault.Undefined }
+{
+    if bits(word, 21, 2) == 1 {
+        return branch::by_register(word);
+    }
+    leading_zeros(word)
 }
 
 // CLZ (DDI 0406C A8.8.33).

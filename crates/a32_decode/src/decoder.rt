@@ -1,6 +1,6 @@
 ghost use Rattle.std.specs.Prelude.{◌≡◌, ◌<◌, ◌∷◌, []};
 ghost use Rattle.a32_instr.specs.Bits.{bits_of};
-ghost use Rattle.a32_instr.specs.Table.{alu_imm, alu_by_num, alu_by_reg, movw, movt, nop, yields, mul, mla, mls, long, clz, extend, rev, word_imm, branch, svc, load_ex, store_ex, clrex, meaning, table};
+ghost use Rattle.a32_instr.specs.Table.{alu_imm, alu_by_num, alu_by_reg, movw, movt, nop, yields, mul, mla, mls, long, clz, extend, rev, word_imm, branch, branch_reg, svc, load_ex, store_ex, clrex, barrier, meaning, table};
 ghost use Rattle.a32_decode.specs.Rows.{Fits, Means, NoneFits};
 
 use crate::bits::{bit, bits};
@@ -20,6 +20,7 @@ pub fn decode(word: u32) -> Result<Instr, DecodeFault>
 #[inline]
 fn by_class(word: u32) -> Result<Instr, DecodeFault>
     ensures clrex { Fits clrex word → Means clrex word result }
+    ensures barrier { Fits barrier word → Means barrier word result }
     ensures alu_imm { Fits alu_imm word → Means alu_imm word result }
     ensures alu_by_num { Fits alu_by_num word → Means alu_by_num word result }
     ensures alu_by_reg { Fits alu_by_reg word → Means alu_by_reg word result }
@@ -36,6 +37,7 @@ fn by_class(word: u32) -> Result<Instr, DecodeFault>
     ensures rev { Fits rev word → Means rev word result }
     ensures word_imm { Fits word_imm word → Means word_imm word result }
     ensures branch { Fits branch word → Means branch word result }
+    ensures branch_reg { Fits branch_reg word → Means branch_reg word result }
     ensures svc { Fits svc word → Means svc word result }
     ensures load_ex { Fits load_ex word → Means load_ex word result }
     ensures store_ex { Fits store_ex word → Means store_ex word result }

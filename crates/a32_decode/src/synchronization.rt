@@ -1,12 +1,12 @@
-//! Synchronization primitives (DDI 0406C A5.2.10).
+//! Synchronization primitives (DDI 0406C A5.2.10) and barriers (A5.7.1).
 ghost use Rattle.std.specs.Prelude.{◌≡◌, ◌<◌, ◌∷◌, []};
 ghost use Rattle.a32_instr.specs.Bits.{bits_of};
-ghost use Rattle.a32_instr.specs.Table.{load_ex, store_ex, clrex, exclusive_size, no_pair, status_clashes};
+ghost use Rattle.a32_instr.specs.Table.{load_ex, store_ex, clrex, barrier, barrier_kind, exclusive_size, no_pair, status_clashes};
 ghost use Rattle.a32_decode.specs.Rows.{Fits, Means, NoneFits};
 
 use crate::bits::{bit, bits, condition, register};
 use crate::pc::{one_of_2_is_pc, one_of_3_is_pc};
-use a32_instr::{DecodeFault, Instr, Reg};
+use a32_instr::{BarrierKind, DecodeFault, Instr, Reg};
 use llsc_base::Size;
 
 /// A load-exclusive or a store-exclusive: a word whose bits 27:24 are 0001 and 7:4 are 1001.
@@ -19,7 +19,7 @@ pub fn exclusive(word: u32) -> Result<Instr, DecodeFault>
     ensures store_ex { Fits store_ex word → Means store_ex word result }
     ensures none { NoneFits (load_ex ∷ store_ex ∷ []) word → result ≡ Err DecodeFault.Undefined }
 {
-    if bits(word, 8, 4) != 15 || !bit(word, 23) || bits(word, 21, 2) != 0 {
+    if bits(word, 8, 4) != 15 || !bit(word, 23) {
         return Err(DecodeFault::Undefined);
     }
     if bit(word, 20) {
@@ -32,7 +32,6 @@ pub fn exclusive(word: u32) -> Result<Instr, DecodeFault>
 #[inline]
 fn load(word: u32) -> Result<Instr, DecodeFault>
     requires group { bits_of word 23 5 ≡ 3 }
-    requires size { bits_of word 21 2 ≡ 0 }
     requires load { bits_of word 20 1 ≡ 1 }
     requires exclusive { bits_of word 4 8 ≡ 0xf9 }
     requires cond { bits_of word 28 4 < 15 }
@@ -60,7 +59,6 @@ fn load(word: u32) -> Result<Instr, DecodeFault>
 #[inline]
 fn store(word: u32) -> Result<Instr, DecodeFault>
     requires group { bits_of word 23 5 ≡ 3 }
-    requires size { bits_of word 21 2 ≡ 0 }
     requires store { bits_of word 20 1 ≡ 0 }
     requires exclusive { bits_of word 4 8 ≡ 0xf9 }
     requires cond { bits_of word 28 4 < 15 }
@@ -88,12 +86,51 @@ fn store(word: u32) -> Result<Instr, DecodeFault>
 pub fn unconditional(word: u32) -> Result<Instr, DecodeFault>
     requires { bits_of word 28 4 ≡ 15 }
     ensures clrex { Fits clrex word → Means clrex word result }
-    ensures none { NoneFits (clrex ∷ []) word → result ≡ Err DecodeFault.Undefined }
+    ensures barrier { Fits barrier word → Means barrier word result }
+    ensures none { NoneFits (clrex ∷ barrier ∷ []) word → result ≡ Err DecodeFault.Undefined }
 {
-    if word != 0xf57f_f01f {
+    if bits(word, 8, 20) != 0x57ff0 {
+        return Err(DecodeFault::Undefined);
+    }
+    if bits(word, 6, 2) == 1 {
+        return memory_barrier(word);
+    }
+    if bits(word, 0, 8) != 0x1f {
         return Err(DecodeFault::Undefined);
     }
     Ok(Instr::Clrex)
+}
+
+// DSB, DMB and ISB (DDI 0406C A8.8.43, A8.8.44, A8.8.53).
+#[inline]
+fn memory_barrier(word: u32) -> Result<Instr, DecodeFault>
+    requires space { bits_of word 28 4 ≡ 15 }
+    requires group { bits_of word 8 20 ≡ 0x57ff0 }
+    requires barrier { bits_of word 6 2 ≡ 1 }
+    ensures barrier { Fits barrier word → Means barrier word result }
+    ensures none { NoneFits (barrier ∷ []) word → result ≡ Err DecodeFault.Undefined }
+{
+    let kind = bits(word, 4, 2);
+    if kind == 3 {
+        return Err(DecodeFault::Undefined);
+    }
+    Ok(Instr::Barrier {
+        kind: kind_of_barrier(kind),
+        option: bits(word, 0, 4) as u8,
+    })
+}
+
+// The barrier that bits 5:4 name.
+#[inline(always)]
+#[tactic(auto, unfolding(a32_instr::specs::Table::barrier_kind))]
+fn kind_of_barrier(kind: u32) -> BarrierKind
+    ensures { result ≡ barrier_kind kind }
+{
+    match kind {
+        0 => BarrierKind::Dsb,
+        1 => BarrierKind::Dmb,
+        _ => BarrierKind::Isb,
+    }
 }
 
 // The size that bits 22:21 name.

@@ -1,8 +1,8 @@
 -- Branches (DDI 0406C A8.8.18, A8.8.25) and the supervisor call (A8.8.228).
-use Rattle.std.specs.Prelude.{ℕ, ◌+◌, ◌^◌, if◌then◌else◌, Bool, ℤ, pos, ◌+ℤ◌, ◌*ℤ◌, unsigned_abs, slice_index}
+use Rattle.std.specs.Prelude.{ℕ, ◌+◌, ◌^◌, if◌then◌else◌, Bool, ℤ, pos, ◌+ℤ◌, ◌*ℤ◌, unsigned_abs, slice_index, slice_set}
 use Rattle.std.specs.Int.{int_rem_euclid}
 use Rattle.a32_instr.specs.declared.outside.CallAsk.{CallAsk}
-use Rattle.a32_instr.specs.State.{State, Effect, completes, calls, low32, with_register}
+use Rattle.a32_instr.specs.State.{State, Effect, completes, calls, jumps, low32, register}
 
 -- so many words from the address of the instruction plus 8, modulo 2 to the 32
 unfoldable pub target_of : ℕ → ℤ → ℕ
@@ -10,7 +10,7 @@ target_of pc words = unsigned_abs (int_rem_euclid (pos (pc + 8) +ℤ (pos 4 *ℤ
 
 -- with a link, r14 has the address of the next instruction
 abbrev pub linked : Bool → State → State
-linked link state = if link then with_register state 14 (low32 (state.pc + 4)) else state
+linked link state = record state { regs = if link then slice_set state.regs 14 (low32 (state.pc + 4)) else state.regs }
 
 -- the state after a branch
 abbrev pub branched : Bool → ℤ → State → State
@@ -18,6 +18,13 @@ branched link words state = record (linked link state) { pc = target_of state.pc
 
 abbrev pub branches : Bool → ℤ → State → Effect
 branches link words state = completes (branched link words state)
+
+-- a branch goes to the address that a register has; it is read before the link is written
+abbrev pub branches_to : Bool → ℕ → State → Effect
+branches_to link address state = jumps (linked link state) address
+
+abbrev pub branches_by_register : Bool → ℕ → State → Effect
+branches_by_register link rm state = branches_to link (register state rm) state
 
 -- a guest call has its number in r7, and r0 to r2 as its arguments
 abbrev pub call_of : ℕ → State → CallAsk

@@ -2,14 +2,14 @@
 use Rattle.std.specs.Prelude.{ℕ, if◌then◌else◌, List, [], ◌∷◌}
 use Rattle.llsc_base.specs.Images.{Program}
 use Rattle.a32_instr.specs.declared.instructions.Instr.{Instr}
-use Rattle.a32_instr.specs.declared.instructions.Instr.TheVariants.{Alu, Movw, Movt, Nop, Yield, Mul, Mla, Mls, Long, Clz, Extend, Rev, Word, Branch, Svc, LoadEx, StoreEx, Clrex}
+use Rattle.a32_instr.specs.declared.instructions.Instr.TheVariants.{Alu, Movw, Movt, Nop, Yield, Mul, Mla, Mls, Long, Clz, Extend, Rev, Word, Branch, BranchReg, Svc, LoadEx, StoreEx, Clrex, Barrier}
 use Rattle.a32_instr.specs.Condition.{passes}
 use Rattle.a32_instr.specs.State.{State, Effect, completes, advanced}
 use Rattle.a32_instr.specs.DataProcessing.{alu}
 use Rattle.a32_instr.specs.Multiply.{multiplies, multiplies_and_adds, multiplies_and_subtracts, multiplies_long}
 use Rattle.a32_instr.specs.Moves.{moves_wide, moves_top, counts_zeros, reverses, extends}
 use Rattle.a32_instr.specs.LoadStore.{word}
-use Rattle.a32_instr.specs.Branch.{branches, supervisor_call}
+use Rattle.a32_instr.specs.Branch.{branches, branches_by_register, supervisor_call}
 use Rattle.a32_instr.specs.Exclusive.{load_exclusive, store_exclusive, clear_exclusive}
 
 -- the condition of an instruction; one that has none is carried out always
@@ -28,10 +28,12 @@ condition_of (Extend cond unsigned half rd rm turn) = cond
 condition_of (Rev cond rd rm) = cond
 condition_of (Word cond load byte index rn rt offset) = cond
 condition_of (Branch cond link words) = cond
+condition_of (BranchReg cond link rm) = cond
 condition_of (Svc cond imm) = cond
 condition_of (LoadEx cond size rn rt) = cond
 condition_of (StoreEx cond size rn rd rt) = cond
 condition_of Clrex = 14
+condition_of (Barrier kind option) = 14
 
 -- what an instruction does whose condition has passed
 abbrev pub acts : Instr → Program → List ℕ → State → Effect
@@ -49,10 +51,12 @@ acts (Extend cond unsigned half rd rm turn) program replies state = extends unsi
 acts (Rev cond rd rm) program replies state = reverses rd rm state
 acts (Word cond load byte index rn rt offset) program replies state = word program load byte rn rt offset replies state
 acts (Branch cond link words) program replies state = branches link words state
+acts (BranchReg cond link rm) program replies state = branches_by_register link rm state
 acts (Svc cond imm) program replies state = supervisor_call imm state
 acts (LoadEx cond size rn rt) program replies state = load_exclusive size rn rt program replies state
 acts (StoreEx cond size rn rd rt) program replies state = store_exclusive size rn rd rt program replies state
 acts Clrex program replies state = clear_exclusive replies state
+acts (Barrier kind option) program replies state = completes (advanced state)
 
 -- An instruction whose condition fails is complete and does nothing (DDI 0406C A8.3.1). The condition is tested
 -- before the first access is asked for.

@@ -10,8 +10,10 @@ use Rattle.a32_instr.specs.declared.instructions.LongKind.TheVariants.{Umull, Um
 use Rattle.a32_instr.specs.declared.instructions.Operand2.TheVariants as operand
 use Rattle.a32_instr.specs.declared.instructions.Offset.TheVariants as offset
 use Rattle.a32_instr.specs.declared.instructions.Index.TheVariants.{Plain}
+use Rattle.a32_instr.specs.declared.instructions.BarrierKind.{BarrierKind}
+use Rattle.a32_instr.specs.declared.instructions.BarrierKind.TheVariants.{Dsb, Dmb, Isb}
 use Rattle.a32_instr.specs.declared.instructions.Instr.{Instr}
-use Rattle.a32_instr.specs.declared.instructions.Instr.TheVariants.{Alu, Movw, Movt, Nop, Yield, Mul, Mla, Mls, Long, Clz, Extend, Rev, Word, Branch, Svc, LoadEx, StoreEx, Clrex}
+use Rattle.a32_instr.specs.declared.instructions.Instr.TheVariants.{Alu, Movw, Movt, Nop, Yield, Mul, Mla, Mls, Long, Clz, Extend, Rev, Word, Branch, BranchReg, Svc, LoadEx, StoreEx, Clrex, Barrier}
 use Rattle.llsc_base.specs.declared.access.Size.{Size}
 use Rattle.llsc_base.specs.declared.access.Size.TheVariants.{B1, B2, B4, B8}
 use Rattle.a32_instr.specs.declared.instructions.DecodeFault.{DecodeFault}
@@ -195,6 +197,13 @@ no_pair size rt = (size == 1) && ((rt % 2 == 1) || (rt == 14))
 unfoldable pub status_clashes : ℕ → ℕ → ℕ → ℕ → Bool
 status_clashes size rn rd rt = (rd == rn) || (rd == rt) || ((size == 1) && (rd == rt + 1))
 
+-- the barriers by bits 5:4 (DDI 0406C A5.7.1)
+unfoldable pub barrier_kind : ℕ → BarrierKind
+barrier_kind kind =
+    if kind == 0 then Dsb else
+    if kind == 1 then Dmb else
+    Isb
+
 -- a number of 24 bits, read as signed
 unfoldable pub signed24 : ℕ → ℤ
 signed24 field = if nat_lt field (2 ^ 23) then pos field else pos field -ℤ pos (2 ^ 24)
@@ -336,13 +345,22 @@ word_imm = record {
   instr = λ f. Word (f c) (f l == 1) (f b == 1) Plain (f n) (f t) (offset.Imm (f u == 1) (f i));
 }
 
--- branch (DDI 0406C A5.5)
+-- branch, with a link or without (DDI 0406C A5.5)
 abbrev pub branch : Row
 branch = record {
   bits = runs (codes "cccc 101l iiii iiii iiii iiii iiii iiii");
-  further = λ f. f l == 0;
+  further = always;
   unpredictable = never;
   instr = λ f. Branch (f c) (f l == 1) (signed24 (f i));
+}
+
+-- branch to a register's address, with a link or without (DDI 0406C A5.2.12)
+abbrev pub branch_reg : Row
+branch_reg = record {
+  bits = runs (codes "cccc 0001 0010 1111 1111 1111 00l1 mmmm");
+  further = always;
+  unpredictable = λ f. (f l == 1) && (f m == 15);
+  instr = λ f. BranchReg (f c) (f l == 1) (f m);
 }
 
 -- supervisor call (DDI 0406C A5.6)
@@ -354,11 +372,11 @@ svc = record {
   instr = λ f. Svc (f c) (f i);
 }
 
--- load-exclusive and store-exclusive (DDI 0406C A5.2.10), of words alone
+-- load-exclusive and store-exclusive (DDI 0406C A5.2.10)
 abbrev pub load_ex : Row
 load_ex = record {
   bits = runs (codes "cccc 0001 1zz1 nnnn tttt 1111 1001 1111");
-  further = λ f. f z == 0;
+  further = always;
   unpredictable = λ f. one_of_2_is_pc (f n) (f t) || no_pair (f z) (f t);
   instr = λ f. LoadEx (f c) (exclusive_size (f z)) (f n) (f t);
 }
@@ -366,7 +384,7 @@ load_ex = record {
 abbrev pub store_ex : Row
 store_ex = record {
   bits = runs (codes "cccc 0001 1zz0 nnnn dddd 1111 1001 tttt");
-  further = λ f. f z == 0;
+  further = always;
   unpredictable = λ f. one_of_3_is_pc (f n) (f d) (f t) || status_clashes (f z) (f n) (f d) (f t) || no_pair (f z) (f t);
   instr = λ f. StoreEx (f c) (exclusive_size (f z)) (f n) (f d) (f t);
 }
@@ -380,10 +398,19 @@ clrex = record {
   instr = λ f. Clrex;
 }
 
+-- barriers (DDI 0406C A5.7.1)
+abbrev pub barrier : Row
+barrier = record {
+  bits = runs (codes "1111 0101 0111 1111 1111 0000 01bb oooo");
+  further = λ f. not (f b == 3);
+  unpredictable = never;
+  instr = λ f. Barrier (barrier_kind (f b)) (f o);
+}
+
 abbrev pub table : List Row
 table =
-    clrex ∷ alu_imm ∷ alu_by_num ∷ alu_by_reg ∷ movw ∷ movt ∷ nop ∷ yields ∷ mul ∷ mla ∷ mls ∷ long ∷ clz ∷ extend ∷ rev
-    ∷ word_imm ∷ branch ∷ svc ∷ load_ex ∷ store_ex ∷ []
+    clrex ∷ barrier ∷ alu_imm ∷ alu_by_num ∷ alu_by_reg ∷ movw ∷ movt ∷ nop ∷ yields ∷ mul ∷ mla ∷ mls ∷ long ∷ clz ∷ extend ∷ rev
+    ∷ word_imm ∷ branch ∷ branch_reg ∷ svc ∷ load_ex ∷ store_ex ∷ []
 
 -- The meaning of a word.
 

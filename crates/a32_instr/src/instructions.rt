@@ -97,6 +97,14 @@ pub enum Index {
     Plain,
 }
 
+/// A barrier (DDI 0406C A5.7.1).
+#[derive(Clone, Copy, Debug, PartialEq, Eq)]
+pub enum BarrierKind {
+    Dsb,
+    Dmb,
+    Isb,
+}
+
 /// An instruction by the fields of its word, so that each instruction has one word.
 #[derive(Clone, Copy, Debug, PartialEq, Eq)]
 pub enum Instr {
@@ -204,6 +212,12 @@ pub enum Instr {
         link: bool,
         words: i32,
     },
+    /// BX, and with `link` BLX: the register has the address (DDI 0406C A8.8.27, A8.8.26).
+    BranchReg {
+        cond: Cond,
+        link: bool,
+        rm: Reg,
+    },
     /// SVC with an immediate below 2 to the 24 (DDI 0406C A8.8.228).
     Svc {
         cond: Cond,
@@ -228,6 +242,11 @@ pub enum Instr {
     },
     /// CLREX (DDI 0406C A8.8.32).
     Clrex,
+    /// DSB, DMB and ISB with an option from 0 to 15 (DDI 0406C A8.8.43, A8.8.44, A8.8.53).
+    Barrier {
+        kind: BarrierKind,
+        option: u8,
+    },
 }
 
 /// Why a word is no instruction.

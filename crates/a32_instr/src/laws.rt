@@ -5,7 +5,7 @@ ghost use Rattle.a32_instr.specs.Bits.{width_of};
 ghost use Rattle.a32_instr.specs.Table.{table, meaning, AreApart};
 
 use crate::instructions::{
-    AluOp, DecodeFault, Index, Instr, LongKind, Offset, Operand2, ShiftKind,
+    AluOp, BarrierKind, DecodeFault, Index, Instr, LongKind, Offset, Operand2, ShiftKind,
 };
 use llsc_base::Size;
 
@@ -20,8 +20,8 @@ pub fn no_word_fits_two_rows()
 {}
 
 /// Worked words, computed by the table: `mov r0, #0`, `subs r2, r2, #1`, `cmp r1, #3`, `ldr r0, [r1]`,
-/// `str r0, [r1, #-4]`, a branch to itself and `svc #0`; a `movs pc, #0`, which is unpredictable; and words that
-/// are undefined: a condition field of 15, a compare that sets no flags, and a branch with a link.
+/// `str r0, [r1, #-4]`, a branch to itself, with a link too, and `svc #0`; a `movs pc, #0`, which is unpredictable; and words that
+/// are undefined: a condition field of 15, and a compare that sets no flags.
 #[tactic(auto, unfolding(crate::specs::Table::meaning, crate::specs::Table::alu_op, crate::specs::Table::alu_fits, crate::specs::Table::alu_unpredictable, crate::specs::Table::signed24))]
 pub fn meanings_of_words()
     ensures moves { meaning table 0xE3A00000 ≡ Ok (Instr.Alu 14 AluOp.Mov false 0 0 (Operand2.Imm 0 0)) }
@@ -34,7 +34,7 @@ pub fn meanings_of_words()
     ensures unpredictable { meaning table 0xE3B0F000 ≡ Err DecodeFault.Unpredictable }
     ensures no_condition { meaning table 0xF3A00000 ≡ Err DecodeFault.Undefined }
     ensures no_flags { meaning table 0xE1010003 ≡ Err DecodeFault.Undefined }
-    ensures linked { meaning table 0xEBFFFFFE ≡ Err DecodeFault.Undefined }
+    ensures linked { meaning table 0xEBFFFFFE ≡ Ok (Instr.Branch 14 true (negsuc 1)) }
 {}
 
 /// Worked words of data processing with registers, and of wide moves and hints: `adds r0, r0, #1`,
@@ -69,12 +69,18 @@ pub fn meanings_of_products_and_parts()
     ensures one_destination { meaning table 0xE0811392 ≡ Err DecodeFault.Unpredictable }
 {}
 
-/// Worked words of exclusives: `ldrex r11, [r10]`, `strex r12, r11, [r10]` and `clrex`; and a `strex` whose status
-/// register is that of its value, which is unpredictable.
-#[tactic(auto, unfolding(crate::specs::Table::meaning, crate::specs::Table::alu_op, crate::specs::Table::alu_fits, crate::specs::Table::alu_unpredictable, crate::specs::Table::one_of_2_is_pc, crate::specs::Table::one_of_3_is_pc, crate::specs::Table::exclusive_size, crate::specs::Table::no_pair, crate::specs::Table::status_clashes))]
+/// Worked words of exclusives, branches to registers and barriers: `ldrex r11, [r10]`, `strex r12, r11, [r10]`,
+/// `ldrexd r2, r3, [r1]`, `strexb r0, r2, [r1]`, `clrex`, `bx lr` and `dmb #15`; a `strex` whose status register is that
+/// of its value and a `ldrexd r3, r4, [r1]`, which are unpredictable.
+#[tactic(auto, unfolding(crate::specs::Table::meaning, crate::specs::Table::alu_op, crate::specs::Table::alu_fits, crate::specs::Table::alu_unpredictable, crate::specs::Table::one_of_2_is_pc, crate::specs::Table::one_of_3_is_pc, crate::specs::Table::exclusive_size, crate::specs::Table::no_pair, crate::specs::Table::status_clashes, crate::specs::Table::barrier_kind))]
 pub fn meanings_of_exclusives()
     ensures loads { meaning table 0xE19ABF9F ≡ Ok (Instr.LoadEx 14 Size.B4 10 11) }
     ensures stores { meaning table 0xE18ACF9B ≡ Ok (Instr.StoreEx 14 Size.B4 10 12 11) }
     ensures clears { meaning table 0xF57FF01F ≡ Ok Instr.Clrex }
+    ensures loads_two { meaning table 0xE1B12F9F ≡ Ok (Instr.LoadEx 14 Size.B8 1 2) }
+    ensures stores_byte { meaning table 0xE1C10F92 ≡ Ok (Instr.StoreEx 14 Size.B1 1 0 2) }
+    ensures returns { meaning table 0xE12FFF1E ≡ Ok (Instr.BranchReg 14 false 14) }
+    ensures waits { meaning table 0xF57FF05F ≡ Ok (Instr.Barrier BarrierKind.Dmb 15) }
+    ensures odd_pair { meaning table 0xE1B13F9F ≡ Err DecodeFault.Unpredictable }
     ensures one_register { meaning table 0xE1810F90 ≡ Err DecodeFault.Unpredictable }
 {}

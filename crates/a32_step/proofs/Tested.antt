@@ -8,8 +8,8 @@ use Rattle.a32_instr.specs.declared.outside.Ask.{Ask}
 use Rattle.a32_instr.specs.declared.outside.Ask.TheVariants as ask
 use Rattle.a32_instr.specs.declared.outside.Stop.{Stop}
 use Rattle.a32_instr.specs.declared.instructions.Instr.{Instr}
-use Rattle.a32_instr.specs.declared.instructions.Instr.TheVariants.{Alu, Movw, Movt, Nop, Yield, Mul, Mla, Mls, Long, Clz, Extend, Rev, Word, Branch, Svc, LoadEx, StoreEx, Clrex}
-use Rattle.a32_instr.specs.State.{State, Effect, completes, low32, register, advanced, writes}
+use Rattle.a32_instr.specs.declared.instructions.Instr.TheVariants.{Alu, Movw, Movt, Nop, Yield, Mul, Mla, Mls, Long, Clz, Extend, Rev, Word, Branch, BranchReg, Svc, LoadEx, StoreEx, Clrex, Barrier}
+use Rattle.a32_instr.specs.State.{State, Effect, completes, low32, register, advanced, jumps, writes}
 use Rattle.a32_instr.specs.declared.instructions.AluOp.{AluOp}
 use Rattle.a32_instr.specs.declared.arithmetic.Computed.{Computed}
 use Rattle.a32_instr.specs.Condition.{passes}
@@ -23,6 +23,7 @@ use Rattle.a32_instr.specs.LoadStore.{asks_unless, loads, stores, accesses, move
 use Rattle.a32_instr.specs.Exclusive.{next_register, place_at, stored_part, loads_exclusive, stores_exclusive}
 use Rattle.llsc_base.specs.declared.access.Size.{Size}
 use Rattle.llsc_base.specs.declared.access.Size.TheVariants.{B1, B2, B4, B8}
+use Rattle.a32_instr.specs.Branch.{linked}
 use Rattle.a32_instr.specs.Effect.{acts, condition_of}
 use Rattle.a32_step.specs.declared.phases.Wanted.{Wanted}
 use Rattle.a32_step.specs.Words.{AreWords}
@@ -36,6 +37,10 @@ chosen program replies false x y p q = q
 writes_tested : (program : Program) (replies : List ℕ) (state : State) (r value : ℕ) → IsTested program replies (wanted_of (writes state r value))
 writes_tested program replies state r value =
     chosen program replies (r == 15) _ _ (chosen program replies (value % 2 == 1) _ _ tt (chosen program replies (value % 4 == 2) _ _ tt tt)) tt
+
+jumps_tested : (program : Program) (replies : List ℕ) (state : State) (value : ℕ) → IsTested program replies (wanted_of (jumps state value))
+jumps_tested program replies state value =
+    chosen program replies (value % 2 == 1) _ _ tt (chosen program replies (value % 4 == 2) _ _ tt tt)
 
 choose_below : (b : Bool) (x y : ℕ) → x < 2 ^ 32 → y < 2 ^ 32 → (if b then x else y) < 2 ^ 32
 choose_below true x y p q = p
@@ -116,10 +121,12 @@ acts_tested (Rev cond rd rm) program replies state words = writes_tested program
 acts_tested (Word cond load byte index rn rt offset) program replies state words =
     word_tested program load byte (moved (register state rn) offset) rt replies state words
 acts_tested (Branch cond link distance) program replies state words = tt
+acts_tested (BranchReg cond link rm) program replies state words = jumps_tested program replies (linked link state) (register state rm)
 acts_tested (Svc cond imm) program replies state words = tt
 acts_tested (LoadEx cond size rn rt) program replies state words = exclusive_load_tested size program (place_at size rn state) rt replies state
 acts_tested (StoreEx cond size rn rd rt) program replies state words =
     exclusive_store_tested program (place_at size rn state) (stored_part size rt state) rd replies state (stored_part_fits size rt state words)
+acts_tested (Barrier kind option) program replies state words = tt
 acts_tested Clrex program [] state words = record { passes = tt; fits = tt; room = omega arith }
 acts_tested Clrex program (reply ∷ replies) state words = tt
 

@@ -48,9 +48,10 @@ pub fn condition(instr: &Instr) -> Cond
         Instr::Rev { cond, .. } => *cond,
         Instr::Word { cond, .. } => *cond,
         Instr::Branch { cond, .. } => *cond,
+        Instr::BranchReg { cond, .. } => *cond,
         Instr::Svc { cond, .. } => *cond,
         Instr::LoadEx { cond, .. } => *cond,
         Instr::StoreEx { cond, .. } => *cond,
-        Instr::Clrex => Cond::new(14),
+        Instr::Clrex | Instr::Barrier { .. } => Cond::new(14),
     }
 }

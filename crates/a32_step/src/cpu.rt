@@ -282,7 +282,7 @@ impl Cpu {
             } => self.alu(op, s, rd, rn, operand),
             Instr::Movw { rd, imm, .. } => self.move_wide(rd, imm),
             Instr::Movt { rd, imm, .. } => self.move_top(rd, imm),
-            Instr::Nop { .. } | Instr::Yield { .. } => self.advance(),
+            Instr::Nop { .. } | Instr::Yield { .. } | Instr::Barrier { .. } => self.advance(),
             Instr::Mul { s, rd, rn, rm, .. } => self.multiply(s, rd, rn, rm),
             Instr::Mla {
                 s,
@@ -333,6 +333,7 @@ impl Cpu {
                 )
             }
             Instr::Branch { link, words, .. } => self.branch(link, words),
+            Instr::BranchReg { link, rm, .. } => self.branch_by_register(link, rm),
             Instr::Svc { imm, .. } => self.call(imm),
             Instr::LoadEx { size, rn, rt, .. } => self.load_exclusive(instr, image, size, rn, rt),
             Instr::StoreEx {

@@ -1,12 +1,12 @@
 //! Branches (DDI 0406C A5.5) and the supervisor call (A5.6).
 ghost use Rattle.std.specs.Prelude.{◌≡◌};
-ghost use Rattle.a32_instr.specs.Branch.{branched, call_of};
-ghost use Rattle.a32_step.specs.Machine.{between};
+ghost use Rattle.a32_instr.specs.Branch.{branched, branches_by_register, call_of};
+ghost use Rattle.a32_step.specs.Machine.{between, moved_on, wanted_of};
 
 use super::Cpu;
 use crate::operands::branch_target;
 use crate::phases::{Phase, Wanted};
-use a32_instr::CallAsk;
+use a32_instr::{CallAsk, Instr, Reg, Stop};
 
 impl Cpu {
     /// B and BL (DDI 0406C A8.8.18, A8.8.25).
@@ -19,6 +19,27 @@ impl Cpu {
             self.regs[14] = self.pc.wrapping_add(4);
         }
         self.pc = branch_target(self.pc, words);
+        self.finish();
+        Wanted::Done
+    }
+
+    /// BX and BLX (DDI 0406C A8.8.27, A8.8.26): the register is read before the link is written.
+    #[tactic(auto, using(crate::proofs::Words::words_set))]
+    pub(super) fn branch_by_register(&mut self, link: bool, rm: Reg) -> Wanted
+        ensures wanted { result ≡ wanted_of (branches_by_register link rm self.old.state) }
+        ensures state { (instr : Instr) → self.new ≡ moved_on instr self.old (branches_by_register link rm self.old.state) }
+    {
+        let address = self.operand(rm);
+        if address % 2 == 1 {
+            return self.stop(Stop::Thumb(self.pc));
+        }
+        if address % 4 == 2 {
+            return self.stop(Stop::Unpredictable(self.pc));
+        }
+        if link {
+            self.regs[14] = self.pc.wrapping_add(4);
+        }
+        self.pc = address;
         self.finish();
         Wanted::Done
     }
