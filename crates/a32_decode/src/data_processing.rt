@@ -269,7 +269,7 @@ fn operation(opcode: u32) -> AluOp
 // The kind of shift of two bits (DDI 0406C A8.4.3).
 #[inline]
 #[tactic(auto, unfolding(a32_instr::specs::Table::shift_kind))]
-fn kind_of_shift(kind: u32) -> ShiftKind
+pub fn kind_of_shift(kind: u32) -> ShiftKind
     ensures { result ≡ shift_kind kind }
 {
     match kind {

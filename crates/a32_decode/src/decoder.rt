@@ -1,6 +1,6 @@
 ghost use Rattle.std.specs.Prelude.{◌≡◌, ◌<◌, ◌∷◌, []};
 ghost use Rattle.a32_instr.specs.Bits.{bits_of};
-ghost use Rattle.a32_instr.specs.Table.{alu_imm, alu_by_num, alu_by_reg, movw, movt, nop, yields, mul, mla, mls, long, clz, extend, rev, word_imm, branch, branch_reg, svc, load_ex, store_ex, clrex, barrier, meaning, table};
+ghost use Rattle.a32_instr.specs.Table.{alu_imm, alu_by_num, alu_by_reg, movw, movt, nop, yields, mul, mla, mls, long, clz, extend, rev, word_imm, word_reg, branch, branch_reg, svc, load_ex, store_ex, clrex, barrier, meaning, table};
 ghost use Rattle.a32_decode.specs.Rows.{Fits, Means, NoneFits};
 
 use crate::bits::{bit, bits};
@@ -36,6 +36,7 @@ fn by_class(word: u32) -> Result<Instr, DecodeFault>
     ensures extend { Fits extend word → Means extend word result }
     ensures rev { Fits rev word → Means rev word result }
     ensures word_imm { Fits word_imm word → Means word_imm word result }
+    ensures word_reg { Fits word_reg word → Means word_reg word result }
     ensures branch { Fits branch word → Means branch word result }
     ensures branch_reg { Fits branch_reg word → Means branch_reg word result }
     ensures svc { Fits svc word → Means svc word result }
@@ -57,18 +58,19 @@ fn by_class(word: u32) -> Result<Instr, DecodeFault>
     }
 }
 
-// A load or a store with a register offset, of which the table has none yet, or a media instruction: a word whose
-// bits 27:25 are 011 (DDI 0406C A5.1).
+// A load or a store with a register offset, or a media instruction: a word whose bits 27:25 are 011
+// (DDI 0406C A5.1).
 #[inline]
 fn by_register_or_media(word: u32) -> Result<Instr, DecodeFault>
     requires group { bits_of word 25 3 ≡ 3 }
     requires cond { bits_of word 28 4 < 15 }
     ensures extend { Fits extend word → Means extend word result }
     ensures rev { Fits rev word → Means rev word result }
-    ensures none { NoneFits (extend ∷ rev ∷ []) word → result ≡ Err DecodeFault.Undefined }
+    ensures word_reg { Fits word_reg word → Means word_reg word result }
+    ensures none { NoneFits (extend ∷ rev ∷ word_reg ∷ []) word → result ≡ Err DecodeFault.Undefined }
 {
     if !bit(word, 4) {
-        return Err(DecodeFault::Undefined);
+        return load_store::by_register(word);
     }
     media::media(word)
 }

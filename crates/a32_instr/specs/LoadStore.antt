@@ -1,5 +1,5 @@
 -- Loads and stores of a word or a byte (DDI 0406C A5.3, A8.5, A8.8.62 to A8.8.67, A8.8.203 to A8.8.208).
-use Rattle.std.specs.Prelude.{ℕ, ◌+◌, ◌-◌, ◌%◌, ◌^◌, if◌then◌else◌, Bool, true, false, Option, Some, None, List, [], ◌∷◌}
+use Rattle.std.specs.Prelude.{ℕ, ◌+◌, ◌-◌, ◌%◌, ◌^◌, if◌then◌else◌, Bool, true, false, Option, Some, None, List, [], ◌∷◌, slice_set}
 use Rattle.llsc_base.specs.declared.access.Size.TheVariants.{B1, B4}
 use Rattle.llsc_base.specs.declared.access.Size.{Size}
 use Rattle.llsc_base.specs.declared.access.Place.{Place}
@@ -7,16 +7,48 @@ use Rattle.llsc_base.specs.declared.access.Bar.{Bar}
 use Rattle.llsc_base.specs.declared.access.Bar.TheVariants as bar
 use Rattle.llsc_base.specs.Images.{Program, bar_of}
 use Rattle.a32_instr.specs.declared.instructions.Offset.{Offset}
-use Rattle.a32_instr.specs.declared.instructions.Offset.TheVariants.{Imm}
+use Rattle.a32_instr.specs.declared.instructions.Offset.TheVariants.{Imm, Shifted}
+use Rattle.a32_instr.specs.declared.instructions.Index.{Index}
+use Rattle.a32_instr.specs.declared.instructions.Index.TheVariants.{Plain, Pre, Post}
+use Rattle.a32_instr.specs.Shift.{shifted_by_number}
 use Rattle.a32_instr.specs.declared.outside.Ask.{Ask}
 use Rattle.a32_instr.specs.declared.outside.Ask.TheVariants.{Load, Store}
 use Rattle.a32_instr.specs.declared.outside.Stop.{Stop}
 use Rattle.a32_instr.specs.declared.outside.Stop.TheVariants.{Alignment, Outside, ReadOnly}
 use Rattle.a32_instr.specs.State.{State, Effect, asks, completes, stops, low32, register, advanced, writes}
 
--- an address moved by an offset, modulo 2 to the 32
-abbrev pub moved : ℕ → Offset → ℕ
-moved base (Imm add imm) = if add then low32 (base + imm) else low32 (base + (2 ^ 32 - imm))
+-- whether an offset is added or taken away
+abbrev pub is_added : Offset → Bool
+is_added (Imm add imm) = add
+is_added (Shifted add rm kind amount) = add
+
+-- how far it moves: a number, or a register that is shifted by the number in the word
+abbrev pub distance_of : Offset → State → ℕ
+distance_of (Imm add imm) state = imm
+distance_of (Shifted add rm kind amount) state = (shifted_by_number kind (register state rm) amount state.flags.c).value
+
+-- an address moved up or down, modulo 2 to the 32
+abbrev pub moved : ℕ → Bool → ℕ → ℕ
+moved base add distance = if add then low32 (base + distance) else low32 (base + (2 ^ 32 - distance))
+
+-- the moved address of a load or a store
+abbrev pub moved_address : ℕ → Offset → State → ℕ
+moved_address rn offset state = moved (register state rn) (is_added offset) (distance_of offset state)
+
+-- the address that is accessed: the moved one, or with a post index the base
+abbrev pub accessed_address : Index → ℕ → ℕ → ℕ
+accessed_address Plain base moved = moved
+accessed_address Pre base moved = moved
+accessed_address Post base moved = base
+
+-- the registers with the moved address in the base register, where the index writes it back
+abbrev pub back_regs : Index → ℕ → ℕ → List ℕ → List ℕ
+back_regs Plain rn moved regs = regs
+back_regs Pre rn moved regs = slice_set regs rn moved
+back_regs Post rn moved regs = slice_set regs rn moved
+
+abbrev pub written_back : Index → ℕ → ℕ → State → State
+written_back index rn moved state = record state { regs = back_regs index rn moved state.regs }
 
 -- the stop of a thread whose access is barred
 abbrev pub barred : Bar → ℕ → Stop
@@ -29,15 +61,15 @@ abbrev pub asks_unless : Option Bar → ℕ → Ask → Effect
 asks_unless None addr ask = asks ask
 asks_unless (Some bar) addr ask = stops (barred bar addr)
 
--- a load asks for its place, and writes the reply to its register, which has 32 bits
-abbrev pub loads : Program → Place → ℕ → List ℕ → State → Effect
-loads program place rt [] state = asks_unless (bar_of program place false) place.addr (Load place)
-loads program place rt (value ∷ _) state = writes state rt (low32 value)
+-- a load asks for its place, and writes the reply to its register, which has 32 bits, after the write-back
+abbrev pub loads : Program → Place → State → ℕ → List ℕ → State → Effect
+loads program place back rt [] state = asks_unless (bar_of program place false) place.addr (Load place)
+loads program place back rt (value ∷ _) state = writes back rt (low32 value)
 
--- a store asks for its place with a value, and is complete with the reply
-abbrev pub stores : Program → Place → ℕ → List ℕ → State → Effect
-stores program place value [] state = asks_unless (bar_of program place true) place.addr (Store place value)
-stores program place value (_ ∷ _) state = completes (advanced state)
+-- a store asks for its place with a value, and is complete with the reply and the write-back
+abbrev pub stores : Program → Place → State → ℕ → List ℕ → State → Effect
+stores program place back value [] state = asks_unless (bar_of program place true) place.addr (Store place value)
+stores program place back value (_ ∷ _) state = completes (advanced back)
 
 -- a byte access has one byte of the register
 abbrev pub access_size : Bool → Size
@@ -46,12 +78,18 @@ access_size byte = if byte then B1 else B4
 abbrev pub part_of : Bool → ℕ → ℕ
 part_of byte value = if byte then value % 256 else value
 
-abbrev pub accesses : Program → Bool → Bool → Place → ℕ → List ℕ → State → Effect
-accesses program load byte place rt replies state =
+abbrev pub accesses : Program → Bool → Bool → Place → State → ℕ → List ℕ → State → Effect
+accesses program load byte place back rt replies state =
     if load
-    then loads program place rt replies state
-    else stores program place (part_of byte (register state rt)) replies state
+    then loads program place back rt replies state
+    else stores program place back (part_of byte (register state rt)) replies state
 
-abbrev pub word : Program → Bool → Bool → ℕ → ℕ → Offset → List ℕ → State → Effect
-word program load byte rn rt offset replies state =
-    accesses program load byte (record { addr = moved (register state rn) offset; size = access_size byte }) rt replies state
+-- a load or a store, by its base and its moved address
+abbrev pub word_at : Program → Bool → Bool → Index → ℕ → ℕ → ℕ → List ℕ → State → Effect
+word_at program load byte index rn rt moved replies state =
+    accesses program load byte (record { addr = accessed_address index (register state rn) moved; size = access_size byte })
+    (written_back index rn moved state) rt replies state
+
+abbrev pub word : Program → Bool → Bool → Index → ℕ → ℕ → Offset → List ℕ → State → Effect
+word program load byte index rn rt offset replies state =
+    word_at program load byte index rn rt (moved_address rn offset state) replies state

@@ -9,7 +9,8 @@ use Rattle.a32_instr.specs.declared.instructions.LongKind.{LongKind}
 use Rattle.a32_instr.specs.declared.instructions.LongKind.TheVariants.{Umull, Umlal, Smull, Smlal}
 use Rattle.a32_instr.specs.declared.instructions.Operand2.TheVariants as operand
 use Rattle.a32_instr.specs.declared.instructions.Offset.TheVariants as offset
-use Rattle.a32_instr.specs.declared.instructions.Index.TheVariants.{Plain}
+use Rattle.a32_instr.specs.declared.instructions.Index.{Index}
+use Rattle.a32_instr.specs.declared.instructions.Index.TheVariants.{Plain, Pre, Post}
 use Rattle.a32_instr.specs.declared.instructions.BarrierKind.{BarrierKind}
 use Rattle.a32_instr.specs.declared.instructions.BarrierKind.TheVariants.{Dsb, Dmb, Isb}
 use Rattle.a32_instr.specs.declared.instructions.Instr.{Instr}
@@ -197,6 +198,18 @@ no_pair size rt = (size == 1) && ((rt % 2 == 1) || (rt == 14))
 unfoldable pub status_clashes : ℕ → ℕ → ℕ → ℕ → Bool
 status_clashes size rn rd rt = (rd == rn) || (rd == rt) || ((size == 1) && (rd == rt + 1))
 
+-- the index forms by bits 24 and 21 (DDI 0406C A8.5); a post index with bit 21 set is another instruction
+unfoldable pub index_fits : ℕ → ℕ → Bool
+index_fits p w = not ((p == 0) && (w == 1))
+
+unfoldable pub index_of : ℕ → ℕ → Index
+index_of p w = if p == 0 then Post else if w == 1 then Pre else Plain
+
+-- a base that is written back is neither the PC nor the other register; a byte is not loaded into the PC, nor stored from it
+unfoldable pub word_unpredictable : ℕ → ℕ → ℕ → ℕ → ℕ → Bool
+word_unpredictable p w b rn rt =
+    (((p == 0) || (w == 1)) && ((rn == 15) || (rn == rt))) || ((b == 1) && (rt == 15))
+
 -- the barriers by bits 5:4 (DDI 0406C A5.7.1)
 unfoldable pub barrier_kind : ℕ → BarrierKind
 barrier_kind kind =
@@ -336,13 +349,21 @@ rev = record {
   instr = λ f. Rev (f c) (f d) (f m);
 }
 
--- load and store of a word with an immediate offset and no write-back (DDI 0406C A5.3)
+-- load and store of a word or a byte (DDI 0406C A5.3), with an immediate offset and with a register
 abbrev pub word_imm : Row
 word_imm = record {
   bits = runs (codes "cccc 010p ubwl nnnn tttt iiii iiii iiii");
-  further = λ f. (f p == 1) && (f w == 0) && (f b == 0);
-  unpredictable = never;
-  instr = λ f. Word (f c) (f l == 1) (f b == 1) Plain (f n) (f t) (offset.Imm (f u == 1) (f i));
+  further = λ f. index_fits (f p) (f w);
+  unpredictable = λ f. word_unpredictable (f p) (f w) (f b) (f n) (f t);
+  instr = λ f. Word (f c) (f l == 1) (f b == 1) (index_of (f p) (f w)) (f n) (f t) (offset.Imm (f u == 1) (f i));
+}
+
+abbrev pub word_reg : Row
+word_reg = record {
+  bits = runs (codes "cccc 011p ubwl nnnn tttt aaaa akk0 mmmm");
+  further = λ f. index_fits (f p) (f w);
+  unpredictable = λ f. word_unpredictable (f p) (f w) (f b) (f n) (f t) || (f m == 15);
+  instr = λ f. Word (f c) (f l == 1) (f b == 1) (index_of (f p) (f w)) (f n) (f t) (offset.Shifted (f u == 1) (f m) (shift_kind (f k)) (f a));
 }
 
 -- branch, with a link or without (DDI 0406C A5.5)
@@ -410,7 +431,7 @@ barrier = record {
 abbrev pub table : List Row
 table =
     clrex ∷ barrier ∷ alu_imm ∷ alu_by_num ∷ alu_by_reg ∷ movw ∷ movt ∷ nop ∷ yields ∷ mul ∷ mla ∷ mls ∷ long ∷ clz ∷ extend ∷ rev
-    ∷ word_imm ∷ branch ∷ branch_reg ∷ svc ∷ load_ex ∷ store_ex ∷ []
+    ∷ word_imm ∷ word_reg ∷ branch ∷ branch_reg ∷ svc ∷ load_ex ∷ store_ex ∷ []
 
 -- The meaning of a word.
 

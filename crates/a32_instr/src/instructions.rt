@@ -88,6 +88,13 @@ pub enum LongKind {
 pub enum Offset {
     /// At most 4095 bytes.
     Imm { add: bool, imm: u16 },
+    /// A register that is shifted by a number, which is at most 31.
+    Shifted {
+        add: bool,
+        rm: Reg,
+        kind: ShiftKind,
+        amount: u8,
+    },
 }
 
 /// How a load or a store uses its moved address (DDI 0406C A8.5).
@@ -95,6 +102,10 @@ pub enum Offset {
 pub enum Index {
     /// The moved address is accessed, and the base register keeps its value.
     Plain,
+    /// The moved address is accessed, and written to the base register.
+    Pre,
+    /// The base register's address is accessed, and the moved address is written to it.
+    Post,
 }
 
 /// A barrier (DDI 0406C A5.7.1).

@@ -22,7 +22,7 @@ pub fn no_word_fits_two_rows()
 /// Worked words, computed by the table: `mov r0, #0`, `subs r2, r2, #1`, `cmp r1, #3`, `ldr r0, [r1]`,
 /// `str r0, [r1, #-4]`, a branch to itself, with a link too, and `svc #0`; a `movs pc, #0`, which is unpredictable; and words that
 /// are undefined: a condition field of 15, and a compare that sets no flags.
-#[tactic(auto, unfolding(crate::specs::Table::meaning, crate::specs::Table::alu_op, crate::specs::Table::alu_fits, crate::specs::Table::alu_unpredictable, crate::specs::Table::signed24))]
+#[tactic(auto, unfolding(crate::specs::Table::meaning, crate::specs::Table::alu_op, crate::specs::Table::alu_fits, crate::specs::Table::alu_unpredictable, crate::specs::Table::signed24, crate::specs::Table::index_fits, crate::specs::Table::index_of, crate::specs::Table::word_unpredictable))]
 pub fn meanings_of_words()
     ensures moves { meaning table 0xE3A00000 ≡ Ok (Instr.Alu 14 AluOp.Mov false 0 0 (Operand2.Imm 0 0)) }
     ensures subtracts { meaning table 0xE2522001 ≡ Ok (Instr.Alu 14 AluOp.Sub true 2 2 (Operand2.Imm 0 1)) }
@@ -83,4 +83,15 @@ pub fn meanings_of_exclusives()
     ensures waits { meaning table 0xF57FF05F ≡ Ok (Instr.Barrier BarrierKind.Dmb 15) }
     ensures odd_pair { meaning table 0xE1B13F9F ≡ Err DecodeFault.Unpredictable }
     ensures one_register { meaning table 0xE1810F90 ≡ Err DecodeFault.Unpredictable }
+{}
+
+/// Worked words of loads and stores: `ldr r1, [r2, r3, lsl #3]`, `str r1, [r2, r0, lsl #3]`, `ldrb r0, [r1], #1`,
+/// `str lr, [sp, #-4]!`; and a `ldr r1, [r1], #4`, which is unpredictable.
+#[tactic(auto, unfolding(crate::specs::Table::meaning, crate::specs::Table::alu_op, crate::specs::Table::alu_fits, crate::specs::Table::alu_unpredictable, crate::specs::Table::shift_kind, crate::specs::Table::index_fits, crate::specs::Table::index_of, crate::specs::Table::word_unpredictable))]
+pub fn meanings_of_loads_and_stores()
+    ensures loads { meaning table 0xE7921183 ≡ Ok (Instr.Word 14 true false Index.Plain 2 1 (Offset.Shifted true 3 ShiftKind.Lsl 3)) }
+    ensures stores { meaning table 0xE7821180 ≡ Ok (Instr.Word 14 false false Index.Plain 2 1 (Offset.Shifted true 0 ShiftKind.Lsl 3)) }
+    ensures loads_byte { meaning table 0xE4D10001 ≡ Ok (Instr.Word 14 true true Index.Post 1 0 (Offset.Imm true 1)) }
+    ensures pushes { meaning table 0xE52DE004 ≡ Ok (Instr.Word 14 false false Index.Pre 13 14 (Offset.Imm false 4)) }
+    ensures one_register { meaning table 0xE4911004 ≡ Err DecodeFault.Unpredictable }
 {}

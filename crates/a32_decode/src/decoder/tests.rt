@@ -93,10 +93,18 @@ fn refuses_words_of_no_row(rt: HostRuntime) {
         (0xE3A10000, UNDEFINED),
         (0xE3511003, UNDEFINED),
         (0xE3B0F000, UNPREDICTABLE),
-        // Not in the table yet: bl; ldr r0, [r1, #4]!; ldrb r0, [r1]
-        (0xEBFFFFFE, UNDEFINED),
-        (0xE5B10004, UNDEFINED),
-        (0xE5D10000, UNDEFINED),
+        // ldrt r0, [r1], #4; ldr r1, [r1], #4; ldrb pc, [r1]; ldr r0, [pc, #4]!; ldr r0, [r1, pc]
+        (0xE4B10004, UNDEFINED),
+        (0xE4911004, UNPREDICTABLE),
+        (0xE5D1F000, UNPREDICTABLE),
+        (0xE5BF0004, UNPREDICTABLE),
+        (0xE791000F, UNPREDICTABLE),
+        // blx pc; bxj r1; strex with its status in its value; ldrexd of an odd register; a barrier of no kind
+        (0xE12FFF3F, UNPREDICTABLE),
+        (0xE12FFF21, UNDEFINED),
+        (0xE1810F90, UNPREDICTABLE),
+        (0xE1B13F9F, UNPREDICTABLE),
+        (0xF57FF07F, UNDEFINED),
     ];
     for (word, want) in words {
         assert_eq!(rt; decode(word), want, "at {word:#x}");

@@ -1,13 +1,13 @@
 use Rattle.std.proofs.Common.{List, [], ◌∷◌, refl}
 use Rattle.std.proofs.lemmas.List.Elements.{All-cons}
-use Rattle.a32_instr.specs.Table.{Row, AreApart, alu_imm, alu_by_num, alu_by_reg, movw, movt, nop, yields, mul, mla, mls, long, clz, extend, rev, word_imm, branch, branch_reg, svc, load_ex, store_ex, clrex, barrier}
+use Rattle.a32_instr.specs.Table.{Row, AreApart, alu_imm, alu_by_num, alu_by_reg, movw, movt, nop, yields, mul, mla, mls, long, clz, extend, rev, word_imm, word_reg, branch, branch_reg, svc, load_ex, store_ex, clrex, barrier}
 use Rattle.a32_instr.specs.Bits.{bits_of}
 use Rattle.a32_instr.proofs.Apart.{clash_is_apart, pairs_apart, pairs_more, data_apart, IsData, unconditional_apart, fixed_unconditional}
 use Rattle.a32_instr.proofs.laws.no_word_fits_two_rows.Goals as goal
 
 -- the rows after those of data processing, each of which has a fixed bit that differs from each later one's
 abbrev others : List Row
-others = movw ∷ movt ∷ nop ∷ yields ∷ mul ∷ mla ∷ mls ∷ long ∷ clz ∷ extend ∷ rev ∷ word_imm ∷ branch ∷ branch_reg ∷ svc ∷ load_ex ∷ store_ex ∷ []
+others = movw ∷ movt ∷ nop ∷ yields ∷ mul ∷ mla ∷ mls ∷ long ∷ clz ∷ extend ∷ rev ∷ word_imm ∷ word_reg ∷ branch ∷ branch_reg ∷ svc ∷ load_ex ∷ store_ex ∷ []
 
 -- the rows with a condition
 abbrev conditional : List Row
