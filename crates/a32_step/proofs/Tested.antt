@@ -19,7 +19,7 @@ use Rattle.std.specs.Int.{w32, leading_zeros}
 use Rattle.a32_instr.specs.Shift.{top_bit, rotated_right}
 use Rattle.a32_instr.specs.Multiply.{multiplied, product_flags, less_product}
 use Rattle.a32_instr.specs.Moves.{with_top, reversed, extended, width_of}
-use Rattle.a32_instr.specs.LoadStore.{asks_unless, loads, stores, accesses, moved, access_size, part_of}
+use Rattle.a32_instr.specs.LoadStore.{asks_unless, loads, stores, accesses, accessed_address, moved_address, written_back, access_size, part_of}
 use Rattle.a32_instr.specs.Exclusive.{next_register, place_at, stored_part, loads_exclusive, stores_exclusive}
 use Rattle.llsc_base.specs.declared.access.Size.{Size}
 use Rattle.llsc_base.specs.declared.access.Size.TheVariants.{B1, B2, B4, B8}
@@ -50,13 +50,13 @@ unless_tested : (program : Program) (ask : Ask) (found : Option Bar) (addr : ℕ
 unless_tested program ask None addr fit passed = record { passes = passed refl; fits = fit; room = omega arith }
 unless_tested program ask (Some bar) addr fit passed = tt
 
-loads_tested : (program : Program) (place : Place) (rt : ℕ) (replies : List ℕ) (state : State) → IsTested program replies (wanted_of (loads program place rt replies state))
-loads_tested program place rt [] state = unless_tested program (ask.Load place) (bar_of program place false) place.addr tt (λ none. none)
-loads_tested program place rt (value ∷ values) state = writes_tested program (value ∷ values) state rt (low32 value)
+loads_tested : (program : Program) (place : Place) (back : State) (rt : ℕ) (replies : List ℕ) (state : State) → IsTested program replies (wanted_of (loads program place back rt replies state))
+loads_tested program place back rt [] state = unless_tested program (ask.Load place) (bar_of program place false) place.addr tt (λ none. none)
+loads_tested program place back rt (value ∷ values) state = writes_tested program (value ∷ values) back rt (low32 value)
 
-stores_tested : (program : Program) (place : Place) (value : ℕ) (replies : List ℕ) (state : State) → value < 256 ^ size_bytes place.size → IsTested program replies (wanted_of (stores program place value replies state))
-stores_tested program place value [] state fit = unless_tested program (ask.Store place value) (bar_of program place true) place.addr fit (λ none. none)
-stores_tested program place value (reply ∷ replies) state fit = tt
+stores_tested : (program : Program) (place : Place) (back : State) (value : ℕ) (replies : List ℕ) (state : State) → value < 256 ^ size_bytes place.size → IsTested program replies (wanted_of (stores program place back value replies state))
+stores_tested program place back value [] state fit = unless_tested program (ask.Store place value) (bar_of program place true) place.addr fit (λ none. none)
+stores_tested program place back value (reply ∷ replies) state fit = tt
 
 -- what is stored of a register fits
 part_fits : (byte : Bool) (value : ℕ) → value < 2 ^ 32 → part_of byte value < 256 ^ size_bytes (access_size byte)
@@ -66,10 +66,10 @@ part_fits false value small = small
 register_fits : (state : State) (r : ℕ) → AreWords state.regs → register state r < 2 ^ 32
 register_fits state r words = choose_below (r == 15) (low32 (state.pc + 8)) (slice_index state.regs r) (omega arith) (words r)
 
-word_tested : (program : Program) (load byte : Bool) (addr rt : ℕ) (replies : List ℕ) (state : State) → AreWords state.regs → IsTested program replies (wanted_of (accesses program load byte (record { addr = addr; size = access_size byte }) rt replies state))
-word_tested program true byte addr rt replies state words = loads_tested program (record { addr = addr; size = access_size byte }) rt replies state
-word_tested program false byte addr rt replies state words =
-    stores_tested program (record { addr = addr; size = access_size byte }) (part_of byte (register state rt)) replies state
+word_tested : (program : Program) (load byte : Bool) (addr rt : ℕ) (back : State) (replies : List ℕ) (state : State) → AreWords state.regs → IsTested program replies (wanted_of (accesses program load byte (record { addr = addr; size = access_size byte }) back rt replies state))
+word_tested program true byte addr rt back replies state words = loads_tested program (record { addr = addr; size = access_size byte }) back rt replies state
+word_tested program false byte addr rt back replies state words =
+    stores_tested program (record { addr = addr; size = access_size byte }) back (part_of byte (register state rt)) replies state
     (part_fits byte (register state rt) (register_fits state rt words))
 
 exclusive_load_tested : (size : Size) (program : Program) (place : Place) (rt : ℕ) (replies : List ℕ) (state : State) → IsTested program replies (wanted_of (loads_exclusive size program place rt replies state))
@@ -119,7 +119,7 @@ acts_tested (Extend cond unsigned half rd rm turn) program replies state words =
     writes_tested program replies state rd (extended unsigned (width_of half) (rotated_right (register state rm) (8 * turn)))
 acts_tested (Rev cond rd rm) program replies state words = writes_tested program replies state rd (reversed (register state rm))
 acts_tested (Word cond load byte index rn rt offset) program replies state words =
-    word_tested program load byte (moved (register state rn) offset) rt replies state words
+    word_tested program load byte (accessed_address index (register state rn) (moved_address rn offset state)) rt (written_back index rn (moved_address rn offset state) state) replies state words
 acts_tested (Branch cond link distance) program replies state words = tt
 acts_tested (BranchReg cond link rm) program replies state words = jumps_tested program replies (linked link state) (register state rm)
 acts_tested (Svc cond imm) program replies state words = tt

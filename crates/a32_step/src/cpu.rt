@@ -221,7 +221,7 @@ impl Cpu {
     {
         match self.phase() {
             Phase::Between => self.start_next(image),
-            Phase::Inside(instr) => self.act(instr, image),
+            Phase::Inside(instr) => self.act(&instr, image),
             Phase::Stopped(stop) => Wanted::Stopped(stop),
             Phase::Awaiting(..) | Phase::Calling(_) => unreachable!(),
         }
@@ -263,15 +263,15 @@ impl Cpu {
         if !passes(condition(&instr), self.flags) {
             return self.advance();
         }
-        self.act(instr, image)
+        self.act(&instr, image)
     }
 
     /// What the instruction does, its condition passed.
-    fn act(&mut self, instr: Instr, image: &Image) -> Wanted
-        ensures wanted { result ≡ wanted_of (acts instr image.now self.old.replies self.old.state) }
-        ensures state { self.new ≡ moved_on instr self.old (acts instr image.now self.old.replies self.old.state) }
+    fn act(&mut self, instr: &Instr, image: &Image) -> Wanted
+        ensures wanted { result ≡ wanted_of (acts instr.now image.now self.old.replies self.old.state) }
+        ensures state { self.new ≡ moved_on instr.now self.old (acts instr.now image.now self.old.replies self.old.state) }
     {
-        match instr {
+        match *instr {
             Instr::Alu {
                 op,
                 s,
@@ -315,35 +315,35 @@ impl Cpu {
             Instr::Word {
                 load,
                 byte,
+                index,
                 rn,
                 rt,
-                offset,
+                ref offset,
                 ..
             } => {
-                self.word(
-                    instr,
-                    image,
-                    Access {
-                        load,
-                        byte,
-                        rn,
-                        rt,
-                        offset,
-                    },
-                )
+                let moved = self.moved_address(rn, offset);
+                let access = Access {
+                    load,
+                    byte,
+                    index,
+                    rn,
+                    rt,
+                    moved,
+                };
+                self.word(*instr, image, access)
             }
             Instr::Branch { link, words, .. } => self.branch(link, words),
             Instr::BranchReg { link, rm, .. } => self.branch_by_register(link, rm),
             Instr::Svc { imm, .. } => self.call(imm),
-            Instr::LoadEx { size, rn, rt, .. } => self.load_exclusive(instr, image, size, rn, rt),
+            Instr::LoadEx { size, rn, rt, .. } => self.load_exclusive(*instr, image, size, rn, rt),
             Instr::StoreEx {
                 size,
                 rn,
                 rd,
                 rt,
                 ..
-            } => { self.store_exclusive(instr, image, size, rn, rd, rt) }
-            Instr::Clrex => self.clear_exclusive(instr),
+            } => { self.store_exclusive(*instr, image, size, rn, rd, rt) }
+            Instr::Clrex => self.clear_exclusive(*instr),
         }
     }
 }

@@ -1,24 +1,40 @@
 //! Addresses: of loads and stores, and of branches.
 ghost use Rattle.std.specs.Prelude.{◌≡◌, ◌%◌, ◌^◌, ◌<◌};
 ghost use Rattle.llsc_base.specs.Memory.{size_bytes};
-ghost use Rattle.a32_instr.specs.LoadStore.{moved, access_size, part_of};
+ghost use Rattle.a32_instr.specs.LoadStore.{moved, is_added, accessed_address, access_size, part_of};
 ghost use Rattle.a32_instr.specs.Branch.{target_of};
 
-use a32_instr::Offset;
+use a32_instr::{Index, Offset};
 use llsc_base::Size;
 
-/// An address moved by an offset (DDI 0406C A8.5).
-pub fn moved_by(base: u32, offset: Offset) -> u32
-    ensures { result ≡ moved base offset }
+/// An address moved up or down (DDI 0406C A8.5).
+pub fn moved(base: u32, add: bool, distance: u32) -> u32
+    ensures { result ≡ moved base add distance }
 {
-    match offset {
-        Offset::Imm { add, imm } => {
-            if add {
-                base.wrapping_add(u32::from(imm))
-            } else {
-                base.wrapping_sub(u32::from(imm))
-            }
-        }
+    if add {
+        base.wrapping_add(distance)
+    } else {
+        base.wrapping_sub(distance)
+    }
+}
+
+/// Whether an offset is added or taken away.
+pub fn is_added(offset: &Offset) -> bool
+    ensures { result ≡ is_added offset.now }
+{
+    match *offset {
+        Offset::Imm { add, .. } => add,
+        Offset::Shifted { add, .. } => add,
+    }
+}
+
+/// The address that is accessed: the moved one, or with a post index the base.
+pub fn accessed_address(index: Index, base: u32, moved: u32) -> u32
+    ensures { result ≡ accessed_address index base moved }
+{
+    match index {
+        Index::Plain | Index::Pre => moved,
+        Index::Post => base,
     }
 }
 

@@ -1,23 +1,34 @@
 //! Loads and stores (DDI 0406C A5.3).
 ghost use Rattle.std.specs.Prelude.{◌≡◌, []};
 ghost use Rattle.llsc_base.specs.Images.{bar_of};
-ghost use Rattle.a32_instr.specs.LoadStore.{loads, stores, word, asks_unless, barred};
+ghost use Rattle.a32_instr.specs.State.{jumps, writes};
+ghost use Rattle.a32_instr.specs.LoadStore.{loads, stores, word_at, asks_unless, barred, distance_of, moved_address, written_back};
 ghost use Rattle.a32_step.specs.Machine.{wanted_of, moved_on};
 
 use super::Cpu;
-use crate::operands::{moved_by, part_stored, size_of_access};
+use crate::operands::{accessed_address, is_added, moved, part_stored, size_of_access};
+use crate::shifts::shift_by_number;
 use crate::phases::{Phase, Wanted};
-use a32_instr::{Ask, Instr, Offset, Reg, Stop};
+use a32_instr::{Ask, Index, Instr, Offset, Reg, Stop};
 use llsc_base::{Bar, Image, Place};
 
-/// The fields of a load or a store.
+/// The fields of a load or a store, and its moved address.
 #[derive(Clone, Copy)]
 pub(super) struct Access {
     pub load: bool,
     pub byte: bool,
+    pub index: Index,
     pub rn: Reg,
     pub rt: Reg,
-    pub offset: Offset,
+    pub moved: u32,
+}
+
+/// What becomes of the base register when a load or a store is complete.
+#[derive(Clone, Copy)]
+struct WriteBack {
+    index: Index,
+    rn: Reg,
+    moved: u32,
 }
 
 /// The stop of a thread whose access is barred.
@@ -52,23 +63,83 @@ impl Cpu {
         Wanted::Access(ask)
     }
 
+    /// How far an offset moves.
+    fn distance(&self, offset: &Offset) -> u32
+        ensures { result ≡ distance_of offset.now self.now.state }
+    {
+        match *offset {
+            Offset::Imm { imm, .. } => u32::from(imm),
+            Offset::Shifted {
+                rm, kind, amount, ..
+            } => shift_by_number(kind, self.operand(rm), amount, self.flags.c).value,
+        }
+    }
+
+    /// The moved address of a load or a store.
+    pub(super) fn moved_address(&self, rn: Reg, offset: &Offset) -> u32
+        ensures { result ≡ moved_address rn offset.now self.now.state }
+    {
+        moved(self.operand(rn), is_added(offset), self.distance(offset))
+    }
+
+    /// The moved address goes to the base register, where the index writes it back.
+    fn write_back(&mut self, index: Index, rn: Reg, moved: u32)
+        ensures { self.new ≡ record self.old { state = written_back index rn moved self.old.state } }
+    {
+        match index {
+            Index::Plain => {}
+            Index::Pre | Index::Post => self.set(rn, moved),
+        }
+    }
+
+    /// A load is complete: the base is written back, and then the value goes to its register, which may be the PC.
+    fn finish_load(&mut self, back: WriteBack, rt: Reg, value: u32) -> Wanted
+        ensures wanted { result ≡ wanted_of (writes (written_back back.index back.rn back.moved self.old.state) rt value) }
+        ensures state { (instr : Instr) → self.new ≡ moved_on instr self.old (writes (written_back back.index back.rn back.moved self.old.state) rt value) }
+    {
+        if rt.num() == 15 {
+            return self.load_pc(back, value);
+        }
+        self.write_back(back.index, back.rn, back.moved);
+        self.set(rt, value);
+        self.advance()
+    }
+
+    /// A load into the PC is complete, if the value is one that the PC may have.
+    fn load_pc(&mut self, back: WriteBack, value: u32) -> Wanted
+        ensures wanted { result ≡ wanted_of (jumps (written_back back.index back.rn back.moved self.old.state) value) }
+        ensures state { (instr : Instr) → self.new ≡ moved_on instr self.old (jumps (written_back back.index back.rn back.moved self.old.state) value) }
+    {
+        if value % 2 == 1 {
+            return self.stop(Stop::Thumb(self.pc));
+        }
+        if value % 4 == 2 {
+            return self.stop(Stop::Unpredictable(self.pc));
+        }
+        self.write_back(back.index, back.rn, back.moved);
+        self.pc = value;
+        self.finish();
+        Wanted::Done
+    }
+
     /// A load: its place is asked for, and then the reply is written.
-    fn load(&mut self, instr: Instr, image: &Image, place: Place, rt: Reg) -> Wanted
-        ensures wanted { result ≡ wanted_of (loads image.now place rt self.old.replies self.old.state) }
-        ensures state { self.new ≡ moved_on instr self.old (loads image.now place rt self.old.replies self.old.state) }
+    fn load(&mut self, instr: Instr, image: &Image, place: Place, back: WriteBack, rt: Reg) -> Wanted
+        ensures wanted { result ≡ wanted_of (loads image.now place (written_back back.index back.rn back.moved self.old.state) rt self.old.replies self.old.state) }
+        ensures state { self.new ≡ moved_on instr self.old (loads image.now place (written_back back.index back.rn back.moved self.old.state) rt self.old.replies self.old.state) }
     {
         if let Some(reply) = self.replies.first() {
-            return self.write(self.flags, rt, (reply & 0xffff_ffff) as u32);
+            return self.finish_load(back, rt, (reply & 0xffff_ffff) as u32);
         }
         self.ask(instr, image, place, false, Ask::Load(place))
     }
 
-    /// A store: its place is asked for with the value.
-    fn store(&mut self, instr: Instr, image: &Image, place: Place, value: u64) -> Wanted
-        ensures wanted { result ≡ wanted_of (stores image.now place value self.old.replies self.old.state) }
-        ensures state { self.new ≡ moved_on instr self.old (stores image.now place value self.old.replies self.old.state) }
+    /// A store: its place is asked for with the value, and then the base is written back.
+    fn store(&mut self, instr: Instr, image: &Image, place: Place, back: WriteBack, value: u64) -> Wanted
+        ensures wanted { result ≡ wanted_of (stores image.now place (written_back back.index back.rn back.moved self.old.state) value self.old.replies self.old.state) }
+        ensures state { self.new ≡ moved_on instr self.old (stores image.now place (written_back back.index back.rn back.moved self.old.state) value self.old.replies self.old.state) }
     {
         if self.replies.first().is_some() {
+            self.write_back(back.index, back.rn, back.moved);
             return self.advance();
         }
         self.ask(instr, image, place, true, Ask::Store(place, value))
@@ -76,17 +147,22 @@ impl Cpu {
 
     /// LDR, LDRB, STR and STRB (DDI 0406C A5.3).
     pub(super) fn word(&mut self, instr: Instr, image: &Image, access: Access) -> Wanted
-        ensures wanted { result ≡ wanted_of (word image.now access.load access.byte access.rn access.rt access.offset self.old.replies self.old.state) }
-        ensures state { self.new ≡ moved_on instr self.old (word image.now access.load access.byte access.rn access.rt access.offset self.old.replies self.old.state) }
+        ensures wanted { result ≡ wanted_of (word_at image.now access.load access.byte access.index access.rn access.rt access.moved self.old.replies self.old.state) }
+        ensures state { self.new ≡ moved_on instr self.old (word_at image.now access.load access.byte access.index access.rn access.rt access.moved self.old.replies self.old.state) }
     {
+        let back = WriteBack {
+            index: access.index,
+            rn: access.rn,
+            moved: access.moved,
+        };
         let place = Place {
-            addr: moved_by(self.operand(access.rn), access.offset),
+            addr: accessed_address(access.index, self.operand(access.rn), back.moved),
             size: size_of_access(access.byte),
         };
         if access.load {
-            return self.load(instr, image, place, access.rt);
+            return self.load(instr, image, place, back, access.rt);
         }
         let value = part_stored(access.byte, self.operand(access.rt));
-        self.store(instr, image, place, value)
+        self.store(instr, image, place, back, value)
     }
 }
