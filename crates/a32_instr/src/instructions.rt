@@ -87,7 +87,10 @@ pub enum LongKind {
 #[derive(Clone, Copy, Debug, PartialEq, Eq)]
 pub enum Offset {
     /// At most 4095 bytes.
-    Imm { add: bool, imm: u16 },
+    Imm {
+        add: bool,
+        imm: u16,
+    },
     /// A register that is shifted by a number, which is at most 31.
     Shifted {
         add: bool,

@@ -2,7 +2,8 @@
 ghost use Rattle.std.specs.Prelude.{◌<◌};
 
 use super::*;
-use a32_instr::{AluOp, Cond, Index, Offset, Operand2, Reg};
+use a32_instr::{AluOp, Cond, Index, Offset, Operand2, Reg, ShiftKind};
+use llsc_base::Size;
 
 const UNDEFINED: Result<Instr, DecodeFault> = Err(DecodeFault::Undefined);
 
@@ -24,21 +25,65 @@ fn alu(op: AluOp, s: bool, rd: u8, rn: u8, turn: u8, imm8: u8) -> Result<Instr, 
     })
 }
 
-// A load or a store of a word under the condition AL.
+// A load or a store of a word under the condition AL, with a number as its offset.
 fn word(load: bool, rt: u8, rn: u8, add: bool, imm: u16) -> Result<Instr, DecodeFault>
     requires rt { rt < 16 }
     requires rn { rn < 16 }
 {
-    let offset = Offset::Imm { add, imm };
-    let index = Index::Plain;
+    access(load, false, Index::Plain, rt, rn, Offset::Imm { add, imm })
+}
+
+// A load or a store under the condition AL.
+fn access(
+    load: bool,
+    byte: bool,
+    index: Index,
+    rt: u8,
+    rn: u8,
+    offset: Offset,
+) -> Result<Instr, DecodeFault>
+    requires rt { rt < 16 }
+    requires rn { rn < 16 }
+{
     Ok(Instr::Word {
         cond: Cond::new(14),
         load,
-        byte: false,
+        byte,
         index,
         rn: Reg::new(rn),
         rt: Reg::new(rt),
         offset,
+    })
+}
+
+// Register 2 added, shifted left.
+fn scaled(amount: u8) -> Offset {
+    Offset::Shifted {
+        add: true,
+        rm: Reg::new(2),
+        kind: ShiftKind::Lsl,
+        amount,
+    }
+}
+
+// A load-exclusive of r0 at r1.
+fn load_ex(size: Size) -> Result<Instr, DecodeFault> {
+    Ok(Instr::LoadEx {
+        cond: Cond::new(14),
+        size,
+        rn: Reg::new(1),
+        rt: Reg::new(0),
+    })
+}
+
+// A store-exclusive of r2 at r1, with its status in r0.
+fn store_ex(size: Size) -> Result<Instr, DecodeFault> {
+    Ok(Instr::StoreEx {
+        cond: Cond::new(14),
+        size,
+        rn: Reg::new(1),
+        rd: Reg::new(0),
+        rt: Reg::new(2),
     })
 }
 
@@ -78,6 +123,47 @@ fn decodes_words_of_each_row(rt: HostRuntime) {
         (0xEA000002, branch(14, 2)),
         (0xEF000000, svc(0)),
         (0xEF123456, svc(0x123456)),
+    ];
+    for (word, want) in words {
+        assert_eq!(rt; decode(word), want, "at {word:#x}");
+    }
+}
+
+#[test]
+fn decodes_each_form_of_an_access(rt: HostRuntime) {
+    let four = Offset::Imm { add: true, imm: 4 };
+    let words = [
+        // ldr r0, [r1], #4; strb r0, [r1, #4]!; ldr r0, [r1, r2, lsl #2]; ldrb r0, [r1, r2]
+        (0xE4910004, access(true, false, Index::Post, 0, 1, four)),
+        (
+            0xE5E10004,
+            access(
+                false,
+                true,
+                Index::Pre,
+                0,
+                1,
+                Offset::Imm { add: true, imm: 4 },
+            ),
+        ),
+        (
+            0xE7910102,
+            access(true, false, Index::Plain, 0, 1, scaled(2)),
+        ),
+        (
+            0xE7D10002,
+            access(true, true, Index::Plain, 0, 1, scaled(0)),
+        ),
+        // ldrex, ldrexb, ldrexh r0, [r1]; ldrexd r0, r1, [r1]
+        (0xE1910F9F, load_ex(Size::B4)),
+        (0xE1D10F9F, load_ex(Size::B1)),
+        (0xE1F10F9F, load_ex(Size::B2)),
+        (0xE1B10F9F, load_ex(Size::B8)),
+        // strex, strexb, strexh r0, r2, [r1]; strexd r0, r2, r3, [r1]
+        (0xE1810F92, store_ex(Size::B4)),
+        (0xE1C10F92, store_ex(Size::B1)),
+        (0xE1E10F92, store_ex(Size::B2)),
+        (0xE1A10F92, store_ex(Size::B8)),
     ];
     for (word, want) in words {
         assert_eq!(rt; decode(word), want, "at {word:#x}");

@@ -7,8 +7,8 @@ ghost use Rattle.a32_step.specs.Machine.{wanted_of, moved_on};
 
 use super::Cpu;
 use crate::operands::{accessed_address, is_added, moved, part_stored, size_of_access};
-use crate::shifts::shift_by_number;
 use crate::phases::{Phase, Wanted};
+use crate::shifts::shift_by_number;
 use a32_instr::{Ask, Index, Instr, Offset, Reg, Stop};
 use llsc_base::{Bar, Image, Place};
 
@@ -70,7 +70,10 @@ impl Cpu {
         match *offset {
             Offset::Imm { imm, .. } => u32::from(imm),
             Offset::Shifted {
-                rm, kind, amount, ..
+                rm,
+                kind,
+                amount,
+                ..
             } => shift_by_number(kind, self.operand(rm), amount, self.flags.c).value,
         }
     }
@@ -123,7 +126,14 @@ impl Cpu {
     }
 
     /// A load: its place is asked for, and then the reply is written.
-    fn load(&mut self, instr: Instr, image: &Image, place: Place, back: WriteBack, rt: Reg) -> Wanted
+    fn load(
+        &mut self,
+        instr: Instr,
+        image: &Image,
+        place: Place,
+        back: WriteBack,
+        rt: Reg,
+    ) -> Wanted
         ensures wanted { result ≡ wanted_of (loads image.now place (written_back back.index back.rn back.moved self.old.state) rt self.old.replies self.old.state) }
         ensures state { self.new ≡ moved_on instr self.old (loads image.now place (written_back back.index back.rn back.moved self.old.state) rt self.old.replies self.old.state) }
     {
@@ -134,7 +144,14 @@ impl Cpu {
     }
 
     /// A store: its place is asked for with the value, and then the base is written back.
-    fn store(&mut self, instr: Instr, image: &Image, place: Place, back: WriteBack, value: u64) -> Wanted
+    fn store(
+        &mut self,
+        instr: Instr,
+        image: &Image,
+        place: Place,
+        back: WriteBack,
+        value: u64,
+    ) -> Wanted
         ensures wanted { result ≡ wanted_of (stores image.now place (written_back back.index back.rn back.moved self.old.state) value self.old.replies self.old.state) }
         ensures state { self.new ≡ moved_on instr self.old (stores image.now place (written_back back.index back.rn back.moved self.old.state) value self.old.replies self.old.state) }
     {

@@ -41,7 +41,7 @@ fn host_of(
 
 #[test]
 fn answers_each_program(rt: HostRuntime) -> Result<(), Fail> {
-    let cases: [(&[u32], u8, &str); 18] = [
+    let cases: [(&[u32], u8, &str); 24] = [
         (
             LEAVE,
             0,
@@ -180,6 +180,72 @@ fn answers_each_program(rt: HostRuntime) -> Result<(), Fail> {
             ],
             0,
             "thread 0 stop exit 0 steps 8 out 0\n\nreads 1 writes 2 fails 0\n",
+        ),
+        // a store that moves its base up, and a load that moves it down again
+        (
+            &[
+                0xe3a0_1a02,
+                0xe3a0_0005,
+                0xe481_0004,
+                0xe531_2004,
+                0xe1a0_0002,
+                0xe3a0_7001,
+                0xef00_0000,
+            ],
+            1,
+            "thread 0 stop exit 5 steps 7 out 0\n\nreads 1 writes 1 fails 0\n",
+        ),
+        // bytes at a register shifted and at a number
+        (
+            &[
+                0xe3a0_1a02,
+                0xe3a0_2001,
+                0xe3a0_0007,
+                0xe7c1_0082,
+                0xe5d1_0002,
+                0xe3a0_7001,
+                0xef00_0000,
+            ],
+            1,
+            "thread 0 stop exit 7 steps 7 out 0\n\nreads 1 writes 1 fails 0\n",
+        ),
+        // a doubleword's exclusives, whose status is the code
+        (
+            &[
+                0xe3a0_1a02,
+                0xe1b1_2f9f,
+                0xe1a1_0f92,
+                0xe3a0_7001,
+                0xef00_0000,
+            ],
+            0,
+            "thread 0 stop exit 0 steps 5 out 0\n\nreads 1 writes 1 fails 0\n",
+        ),
+        // a halfword's load-exclusive from 1
+        (
+            &[0xe3a0_1001, 0xe1f1_0f9f],
+            1,
+            "thread 0 stop alignment 00000001 steps 1 out 0\n\nreads 0 writes 0 fails 0\n",
+        ),
+        // a call and its return
+        (
+            &[
+                0xe3a0_0000,
+                0xeb00_0000,
+                0xea00_0001,
+                0xe3a0_0003,
+                0xe12f_ff1e,
+                0xe3a0_7001,
+                0xef00_0000,
+            ],
+            1,
+            "thread 0 stop exit 3 steps 7 out 0\n\nreads 0 writes 0 fails 0\n",
+        ),
+        // a load of 2 into the PC
+        (
+            &[0xe3a0_1a02, 0xe3a0_0002, 0xe581_0000, 0xe591_f000],
+            1,
+            "thread 0 stop unpredictable 0000100c steps 3 out 0\n\nreads 1 writes 1 fails 0\n",
         ),
         // one whose status register is that of its value
         (
