@@ -1,5 +1,5 @@
 -- A guest program as it stands in memory before its first instruction.
-use Rattle.std.specs.Prelude.{◌≡◌, ℕ, ◌+◌, ◌<◌, ◌≤◌, ◌%◌, ◌&&◌, not, nat_le, nat_lt, max, min, if◌then◌else◌, Bool, true, false, Option, Some, None, List, length, AllPairs, All, slice_get}
+use Rattle.std.specs.Prelude.{◌≡◌, ℕ, zero, suc, ◌+◌, ◌<◌, ◌≤◌, ◌%◌, ◌^◌, ◌&&◌, not, nat_le, nat_lt, max, min, if◌then◌else◌, Bool, true, false, Option, Some, None, List, length, AllPairs, All, slice_get}
 use Rattle.std.specs.List.{list_any}
 use Rattle.std.specs.Option.{option_map_or}
 use Rattle.llsc_base.specs.Memory.{size_bytes, is_aligned, value_at}
@@ -7,6 +7,7 @@ use Rattle.llsc_base.specs.declared.access.Size.TheVariants.{B4}
 use Rattle.llsc_base.specs.declared.access.Place.{Place}
 use Rattle.llsc_base.specs.declared.access.Bar.{Bar}
 use Rattle.llsc_base.specs.declared.access.Bar.TheVariants.{Alignment, Outside, ReadOnly}
+use Rattle.llsc_base.specs.declared.access.BarredWord.{BarredWord}
 use Rattle.llsc_base.specs.declared.images.Span.{Span}
 
 -- memory at the start, the segments that lie in it, and the address of the first instruction
@@ -50,6 +51,21 @@ bar_of program place store =
     if nat_lt (length program.bytes) (place.addr + size_bytes place.size) then Some Outside else
     if store && touches_read_only program.spans place.addr (place.addr + size_bytes place.size) then Some ReadOnly else
     None
+
+-- the place of a word at an address, which counts modulo 2 to the 32
+abbrev pub word_place : ℕ → Place
+word_place addr = record { addr = addr % 2 ^ 32; size = B4 }
+
+-- a word that is barred, or else one of the later ones
+abbrev pub or_later : ℕ → Option Bar → Option BarredWord → Option BarredWord
+or_later addr (Some bar) later = Some (record { addr = addr; bar = bar })
+or_later addr None later = later
+
+-- the first word that is barred of so many, one after another from an address up
+unfoldable pub first_barred : Program → Bool → ℕ → ℕ → Option BarredWord
+first_barred program store addr zero = None
+first_barred program store addr (suc count) =
+    or_later (word_place addr).addr (bar_of program (word_place addr) store) (first_barred program store (addr + 4) count)
 
 -- a span is not empty, lies within so many bytes, and none is both run and written
 pub record IsSpan (count : ℕ) (span : Span) : Type 0 where

@@ -75,3 +75,10 @@ pub enum Bar {
     /// A store, and a byte of the place lies in a span that isn't written.
     ReadOnly,
 }
+
+/// A word that may not be accessed, and what stands against it.
+#[derive(Clone, Copy, Debug, PartialEq, Eq, Drop)]
+pub struct BarredWord {
+    pub addr: u32,
+    pub bar: Bar,
+}

@@ -1,7 +1,7 @@
-ghost use Rattle.std.specs.Prelude.{◌≡◌, ◌+◌, ◌%◌, ◌<◌, ◌≤◌, IfSome, IsTrue, length, slice_index, position};
-ghost use Rattle.llsc_base.specs.Images.{IsProgram, Program, bar_of, holds_word, program_of, serves, touches_read_only, word_at};
+ghost use Rattle.std.specs.Prelude.{◌≡◌, ◌+◌, ◌*◌, ◌-◌, ◌%◌, ◌<◌, ◌≤◌, IfSome, IsTrue, length, slice_index, position};
+ghost use Rattle.llsc_base.specs.Images.{IsProgram, Program, bar_of, first_barred, holds_word, program_of, serves, touches_read_only, word_at};
 
-use crate::access::{Bar, Place};
+use crate::access::{Bar, BarredWord, Place, Size};
 use crate::memory::load_4;
 use std::marker::Model;
 
@@ -119,6 +119,30 @@ impl Image {
         }
         if store && touches_read_only(&self.spans, place.addr as usize, end) {
             return Some(Bar::ReadOnly);
+        }
+        None
+    }
+}
+
+impl Image {
+    /// The first of `count` words, one after another from an address up, that may not be accessed, with
+    /// what stands against it. Addresses count modulo 2 to the 32, and there are at most 16 words.
+    #[tactic(auto, using(crate::proofs::Barred::barred_none, crate::proofs::Barred::barred_step))]
+    pub fn test_words(&self, addr: u32, count: u32, store: bool) -> Option<BarredWord>
+        requires { count ≤ 16 }
+        ensures { result ≡ first_barred self.now store addr count }
+    {
+        for i in 0..count {
+            let word = Place {
+                addr: addr.wrapping_add(4 * i),
+                size: Size::B4,
+            };
+            if let Some(bar) = self.test(word, store) {
+                return Some(BarredWord {
+                    addr: word.addr,
+                    bar,
+                });
+            }
         }
         None
     }

@@ -13,7 +13,7 @@ mod lines;
 mod memory;
 mod sizes;
 
-pub use access::{Bar, Place, Size};
+pub use access::{Bar, BarredWord, Place, Size};
 pub use flat::FlatFault;
 pub use images::{Image, Span};
 pub use lines::Line;
