@@ -6,7 +6,7 @@ use Rattle.std.proofs.lemmas.Nat.{field_of, mod-pow-add}
 use Rattle.std.proofs.lemmas.List.Elements.{All-cons, All-nil}
 use Rattle.std.proofs.lemmas.List.Kept.{AllPairs-cons}
 use Rattle.a32_instr.specs.Bits.{Run, bits_of, value_of, has_all, has_bits, runs_of, field}
-use Rattle.a32_instr.specs.Table.{Row, fits, AreApart, condition_fits, c, alu_op, alu_fits}
+use Rattle.a32_instr.specs.Table.{Row, fits, AreApart, condition_fits, c, alu_op, alu_fits, half_fits}
 use Rattle.a32_instr.proofs.SilentCompare.{silent_compare}
 
 -- The test.
@@ -158,17 +158,57 @@ silent_apart row other data_row e word small h g =
     let form : (rd rn : ℕ) × IsTrue (alu_fits (alu_op (bits_of word 21 4)) (bits_of word 20 1) rd rn) = data_row word (further_of row word h) in
     silent_compare word form.0 form.1 form.2 (omega arith) bit_20
 
+-- Halfwords and signed bytes, and their neighbours, whose words have 0 in both bits that tell them.
+
+-- both bits that tell a halfword or a signed byte are fixed to 0
+abbrev pub is_product : Row → Bool
+is_product row = fixes 6 0 (runs_of 0 row.bits) && fixes 5 0 (runs_of 0 row.bits)
+
+-- a row asks for the form of a halfword or a signed byte
+abbrev pub IsHalf : Row → Type 0
+IsHalf row = (word : ℕ) → IsTrue (row.further (field word row.bits)) → IsTrue (half_fits (bits_of word 20 1) (bits_of word 6 1) (bits_of word 5 1))
+
+no_half : (l x y : ℕ) → x ≡ 0 → y ≡ 0 → IsTrue (half_fits l x y) → ⊥
+unfolding half_fits
+no_half l x y none low h =
+    ⊎_elim
+    (λ loads.
+    let set : y ≡ 1 = eqb-true y 1 (and_parts (x == 0) (y == 1) loads).1 in
+    omega arith)
+    (λ signed.
+    let set : x ≡ 1 = eqb-true x 1 (and_parts (x == 1) (l == 1) signed).0 in
+    omega arith)
+    (or_cases ((x == 0) && (y == 1)) ((x == 1) && (l == 1)) h)
+
+half_apart : (row other : Row) → IsHalf row → IsTrue (is_product other) → AreApart row other
+half_apart row other half_row e word small h g =
+    let parts : IsTrue (fixes 6 0 (runs_of 0 other.bits)) × IsTrue (fixes 5 0 (runs_of 0 other.bits)) =
+    and_parts (fixes 6 0 (runs_of 0 other.bits)) (fixes 5 0 (runs_of 0 other.bits)) e in
+    let all : IsTrue (has_bits word other.bits) = fixed_bits other word g in
+    let bit_6 : word / 2 ^ 6 % 2 ≡ 0 = fixes_is word 6 0 (runs_of 0 other.bits) all parts.0 in
+    let bit_5 : word / 2 ^ 5 % 2 ≡ 0 = fixes_is word 5 0 (runs_of 0 other.bits) all parts.1 in
+    no_half (bits_of word 20 1) (bits_of word 6 1) (bits_of word 5 1) bit_6 bit_5 (half_row word (further_of row word h))
+
 -- Rows against a list of rows.
 
--- each row has a fixed bit that differs, or is a neighbour of data processing
-pub data_apart : (row : Row) → IsData row → (rows : List Row) → IsTrue (list_all (λ other. rows_clash row other || is_silent other) rows) → All (AreApart row) rows
-data_apart row data_row [] e = All-nil (AreApart row)
-data_apart row data_row (other ∷ rows) e =
-    let parts : IsTrue (rows_clash row other || is_silent other) × IsTrue (list_all (λ other. rows_clash row other || is_silent other) rows) =
-    and_parts (rows_clash row other || is_silent other) (list_all (λ other. rows_clash row other || is_silent other) rows) e in
+-- each row has a fixed bit that differs, or is one of those that are apart for another reason
+mostly_apart : (row : Row) (test : Row → Bool) → ((other : Row) → IsTrue (test other) → AreApart row other)
+    → (rows : List Row) → IsTrue (list_all (λ other. rows_clash row other || test other) rows) → All (AreApart row) rows
+mostly_apart row test reason [] e = All-nil (AreApart row)
+mostly_apart row test reason (other ∷ rows) e =
+    let parts : IsTrue (rows_clash row other || test other) × IsTrue (list_all (λ other. rows_clash row other || test other) rows) =
+    and_parts (rows_clash row other || test other) (list_all (λ other. rows_clash row other || test other) rows) e in
     All-cons (AreApart row) other rows
-    (⊎_elim (clash_is_apart row other) (silent_apart row other data_row) (or_cases (rows_clash row other) (is_silent other) parts.0))
-    (data_apart row data_row rows parts.1)
+    (⊎_elim (clash_is_apart row other) (reason other) (or_cases (rows_clash row other) (test other) parts.0))
+    (mostly_apart row test reason rows parts.1)
+
+-- data processing against a list of rows
+pub data_apart : (row : Row) → IsData row → (rows : List Row) → IsTrue (list_all (λ other. rows_clash row other || is_silent other) rows) → All (AreApart row) rows
+data_apart row data_row rows e = mostly_apart row is_silent (λ other. silent_apart row other data_row) rows e
+
+-- halfwords and signed bytes against a list of rows
+pub halves_apart : (row : Row) → IsHalf row → (rows : List Row) → IsTrue (list_all (λ other. rows_clash row other || is_product other) rows) → All (AreApart row) rows
+halves_apart row half_row rows e = mostly_apart row is_product (λ other. half_apart row other half_row) rows e
 
 all_apart : (row : Row) (rows : List Row) → IsTrue (list_all (rows_clash row) rows) → All (AreApart row) rows
 all_apart row [] e = All-nil (AreApart row)

@@ -1,2 +1,4 @@
 pub mod Apart
 pub mod SilentCompare
+pub mod Meanings
+pub mod Pairs

@@ -2,13 +2,14 @@
 use Rattle.std.specs.Prelude.{ℕ, if◌then◌else◌, List, [], ◌∷◌}
 use Rattle.llsc_base.specs.Images.{Program}
 use Rattle.a32_instr.specs.declared.instructions.Instr.{Instr}
-use Rattle.a32_instr.specs.declared.instructions.Instr.TheVariants.{Alu, Movw, Movt, Nop, Yield, Mul, Mla, Mls, Long, Clz, Extend, Rev, Word, Branch, BranchReg, Svc, LoadEx, StoreEx, Clrex, Barrier}
+use Rattle.a32_instr.specs.declared.instructions.Instr.TheVariants.{Alu, Movw, Movt, Nop, Yield, Mul, Mla, Mls, Long, Clz, Extend, Rev, Word, Half, Block, Branch, BranchReg, Svc, LoadEx, StoreEx, Clrex, Barrier}
 use Rattle.a32_instr.specs.Condition.{passes}
 use Rattle.a32_instr.specs.State.{State, Effect, completes, advanced}
 use Rattle.a32_instr.specs.DataProcessing.{alu}
 use Rattle.a32_instr.specs.Multiply.{multiplies, multiplies_and_adds, multiplies_and_subtracts, multiplies_long}
 use Rattle.a32_instr.specs.Moves.{moves_wide, moves_top, counts_zeros, reverses, extends}
-use Rattle.a32_instr.specs.LoadStore.{word}
+use Rattle.a32_instr.specs.LoadStore.{word, half}
+use Rattle.a32_instr.specs.Block.{block}
 use Rattle.a32_instr.specs.Branch.{branches, branches_by_register, supervisor_call}
 use Rattle.a32_instr.specs.Exclusive.{load_exclusive, store_exclusive, clear_exclusive}
 
@@ -27,6 +28,8 @@ condition_of (Clz cond rd rm) = cond
 condition_of (Extend cond unsigned half rd rm turn) = cond
 condition_of (Rev cond rd rm) = cond
 condition_of (Word cond load byte index rn rt offset) = cond
+condition_of (Half cond kind index rn rt offset) = cond
+condition_of (Block cond load before up wback rn list) = cond
 condition_of (Branch cond link words) = cond
 condition_of (BranchReg cond link rm) = cond
 condition_of (Svc cond imm) = cond
@@ -50,6 +53,8 @@ acts (Clz cond rd rm) program replies state = counts_zeros rd rm state
 acts (Extend cond unsigned half rd rm turn) program replies state = extends unsigned half rd rm turn state
 acts (Rev cond rd rm) program replies state = reverses rd rm state
 acts (Word cond load byte index rn rt offset) program replies state = word program load byte index rn rt offset replies state
+acts (Half cond kind index rn rt offset) program replies state = half program kind index rn rt offset replies state
+acts (Block cond load before up wback rn list) program replies state = block program load before up wback rn list replies state
 acts (Branch cond link words) program replies state = branches link words state
 acts (BranchReg cond link rm) program replies state = branches_by_register link rm state
 acts (Svc cond imm) program replies state = supervisor_call imm state

@@ -8,6 +8,7 @@ pub mod DataProcessing
 pub mod Multiply
 pub mod Moves
 pub mod LoadStore
+pub mod Block
 pub mod Branch
 pub mod Exclusive
 pub mod Effect

@@ -1,6 +1,7 @@
--- Loads and stores of a word or a byte (DDI 0406C A5.3, A8.5, A8.8.62 to A8.8.67, A8.8.203 to A8.8.208).
+-- Loads and stores of a word or a byte (DDI 0406C A5.3, A8.5, A8.8.62 to A8.8.70, A8.8.203 to A8.8.208), and of a
+-- halfword or a signed byte (A5.2.8, A8.8.80 to A8.8.90, A8.8.217, A8.8.218).
 use Rattle.std.specs.Prelude.{ℕ, ◌+◌, ◌-◌, ◌%◌, ◌^◌, if◌then◌else◌, Bool, true, false, Option, Some, None, List, [], ◌∷◌, slice_set}
-use Rattle.llsc_base.specs.declared.access.Size.TheVariants.{B1, B4}
+use Rattle.llsc_base.specs.declared.access.Size.TheVariants.{B1, B2, B4}
 use Rattle.llsc_base.specs.declared.access.Size.{Size}
 use Rattle.llsc_base.specs.declared.access.Place.{Place}
 use Rattle.llsc_base.specs.declared.access.Bar.{Bar}
@@ -10,7 +11,10 @@ use Rattle.a32_instr.specs.declared.instructions.Offset.{Offset}
 use Rattle.a32_instr.specs.declared.instructions.Offset.TheVariants.{Imm, Shifted}
 use Rattle.a32_instr.specs.declared.instructions.Index.{Index}
 use Rattle.a32_instr.specs.declared.instructions.Index.TheVariants.{Plain, Pre, Post}
+use Rattle.a32_instr.specs.declared.instructions.HalfKind.{HalfKind}
+use Rattle.a32_instr.specs.declared.instructions.HalfKind.TheVariants.{Strh, Ldrh, Ldrsb, Ldrsh}
 use Rattle.a32_instr.specs.Shift.{shifted_by_number}
+use Rattle.a32_instr.specs.Moves.{extended}
 use Rattle.a32_instr.specs.declared.outside.Ask.{Ask}
 use Rattle.a32_instr.specs.declared.outside.Ask.TheVariants.{Load, Store}
 use Rattle.a32_instr.specs.declared.outside.Stop.{Stop}
@@ -93,3 +97,39 @@ word_at program load byte index rn rt moved replies state =
 abbrev pub word : Program → Bool → Bool → Index → ℕ → ℕ → Offset → List ℕ → State → Effect
 word program load byte index rn rt offset replies state =
     word_at program load byte index rn rt (moved_address rn offset state) replies state
+
+-- A halfword, or a signed byte.
+
+abbrev pub half_size : HalfKind → Size
+half_size Strh = B2
+half_size Ldrh = B2
+half_size Ldrsb = B1
+half_size Ldrsh = B2
+
+-- a loaded value as 32 bits: with zeros above it, or with its sign
+abbrev pub half_value : HalfKind → ℕ → ℕ
+half_value Strh value = extended true 16 value
+half_value Ldrh value = extended true 16 value
+half_value Ldrsb value = extended false 8 value
+half_value Ldrsh value = extended false 16 value
+
+-- a load asks for its place, and writes the reply to its register after the write-back
+abbrev pub loads_half : HalfKind → Program → Place → State → ℕ → List ℕ → State → Effect
+loads_half kind program place back rt [] state = asks_unless (bar_of program place false) place.addr (Load place)
+loads_half kind program place back rt (value ∷ _) state = writes back rt (half_value kind value)
+
+abbrev pub half_accesses : HalfKind → Program → Place → State → ℕ → List ℕ → State → Effect
+half_accesses Strh program place back rt replies state = stores program place back (register state rt % 2 ^ 16) replies state
+half_accesses Ldrh program place back rt replies state = loads_half Ldrh program place back rt replies state
+half_accesses Ldrsb program place back rt replies state = loads_half Ldrsb program place back rt replies state
+half_accesses Ldrsh program place back rt replies state = loads_half Ldrsh program place back rt replies state
+
+-- a load or a store, by its base and its moved address
+abbrev pub half_at : Program → HalfKind → Index → ℕ → ℕ → ℕ → List ℕ → State → Effect
+half_at program kind index rn rt moved replies state =
+    half_accesses kind program (record { addr = accessed_address index (register state rn) moved; size = half_size kind })
+    (written_back index rn moved state) rt replies state
+
+abbrev pub half : Program → HalfKind → Index → ℕ → ℕ → Offset → List ℕ → State → Effect
+half program kind index rn rt offset replies state =
+    half_at program kind index rn rt (moved_address rn offset state) replies state

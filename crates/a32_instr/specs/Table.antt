@@ -1,5 +1,5 @@
 -- The table of instruction words (DDI 0406C A5.1 to A5.7, and A8.8 for each instruction).
-use Rattle.std.specs.Prelude.{ℕ, ◌+◌, ◌%◌, ◌^◌, ◌<◌, ◌==◌, ◌&&◌, ◌||◌, not, nat_lt, if◌then◌else◌, Bool, true, false, IsTrue, List, [], ◌∷◌, codes, Result, Ok, Err, ℤ, pos, ◌-ℤ◌}
+use Rattle.std.specs.Prelude.{◌≡◌, ℕ, ◌+◌, ◌/◌, ◌%◌, ◌^◌, ◌<◌, ◌==◌, ◌&&◌, ◌||◌, not, nat_lt, if◌then◌else◌, Bool, true, false, IsTrue, All, List, [], ◌∷◌, codes, Result, Ok, Err, ℤ, pos, ◌-ℤ◌}
 use Rattle.a32_instr.specs.Bits.{Run, runs, runs_of, field, has_bits}
 use Rattle.a32_instr.specs.declared.instructions.AluOp.{AluOp}
 use Rattle.a32_instr.specs.declared.instructions.AluOp.TheVariants.{And, Eor, Sub, Rsb, Add, Adc, Sbc, Rsc, Tst, Teq, Cmp, Cmn, Orr, Mov, Bic, Mvn}
@@ -11,10 +11,12 @@ use Rattle.a32_instr.specs.declared.instructions.Operand2.TheVariants as operand
 use Rattle.a32_instr.specs.declared.instructions.Offset.TheVariants as offset
 use Rattle.a32_instr.specs.declared.instructions.Index.{Index}
 use Rattle.a32_instr.specs.declared.instructions.Index.TheVariants.{Plain, Pre, Post}
+use Rattle.a32_instr.specs.declared.instructions.HalfKind.{HalfKind}
+use Rattle.a32_instr.specs.declared.instructions.HalfKind.TheVariants.{Strh, Ldrh, Ldrsb, Ldrsh}
 use Rattle.a32_instr.specs.declared.instructions.BarrierKind.{BarrierKind}
 use Rattle.a32_instr.specs.declared.instructions.BarrierKind.TheVariants.{Dsb, Dmb, Isb}
 use Rattle.a32_instr.specs.declared.instructions.Instr.{Instr}
-use Rattle.a32_instr.specs.declared.instructions.Instr.TheVariants.{Alu, Movw, Movt, Nop, Yield, Mul, Mla, Mls, Long, Clz, Extend, Rev, Word, Branch, BranchReg, Svc, LoadEx, StoreEx, Clrex, Barrier}
+use Rattle.a32_instr.specs.declared.instructions.Instr.TheVariants.{Alu, Movw, Movt, Nop, Yield, Mul, Mla, Mls, Long, Clz, Extend, Rev, Word, Half, Block, Branch, BranchReg, Svc, LoadEx, StoreEx, Clrex, Barrier}
 use Rattle.llsc_base.specs.declared.access.Size.{Size}
 use Rattle.llsc_base.specs.declared.access.Size.TheVariants.{B1, B2, B4, B8}
 use Rattle.a32_instr.specs.declared.instructions.DecodeFault.{DecodeFault}
@@ -40,6 +42,9 @@ c = 99
 
 abbrev pub d : ℕ
 d = 100
+
+abbrev pub g : ℕ
+g = 103
 
 abbrev pub h : ℕ
 h = 104
@@ -82,6 +87,12 @@ u = 117
 
 abbrev pub w : ℕ
 w = 119
+
+abbrev pub x : ℕ
+x = 120
+
+abbrev pub y : ℕ
+y = 121
 
 abbrev pub z : ℕ
 z = 122
@@ -209,6 +220,27 @@ index_of p w = if p == 0 then Post else if w == 1 then Pre else Plain
 unfoldable pub word_unpredictable : ℕ → ℕ → ℕ → ℕ → ℕ → Bool
 word_unpredictable p w b rn rt =
     (((p == 0) || (w == 1)) && ((rn == 15) || (rn == rt))) || ((b == 1) && (rt == 15))
+
+-- a halfword or a signed byte by bits 20, 6 and 5 (DDI 0406C A5.2.8): a byte or a signed halfword isn't stored so
+unfoldable pub half_fits : ℕ → ℕ → ℕ → Bool
+half_fits l x y = ((x == 0) && (y == 1)) || ((x == 1) && (l == 1))
+
+unfoldable pub half_kind : ℕ → ℕ → ℕ → HalfKind
+half_kind l x y =
+    if x == 0 then (if l == 0 then Strh else Ldrh) else
+    if y == 0 then Ldrsb else
+    Ldrsh
+
+-- a base that is written back is neither the PC nor the other register, which is never the PC
+unfoldable pub half_unpredictable : ℕ → ℕ → ℕ → ℕ → Bool
+half_unpredictable p w rn rt = (rt == 15) || (((p == 0) || (w == 1)) && ((rn == 15) || (rn == rt)))
+
+-- The base is no PC and the list isn't empty. A base that is written back isn't loaded, and is stored only as the lowest
+-- register of the list.
+unfoldable pub block_unpredictable : ℕ → ℕ → ℕ → ℕ → Bool
+block_unpredictable w l rn list =
+    (rn == 15) || (list == 0)
+    || ((w == 1) && (list / 2 ^ rn % 2 == 1) && ((l == 1) || not (list % 2 ^ rn == 0)))
 
 -- the barriers by bits 5:4 (DDI 0406C A5.7.1)
 unfoldable pub barrier_kind : ℕ → BarrierKind
@@ -366,6 +398,32 @@ word_reg = record {
   instr = λ f. Word (f c) (f l == 1) (f b == 1) (index_of (f p) (f w)) (f n) (f t) (offset.Shifted (f u == 1) (f m) (shift_kind (f k)) (f a));
 }
 
+-- load and store of a halfword, and load of a signed byte (DDI 0406C A5.2.8), with an immediate offset and with a register
+abbrev pub half_imm : Row
+half_imm = record {
+  bits = runs (codes "cccc 000p u1wl nnnn tttt iiii 1xy1 iiii");
+  further = λ f. index_fits (f p) (f w) && half_fits (f l) (f x) (f y);
+  unpredictable = λ f. half_unpredictable (f p) (f w) (f n) (f t);
+  instr = λ f. Half (f c) (half_kind (f l) (f x) (f y)) (index_of (f p) (f w)) (f n) (f t) (offset.Imm (f u == 1) (f i));
+}
+
+abbrev pub half_reg : Row
+half_reg = record {
+  bits = runs (codes "cccc 000p u0wl nnnn tttt 0000 1xy1 mmmm");
+  further = λ f. index_fits (f p) (f w) && half_fits (f l) (f x) (f y);
+  unpredictable = λ f. half_unpredictable (f p) (f w) (f n) (f t) || (f m == 15);
+  instr = λ f. Half (f c) (half_kind (f l) (f x) (f y)) (index_of (f p) (f w)) (f n) (f t) (offset.Shifted (f u == 1) (f m) Lsl 0);
+}
+
+-- load and store of a block of registers, whose list is g (DDI 0406C A5.5)
+abbrev pub block : Row
+block = record {
+  bits = runs (codes "cccc 100p u0wl nnnn gggg gggg gggg gggg");
+  further = always;
+  unpredictable = λ f. block_unpredictable (f w) (f l) (f n) (f g);
+  instr = λ f. Block (f c) (f l == 1) (f p == 1) (f u == 1) (f w == 1) (f n) (f g);
+}
+
 -- branch, with a link or without (DDI 0406C A5.5)
 abbrev pub branch : Row
 branch = record {
@@ -430,8 +488,8 @@ barrier = record {
 
 abbrev pub table : List Row
 table =
-    clrex ∷ barrier ∷ alu_imm ∷ alu_by_num ∷ alu_by_reg ∷ movw ∷ movt ∷ nop ∷ yields ∷ mul ∷ mla ∷ mls ∷ long ∷ clz ∷ extend ∷ rev
-    ∷ word_imm ∷ word_reg ∷ branch ∷ branch_reg ∷ svc ∷ load_ex ∷ store_ex ∷ []
+    clrex ∷ barrier ∷ alu_imm ∷ alu_by_num ∷ alu_by_reg ∷ half_imm ∷ half_reg ∷ movw ∷ movt ∷ nop ∷ yields ∷ mul ∷ mla ∷ mls ∷ long
+    ∷ clz ∷ extend ∷ rev ∷ word_imm ∷ word_reg ∷ block ∷ branch ∷ branch_reg ∷ svc ∷ load_ex ∷ store_ex ∷ []
 
 -- The meaning of a word.
 
@@ -460,3 +518,11 @@ meaning (row ∷ rows) word = if fits row word then outcome row word else meanin
 -- no word fits both rows
 abbrev pub AreApart : Row → Row → Type 0
 AreApart row other = (word : ℕ) → word < 2 ^ 32 → IsTrue (fits row word) → IsTrue (fits other word) → ⊥
+
+-- a word fits no row of a list
+abbrev pub FitsNone : List Row → ℕ → Type 0
+FitsNone rows word = All (λ row. IsTrue (fits row word) → ⊥) rows
+
+-- a word that fits a row of a list means what that row says
+abbrev pub MeansItsRow : List Row → ℕ → Result Instr DecodeFault → Type 0
+MeansItsRow rows word meaning = All (λ row. IsTrue (fits row word) → meaning ≡ outcome row word) rows

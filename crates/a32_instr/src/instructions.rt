@@ -86,12 +86,13 @@ pub enum LongKind {
 /// What is added to the base register of a load or a store, or taken from it (DDI 0406C A5.3).
 #[derive(Clone, Copy, Debug, PartialEq, Eq)]
 pub enum Offset {
-    /// At most 4095 bytes.
+    /// At most 4095 bytes, and at a halfword or a signed byte at most 255.
     Imm {
         add: bool,
         imm: u16,
     },
-    /// A register that is shifted by a number, which is at most 31.
+    /// A register that is shifted by a number, which is at most 31. At a halfword or a signed byte it is
+    /// LSL by 0.
     Shifted {
         add: bool,
         rm: Reg,
@@ -109,6 +110,15 @@ pub enum Index {
     Pre,
     /// The base register's address is accessed, and the moved address is written to it.
     Post,
+}
+
+/// A store of a halfword, or a load of a halfword or a signed byte (DDI 0406C A5.2.8).
+#[derive(Clone, Copy, Debug, PartialEq, Eq)]
+pub enum HalfKind {
+    Strh,
+    Ldrh,
+    Ldrsb,
+    Ldrsh,
 }
 
 /// A barrier (DDI 0406C A5.7.1).
@@ -218,6 +228,27 @@ pub enum Instr {
         rn: Reg,
         rt: Reg,
         offset: Offset,
+    },
+    /// STRH, LDRH, LDRSB and LDRSH (DDI 0406C A5.2.8).
+    Half {
+        cond: Cond,
+        kind: HalfKind,
+        index: Index,
+        rn: Reg,
+        rt: Reg,
+        offset: Offset,
+    },
+    /// LDM and STM: the words of the registers whose bits `list` has, above the address in `rn` where
+    /// `up` and below it where not, without that address's own word where `before`, and with `wback`
+    /// the address is moved past them (DDI 0406C A5.5).
+    Block {
+        cond: Cond,
+        load: bool,
+        before: bool,
+        up: bool,
+        wback: bool,
+        rn: Reg,
+        list: u16,
     },
     /// B, and with `link` BL: a distance of `words` words, from -8,388,608 to 8,388,607, counted
     /// from two words after the instruction (DDI 0406C A8.8.18, A8.8.25).

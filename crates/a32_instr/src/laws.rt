@@ -1,11 +1,11 @@
 //! Laws of the instruction table, each proved for every word.
-ghost use Rattle.std.specs.Prelude.{◌≡◌, ◌==◌, false, true, negsuc, AllPairs, IsTrue};
+ghost use Rattle.std.specs.Prelude.{◌≡◌, ◌==◌, ◌<◌, ◌^◌, ℕ, false, true, negsuc, AllPairs, IsTrue};
 ghost use Rattle.std.specs.List.{list_all};
 ghost use Rattle.a32_instr.specs.Bits.{width_of};
-ghost use Rattle.a32_instr.specs.Table.{table, meaning, AreApart};
+ghost use Rattle.a32_instr.specs.Table.{table, meaning, AreApart, FitsNone, MeansItsRow};
 
 use crate::instructions::{
-    AluOp, BarrierKind, DecodeFault, Index, Instr, LongKind, Offset, Operand2, ShiftKind,
+    AluOp, BarrierKind, DecodeFault, HalfKind, Index, Instr, LongKind, Offset, Operand2, ShiftKind,
 };
 use llsc_base::Size;
 
@@ -19,9 +19,17 @@ pub fn no_word_fits_two_rows()
     ensures { AllPairs AreApart table }
 {}
 
+/// The three cases of a word: undefined, which is just where it fits no row; and where it fits one, what
+/// that row says: unpredictable, or its instruction.
+pub fn words_have_three_cases()
+    ensures undefined { (word : ℕ) → FitsNone table word → meaning table word ≡ Err DecodeFault.Undefined }
+    ensures fits_none { (word : ℕ) → meaning table word ≡ Err DecodeFault.Undefined → FitsNone table word }
+    ensures by_its_row { (word : ℕ) → word < 2 ^ 32 → MeansItsRow table word (meaning table word) }
+{}
+
 /// Worked words, computed by the table: `mov r0, #0`, `subs r2, r2, #1`, `cmp r1, #3`, `ldr r0, [r1]`,
-/// `str r0, [r1, #-4]`, a branch to itself, with a link too, and `svc #0`; a `movs pc, #0`, which is unpredictable; and words that
-/// are undefined: a condition field of 15, and a compare that sets no flags.
+/// `str r0, [r1, #-4]`, a branch to itself, with a link too, and `svc #0`; a `movs pc, #0`, which is
+/// unpredictable; and words that are undefined: a condition field of 15, and a compare that sets no flags.
 #[tactic(auto, unfolding(crate::specs::Table::meaning, crate::specs::Table::alu_op, crate::specs::Table::alu_fits, crate::specs::Table::alu_unpredictable, crate::specs::Table::signed24, crate::specs::Table::index_fits, crate::specs::Table::index_of, crate::specs::Table::word_unpredictable))]
 pub fn meanings_of_words()
     ensures moves { meaning table 0xE3A00000 ≡ Ok (Instr.Alu 14 AluOp.Mov false 0 0 (Operand2.Imm 0 0)) }
@@ -57,7 +65,7 @@ pub fn meanings_of_operations()
 /// Worked words of multiplications, CLZ, extends and REV: `mla r4, r4, r5, r6`, `muls r1, r2, r3`,
 /// `mls r1, r2, r3, r4`, `smlals r1, r2, r3, r4`, `clz r0, r1`, `rev r0, r1` and `uxtb r0, r1, ror #8`; and a
 /// `umull r1, r1, r2, r3`, which is unpredictable.
-#[tactic(auto, unfolding(crate::specs::Table::meaning, crate::specs::Table::alu_op, crate::specs::Table::long_kind, crate::specs::Table::alu_fits, crate::specs::Table::alu_unpredictable, crate::specs::Table::one_of_2_is_pc, crate::specs::Table::one_of_3_is_pc, crate::specs::Table::one_of_4_is_pc))]
+#[tactic(auto, unfolding(crate::specs::Table::meaning, crate::specs::Table::alu_op, crate::specs::Table::long_kind, crate::specs::Table::alu_fits, crate::specs::Table::alu_unpredictable, crate::specs::Table::one_of_2_is_pc, crate::specs::Table::one_of_3_is_pc, crate::specs::Table::one_of_4_is_pc, crate::specs::Table::index_fits, crate::specs::Table::half_fits))]
 pub fn meanings_of_products_and_parts()
     ensures adds { meaning table 0xE0246594 ≡ Ok (Instr.Mla 14 false 4 4 5 6) }
     ensures multiplies { meaning table 0xE0110392 ≡ Ok (Instr.Mul 14 true 1 2 3) }
@@ -72,7 +80,7 @@ pub fn meanings_of_products_and_parts()
 /// Worked words of exclusives, branches to registers and barriers: `ldrex r11, [r10]`, `strex r12, r11, [r10]`,
 /// `ldrexd r2, r3, [r1]`, `strexb r0, r2, [r1]`, `clrex`, `bx lr` and `dmb #15`; a `strex` whose status register is that
 /// of its value and a `ldrexd r3, r4, [r1]`, which are unpredictable.
-#[tactic(auto, unfolding(crate::specs::Table::meaning, crate::specs::Table::alu_op, crate::specs::Table::alu_fits, crate::specs::Table::alu_unpredictable, crate::specs::Table::one_of_2_is_pc, crate::specs::Table::one_of_3_is_pc, crate::specs::Table::exclusive_size, crate::specs::Table::no_pair, crate::specs::Table::status_clashes, crate::specs::Table::barrier_kind))]
+#[tactic(auto, unfolding(crate::specs::Table::meaning, crate::specs::Table::alu_op, crate::specs::Table::alu_fits, crate::specs::Table::alu_unpredictable, crate::specs::Table::one_of_2_is_pc, crate::specs::Table::one_of_3_is_pc, crate::specs::Table::exclusive_size, crate::specs::Table::no_pair, crate::specs::Table::status_clashes, crate::specs::Table::barrier_kind, crate::specs::Table::index_fits, crate::specs::Table::half_fits))]
 pub fn meanings_of_exclusives()
     ensures loads { meaning table 0xE19ABF9F ≡ Ok (Instr.LoadEx 14 Size.B4 10 11) }
     ensures stores { meaning table 0xE18ACF9B ≡ Ok (Instr.StoreEx 14 Size.B4 10 12 11) }
@@ -94,4 +102,28 @@ pub fn meanings_of_loads_and_stores()
     ensures loads_byte { meaning table 0xE4D10001 ≡ Ok (Instr.Word 14 true true Index.Post 1 0 (Offset.Imm true 1)) }
     ensures pushes { meaning table 0xE52DE004 ≡ Ok (Instr.Word 14 false false Index.Pre 13 14 (Offset.Imm false 4)) }
     ensures one_register { meaning table 0xE4911004 ≡ Err DecodeFault.Unpredictable }
+{}
+
+/// Worked words of halfwords and signed bytes: `ldrh r0, [r1, #18]`, `strh r2, [r3], #-2`, `ldrsb r4, [r5, -r6]`,
+/// `ldrsh r7, [r8, #4]!`; a `ldrh pc, [r1]`, which is unpredictable; and an `ldrd r0, r1, [r2]`, which is undefined.
+#[tactic(auto, unfolding(crate::specs::Table::meaning, crate::specs::Table::alu_op, crate::specs::Table::alu_fits, crate::specs::Table::alu_unpredictable, crate::specs::Table::index_fits, crate::specs::Table::index_of, crate::specs::Table::half_fits, crate::specs::Table::half_kind, crate::specs::Table::half_unpredictable))]
+pub fn meanings_of_halves()
+    ensures loads { meaning table 0xE1D101B2 ≡ Ok (Instr.Half 14 HalfKind.Ldrh Index.Plain 1 0 (Offset.Imm true 18)) }
+    ensures stores { meaning table 0xE04320B2 ≡ Ok (Instr.Half 14 HalfKind.Strh Index.Post 3 2 (Offset.Imm false 2)) }
+    ensures loads_byte { meaning table 0xE11540D6 ≡ Ok (Instr.Half 14 HalfKind.Ldrsb Index.Plain 5 4 (Offset.Shifted false 6 ShiftKind.Lsl 0)) }
+    ensures loads_signed { meaning table 0xE1F870F4 ≡ Ok (Instr.Half 14 HalfKind.Ldrsh Index.Pre 8 7 (Offset.Imm true 4)) }
+    ensures into_pc { meaning table 0xE1D1F0B0 ≡ Err DecodeFault.Unpredictable }
+    ensures two_words { meaning table 0xE1C200D0 ≡ Err DecodeFault.Undefined }
+{}
+
+/// Worked words of blocks: `ldmia sp!, {r4, pc}`, `stmia r1, {r2, r3, r4, r5}`, `stmdb sp!, {r0, lr}`; and an
+/// `ldmia r4!, {r4, pc}`, a `stmia r1!, {r0, r1}` and a block of no registers, which are unpredictable.
+#[tactic(auto, unfolding(crate::specs::Table::meaning, crate::specs::Table::alu_op, crate::specs::Table::alu_fits, crate::specs::Table::block_unpredictable))]
+pub fn meanings_of_blocks()
+    ensures loads { meaning table 0xE8BD8010 ≡ Ok (Instr.Block 14 true false true true 13 0x8010) }
+    ensures stores { meaning table 0xE881003C ≡ Ok (Instr.Block 14 false false true false 1 0x3C) }
+    ensures pushes { meaning table 0xE92D4001 ≡ Ok (Instr.Block 14 false true false true 13 0x4001) }
+    ensures base_loaded { meaning table 0xE8B48010 ≡ Err DecodeFault.Unpredictable }
+    ensures base_not_lowest { meaning table 0xE8A10003 ≡ Err DecodeFault.Unpredictable }
+    ensures no_registers { meaning table 0xE8910000 ≡ Err DecodeFault.Unpredictable }
 {}
