@@ -1,8 +1,6 @@
 -- The first word that is barred, by the words before it.
-use Rattle.std.proofs.Common.{◌≡◌, ℕ, zero, suc, ◌+◌, ◌*◌, ◌-◌, ◌%◌, ◌^◌, ◌<◌, Bool, Option, Some, None, arith, refl, sym, ◌∙◌, ap}
+use Rattle.std.proofs.Common.{◌≡◌, ℕ, zero, suc, ◌+◌, ◌*◌, ◌-◌, ◌%◌, ◌^◌, ◌<◌, Bool, None, arith, refl, ◌∙◌, ap}
 use Rattle.llsc_base.specs.Images.{Program, bar_of, first_barred, or_later, word_place}
-use Rattle.llsc_base.specs.declared.access.Bar.{Bar}
-use Rattle.llsc_base.specs.declared.access.BarredWord.{BarredWord}
 
 -- no word is barred of none
 pub barred_none : (program : Program) (store : Bool) (addr count : ℕ) → count ≡ 0 → first_barred program store addr count ≡ None

@@ -106,7 +106,7 @@ fn flat_memory(alloc: Global, file: &[u8], mem: u32) -> Result<Vec<u8>, AllocErr
 #[cfg(test)]
 mod tests {
     use super::*;
-    use crate::access::{Bar, Place, Size};
+    use crate::access::{Bar, BarredWord, Place, Size};
 
     // Three words: mov r0, #0; mov r7, #1; svc #0.
     const EXIT: [u8; 12] = [0, 0, 0xa0, 0xe3, 1, 0x70, 0xa0, 0xe3, 0, 0, 0, 0xef];
@@ -151,6 +151,32 @@ mod tests {
         ];
         for (addr, size, store, bar) in cases {
             assert_eq!(rt; image.test(Place { addr, size }, store), bar, "at {addr}");
+        }
+        Ok(())
+    }
+
+    #[test]
+    fn blocks(rt: HostRuntime) -> Result<(), NoImage> {
+        let image = image(rt.alloc())?;
+        let cases = [
+            (0x2000, 4, true, None),
+            (0x100c, 16, true, None),
+            (0xff8, 4, false, None),
+            (0xff8, 2, true, None),
+            (0xff8, 4, true, Some((0x1000, Bar::ReadOnly))),
+            (0x1004, 4, true, Some((0x1004, Bar::ReadOnly))),
+            (0xf_fff0, 4, true, None),
+            (0xf_fff4, 4, true, Some((0x10_0000, Bar::Outside))),
+            (0x2002, 4, false, Some((0x2002, Bar::Alignment))),
+            (0xffff_fff8, 4, false, Some((0xffff_fff8, Bar::Outside))),
+            (0xffc, 1, true, None),
+            (0x1000, 1, true, Some((0x1000, Bar::ReadOnly))),
+            (0x2001, 0, true, None),
+        ];
+        for (addr, count, store, barred) in cases {
+            assert!(rt; count <= 16);
+            let wanted = barred.map(|(addr, bar)| BarredWord { addr, bar });
+            assert_eq!(rt; image.test_words(addr, count, store), wanted, "from {addr}");
         }
         Ok(())
     }

@@ -127,8 +127,39 @@ impl Image {
 impl Image {
     /// The first of `count` words, one after another from an address up, that may not be accessed, with
     /// what stands against it. Addresses count modulo 2 to the 32, and there are at most 16 words.
-    #[tactic(auto, using(crate::proofs::Barred::barred_none, crate::proofs::Barred::barred_step))]
+    #[inline]
     pub fn test_words(&self, addr: u32, count: u32, store: bool) -> Option<BarredWord>
+        requires { count ≤ 16 }
+        ensures { result ≡ first_barred self.now store addr count }
+    {
+        if self.all_pass(addr, count, store) {
+            return None;
+        }
+        self.first_barred(addr, count, store)
+    }
+
+    // Whether it is plain at once that no word is barred: the block is aligned, ends within memory, and,
+    // if it is stored, touches as one piece no span that isn't written.
+    #[inline]
+    #[tactic(auto, using(crate::proofs::Blocks::block_passes))]
+    fn all_pass(&self, addr: u32, count: u32, store: bool) -> bool
+        requires { count ≤ 16 }
+        ensures { IsTrue result → first_barred self.now store addr count ≡ None }
+    {
+        if addr % 4 != 0 {
+            return false;
+        }
+        let end = addr as usize + 4 * count as usize;
+        if end > self.bytes.len() {
+            return false;
+        }
+        !(store && touches_read_only(&self.spans, addr as usize, end))
+    }
+
+    // The first word that is barred, by the words one after another.
+    #[cold]
+    #[tactic(auto, using(crate::proofs::Barred::barred_none, crate::proofs::Barred::barred_step))]
+    fn first_barred(&self, addr: u32, count: u32, store: bool) -> Option<BarredWord>
         requires { count ≤ 16 }
         ensures { result ≡ first_barred self.now store addr count }
     {

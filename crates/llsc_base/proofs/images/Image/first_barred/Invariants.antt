@@ -1,7 +1,7 @@
 -- The words that the loop has passed are not barred.
 use Rattle.std.proofs.Common.{◌≡◌, ◌+◌, ◌*◌, ◌-◌}
 use Rattle.llsc_base.specs.Images.{first_barred, program_of}
-use Rattle.llsc_base.proofs.images.Image.test_words.Given as goal
+use Rattle.llsc_base.proofs.images.Image.first_barred.Given as goal
 
 abbrev pub invariant-loop-i : goal.invariant-loop-i
 invariant-loop-i l =
