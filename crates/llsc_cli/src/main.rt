@@ -3,6 +3,7 @@
 
 mod call;
 mod host;
+mod laws;
 mod memory_host;
 mod real_host;
 mod report;

@@ -1,0 +1,102 @@
+-- The accesses and replies of a thread alone decide how many loads, stores and failed store-exclusives it had.
+use Rattle.std.proofs.Common.{◌≡◌, ℕ, zero, suc, ◌+◌, Bool, true, false, sum_by, length, List, [], ◌∷◌, refl, sym, ◌∙◌, ap, zero-add}
+use Rattle.std.proofs.lemmas.List.Sums.{sum_by-cons}
+use Rattle.history.specs.Entry.{is_access}
+use Rattle.history.specs.Monitor.{Monitor, accessed, at_rest}
+use Rattle.history.specs.ArmLegal.{IsArmLegal, MayAccess}
+use Rattle.history.specs.declared.entry.Entry.{Entry}
+use Rattle.history.specs.declared.entry.Entry.TheVariants as entry
+use Rattle.a32_instr.specs.declared.outside.Ask.{Ask}
+use Rattle.a32_instr.specs.declared.outside.Ask.TheVariants.{Load, LoadEx, Store, StoreEx, Clear}
+use Rattle.llsc_cli.specs.Run.{Pair}
+use Rattle.llsc_cli.specs.Solo.{pair_of, pairs_of, reads_in, writes_in, fails_in, FailsUnmarked, AllFailUnmarked, IsAlone}
+use Rattle.llsc_cli.proofs.Alone.{access_served, pairs_of-access, pairs_of-mark, one_still}
+
+-- one for a load or a load-exclusive
+abbrev pub read_by : Ask → ℕ → ℕ
+read_by (Load place) reply = 1
+read_by (LoadEx place) reply = 1
+read_by _ reply = 0
+
+-- a store, or a store-exclusive that stored
+abbrev pub write_by : Ask → ℕ → ℕ
+write_by (Store place value) reply = 1
+write_by (StoreEx place value) zero = 1
+write_by _ _ = 0
+
+-- a store-exclusive that failed
+abbrev pub fail_by : Ask → ℕ → ℕ
+fail_by (StoreEx place value) (suc reply) = 1
+fail_by _ _ = 0
+
+-- An entry counts as its access and reply do, and what stands for a mark counts as nothing.
+pub record IsCounted (f : Entry → ℕ) (g : Pair → ℕ) : Type 0 where
+  pub entry : (e : Entry) → f e ≡ g (pair_of e)
+  pub nothing : g (Clear, 0) ≡ 0
+
+-- loads
+reads_entry : (e : Entry) → reads_in e ≡ read_by (pair_of e).0 (pair_of e).1
+reads_entry (entry.Read thread place value false) = refl
+reads_entry (entry.Write thread place value false) = refl
+reads_entry _ = refl
+
+pub reads_counted : IsCounted reads_in (λ pair. read_by pair.0 pair.1)
+reads_counted = record { entry = reads_entry; nothing = refl }
+
+-- stores
+writes_entry : (e : Entry) → writes_in e ≡ write_by (pair_of e).0 (pair_of e).1
+writes_entry (entry.Read thread place value false) = refl
+writes_entry (entry.Write thread place value false) = refl
+writes_entry _ = refl
+
+pub writes_counted : IsCounted writes_in (λ pair. write_by pair.0 pair.1)
+writes_counted = record { entry = writes_entry; nothing = refl }
+
+-- failed store-exclusives
+fails_entry : (e : Entry) → fails_in e ≡ fail_by (pair_of e).0 (pair_of e).1
+fails_entry (entry.Read thread place value false) = refl
+fails_entry (entry.Write thread place value false) = refl
+fails_entry _ = refl
+
+pub fails_counted : IsCounted fails_in (λ pair. fail_by pair.0 pair.1)
+fails_counted = record { entry = fails_entry; nothing = refl }
+
+-- what stands for a mark
+pair_of-mark : (e : Entry) → is_access e ≡ false → pair_of e ≡ (Clear, 0)
+pair_of-mark (entry.Read thread place value ex) is = cc
+pair_of-mark (entry.Write thread place value ex) is = cc
+pair_of-mark (entry.Fail thread place value cause) is = cc
+pair_of-mark (entry.Clear thread) is = cc
+pair_of-mark _ is = refl
+
+-- a mark counts as nothing
+mark_counted : (f : Entry → ℕ) (g : Pair → ℕ) → IsCounted f g → (e : Entry) → is_access e ≡ false → f e ≡ 0
+mark_counted f g counted e is = counted.entry e ∙ ap g (pair_of-mark e is) ∙ counted.nothing
+
+-- one entry before those that are counted
+entry_counted : (f : Entry → ℕ) (g : Pair → ℕ) → IsCounted f g → (m : Monitor) (e : Entry) (history : List Entry) (b : Bool) → is_access e ≡ b
+    → length m.marks ≡ 1 → MayAccess m e → FailsUnmarked m e
+    → sum_by f history ≡ sum_by g (pairs_of 0 history) → sum_by f (e ∷ history) ≡ sum_by g (pairs_of 0 (e ∷ history))
+entry_counted f g counted m e history true is one may decided rest =
+    let here = access_served m e one may decided is in
+    sum_by-cons f e history ∙ ap (λ n. n + sum_by f history) (counted.entry e) ∙ ap (λ n. g (pair_of e) + n) rest
+    ∙ sym (sum_by-cons g (pair_of e) (pairs_of 0 history)) ∙ sym (ap (sum_by g) (pairs_of-access e history here.own is))
+entry_counted f g counted m e history false is one may decided rest =
+    sum_by-cons f e history ∙ ap (λ n. n + sum_by f history) (mark_counted f g counted e is) ∙ zero-add (sum_by f history) ∙ rest
+    ∙ sym (ap (sum_by g) (pairs_of-mark e history is))
+
+-- the accesses and replies of a thread alone decide its counts
+history_counted : (f : Entry → ℕ) (g : Pair → ℕ) → IsCounted f g → (m : Monitor) (history : List Entry)
+    → length m.marks ≡ 1 → IsArmLegal m history → AllFailUnmarked m history → sum_by f history ≡ sum_by g (pairs_of 0 history)
+history_counted f g counted m [] one legal decided = refl
+history_counted f g counted m (e ∷ history) one legal decided =
+    entry_counted f g counted m e history (is_access e) refl one legal.0 decided.0
+    (history_counted f g counted (accessed m e) history (one_still m e one legal.0) legal.1 decided.1)
+
+-- two histories of a thread alone with the same accesses and replies have the same count
+pub same_count : (f : Entry → ℕ) (g : Pair → ℕ) → IsCounted f g → (first : List ℕ) (history other : List Entry)
+    → IsAlone first history → IsAlone first other → pairs_of 0 history ≡ pairs_of 0 other → sum_by f history ≡ sum_by f other
+same_count f g counted first history other alone alone_too same =
+    history_counted f g counted (at_rest first 1) history refl alone.legal alone.decided
+    ∙ ap (sum_by g) same
+    ∙ sym (history_counted f g counted (at_rest first 1) other refl alone_too.legal alone_too.decided)
