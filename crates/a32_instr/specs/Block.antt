@@ -1,10 +1,10 @@
 -- Loads and stores of a block of registers (DDI 0406C A5.5, A8.8.58 to A8.8.61, A8.8.199 to A8.8.202).
-use Rattle.std.specs.Prelude.{ℕ, ◌+◌, ◌-◌, ◌*◌, ◌/◌, ◌%◌, ◌^◌, ◌==◌, not, nat_lt, if◌then◌else◌, Bool, true, false, Option, Some, None, List, [], ◌∷◌, filter, length, slice_index}
+use Rattle.std.specs.Prelude.{ℕ, ◌+◌, ◌-◌, ◌*◌, ◌/◌, ◌%◌, ◌^◌, ◌==◌, not, nat_lt, if◌then◌else◌, Bool, true, false, Option, Some, None, List, [], ◌∷◌, filter, length, slice_index, slice_set}
 use Rattle.llsc_base.specs.Images.{Program, first_barred, word_place}
 use Rattle.llsc_base.specs.declared.access.BarredWord.{BarredWord}
 use Rattle.a32_instr.specs.declared.outside.Ask.{Ask}
 use Rattle.a32_instr.specs.declared.outside.Ask.TheVariants.{Load, Store}
-use Rattle.a32_instr.specs.State.{State, Effect, asks, completes, stops, low32, register, advanced, with_register, jumps}
+use Rattle.a32_instr.specs.State.{State, Effect, asks, completes, stops, low32, register, advanced, jumps}
 use Rattle.a32_instr.specs.LoadStore.{moved, barred}
 
 -- register r stands in a list where bit r is set
@@ -30,28 +30,35 @@ lowest_address true true base bytes = low32 (base + 4)
 lowest_address false false base bytes = low32 (base + (2 ^ 32 - bytes) + 4)
 lowest_address false true base bytes = low32 (base + (2 ^ 32 - bytes))
 
+-- the registers with the moved base, where it is written back
+abbrev pub base_regs : Bool → ℕ → ℕ → List ℕ → List ℕ
+base_regs wback rn moved regs = if wback then slice_set regs rn moved else regs
+
 -- the state with the base moved past so many bytes, where it is written back
 abbrev pub block_back : Bool → Bool → ℕ → ℕ → State → State
 block_back wback up rn bytes state =
-    if wback then with_register state rn (moved (register state rn) up bytes) else state
+    record state { regs = base_regs wback rn (moved (register state rn) up bytes) state.regs }
 
 -- the access of one of the registers: the word at its place in the list, from the lowest address up
 abbrev pub block_ask : Bool → ℕ → List ℕ → State → ℕ → Ask
 block_ask true lowest registers state i = Load (word_place (lowest + 4 * i))
 block_ask false lowest registers state i = Store (word_place (lowest + 4 * i)) (register state (slice_index registers i))
 
--- registers with loaded values (the PC, which comes last, is none of those that a state lists)
-unfoldable pub loaded : List ℕ → List ℕ → State → State
-loaded [] values state = state
-loaded (r ∷ registers) [] state = state
-loaded (r ∷ registers) (value ∷ values) state = loaded registers values (with_register state r (low32 value))
+-- r0 to r14 with loaded values, those of a list in order (the PC, which would come last, is none of them)
+unfoldable pub loaded : List ℕ → List ℕ → List ℕ → List ℕ
+loaded [] values regs = regs
+loaded (r ∷ registers) [] regs = regs
+loaded (r ∷ registers) (value ∷ values) regs = loaded registers values (slice_set regs r (low32 value))
+
+abbrev pub with_block : ℕ → List ℕ → State → State
+with_block list values state = record state { regs = loaded (registers_of list) values state.regs }
 
 -- the load of a block is complete: a listed PC is written last, with the last value
 abbrev pub block_loaded : ℕ → List ℕ → State → Effect
 block_loaded list values back =
     if is_listed list 15
-    then jumps (loaded (registers_of list) values back) (low32 (slice_index values (count_of list - 1)))
-    else completes (advanced (loaded (registers_of list) values back))
+    then jumps (with_block list values back) (low32 (slice_index values (count_of list - 1)))
+    else completes (advanced (with_block list values back))
 
 abbrev pub block_done : Bool → ℕ → List ℕ → State → Effect
 block_done load list replies back = if load then block_loaded list replies back else completes (advanced back)

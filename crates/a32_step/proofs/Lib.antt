@@ -3,3 +3,5 @@ pub mod Follows
 mod Rotation
 pub mod Tested
 pub mod Words
+pub mod Lists
+pub mod Blocks

@@ -8,7 +8,7 @@ use Rattle.a32_instr.specs.declared.outside.Ask.{Ask}
 use Rattle.a32_instr.specs.declared.outside.Ask.TheVariants as ask
 use Rattle.a32_instr.specs.declared.outside.Stop.{Stop}
 use Rattle.a32_instr.specs.declared.instructions.Instr.{Instr}
-use Rattle.a32_instr.specs.declared.instructions.Instr.TheVariants.{Alu, Movw, Movt, Nop, Yield, Mul, Mla, Mls, Long, Clz, Extend, Rev, Word, Branch, BranchReg, Svc, LoadEx, StoreEx, Clrex, Barrier}
+use Rattle.a32_instr.specs.declared.instructions.Instr.TheVariants.{Alu, Movw, Movt, Nop, Yield, Mul, Mla, Mls, Long, Clz, Extend, Rev, Word, Half, Block, Branch, BranchReg, Svc, LoadEx, StoreEx, Clrex, Barrier}
 use Rattle.a32_instr.specs.State.{State, Effect, completes, low32, register, advanced, jumps, writes}
 use Rattle.a32_instr.specs.declared.instructions.AluOp.{AluOp}
 use Rattle.a32_instr.specs.declared.arithmetic.Computed.{Computed}
@@ -19,7 +19,11 @@ use Rattle.std.specs.Int.{w32, leading_zeros}
 use Rattle.a32_instr.specs.Shift.{top_bit, rotated_right}
 use Rattle.a32_instr.specs.Multiply.{multiplied, product_flags, less_product}
 use Rattle.a32_instr.specs.Moves.{with_top, reversed, extended, width_of}
-use Rattle.a32_instr.specs.LoadStore.{asks_unless, loads, stores, accesses, accessed_address, moved_address, written_back, access_size, part_of}
+use Rattle.a32_instr.specs.declared.instructions.HalfKind.{HalfKind}
+use Rattle.a32_instr.specs.declared.instructions.HalfKind.TheVariants.{Strh, Ldrh, Ldrsb, Ldrsh}
+use Rattle.a32_instr.specs.LoadStore.{asks_unless, loads, loads_half, stores, accesses, half_accesses, half_size, half_value, accessed_address, moved_address, written_back, access_size, part_of}
+use Rattle.a32_instr.specs.Block.{block_back, bytes_of, lowest_address}
+use Rattle.a32_step.proofs.Blocks.{block_tested}
 use Rattle.a32_instr.specs.Exclusive.{next_register, place_at, stored_part, loads_exclusive, stores_exclusive}
 use Rattle.llsc_base.specs.declared.access.Size.{Size}
 use Rattle.llsc_base.specs.declared.access.Size.TheVariants.{B1, B2, B4, B8}
@@ -63,14 +67,24 @@ part_fits : (byte : Bool) (value : ℕ) → value < 2 ^ 32 → part_of byte valu
 part_fits true value small = omega arith
 part_fits false value small = small
 
-register_fits : (state : State) (r : ℕ) → AreWords state.regs → register state r < 2 ^ 32
-register_fits state r words = choose_below (r == 15) (low32 (state.pc + 8)) (slice_index state.regs r) (omega arith) (words r)
+register_fits : (state : State) → AreWords state.regs → (r : ℕ) → register state r < 2 ^ 32
+register_fits state words r = choose_below (r == 15) (low32 (state.pc + 8)) (slice_index state.regs r) (omega arith) (words r)
 
 word_tested : (program : Program) (load byte : Bool) (addr rt : ℕ) (back : State) (replies : List ℕ) (state : State) → AreWords state.regs → IsTested program replies (wanted_of (accesses program load byte (record { addr = addr; size = access_size byte }) back rt replies state))
 word_tested program true byte addr rt back replies state words = loads_tested program (record { addr = addr; size = access_size byte }) back rt replies state
 word_tested program false byte addr rt back replies state words =
     stores_tested program (record { addr = addr; size = access_size byte }) back (part_of byte (register state rt)) replies state
-    (part_fits byte (register state rt) (register_fits state rt words))
+    (part_fits byte (register state rt) (register_fits state words rt))
+
+loads_half_tested : (kind : HalfKind) (program : Program) (place : Place) (back : State) (rt : ℕ) (replies : List ℕ) (state : State) → IsTested program replies (wanted_of (loads_half kind program place back rt replies state))
+loads_half_tested kind program place back rt [] state = unless_tested program (ask.Load place) (bar_of program place false) place.addr tt (λ none. none)
+loads_half_tested kind program place back rt (value ∷ values) state = writes_tested program (value ∷ values) back rt (half_value kind value)
+
+half_tested : (kind : HalfKind) (program : Program) (addr rt : ℕ) (back : State) (replies : List ℕ) (state : State) → IsTested program replies (wanted_of (half_accesses kind program (record { addr = addr; size = half_size kind }) back rt replies state))
+half_tested Strh program addr rt back replies state = stores_tested program (record { addr = addr; size = B2 }) back (register state rt % 2 ^ 16) replies state (omega arith)
+half_tested Ldrh program addr rt back replies state = loads_half_tested Ldrh program (record { addr = addr; size = B2 }) back rt replies state
+half_tested Ldrsb program addr rt back replies state = loads_half_tested Ldrsb program (record { addr = addr; size = B1 }) back rt replies state
+half_tested Ldrsh program addr rt back replies state = loads_half_tested Ldrsh program (record { addr = addr; size = B2 }) back rt replies state
 
 exclusive_load_tested : (size : Size) (program : Program) (place : Place) (rt : ℕ) (replies : List ℕ) (state : State) → IsTested program replies (wanted_of (loads_exclusive size program place rt replies state))
 exclusive_load_tested size program place rt [] state = unless_tested program (ask.LoadEx place) (bar_of program place false) place.addr tt (λ none. none)
@@ -84,10 +98,10 @@ exclusive_store_tested program place value rd (reply ∷ replies) state fit = tt
 stored_part_fits : (size : Size) (rt : ℕ) (state : State) → AreWords state.regs → stored_part size rt state < 256 ^ size_bytes size
 stored_part_fits B1 rt state words = omega arith
 stored_part_fits B2 rt state words = omega arith
-stored_part_fits B4 rt state words = register_fits state rt words
+stored_part_fits B4 rt state words = register_fits state words rt
 stored_part_fits B8 rt state words =
-    let low : register state rt < 2 ^ 32 = register_fits state rt words in
-    let high : register state (next_register rt) < 2 ^ 32 = register_fits state (next_register rt) words in
+    let low : register state rt < 2 ^ 32 = register_fits state words rt in
+    let high : register state (next_register rt) < 2 ^ 32 = register_fits state words (next_register rt) in
     omega arith
 
 alu_tested : (program : Program) (replies : List ℕ) (op : AluOp) (sets : Bool) (rd : ℕ) (result : Computed) (state : State) → IsTested program replies (wanted_of (alu_done op sets rd result state))
@@ -120,6 +134,10 @@ acts_tested (Extend cond unsigned half rd rm turn) program replies state words =
 acts_tested (Rev cond rd rm) program replies state words = writes_tested program replies state rd (reversed (register state rm))
 acts_tested (Word cond load byte index rn rt offset) program replies state words =
     word_tested program load byte (accessed_address index (register state rn) (moved_address rn offset state)) rt (written_back index rn (moved_address rn offset state) state) replies state words
+acts_tested (Half cond kind index rn rt offset) program replies state words =
+    half_tested kind program (accessed_address index (register state rn) (moved_address rn offset state)) rt (written_back index rn (moved_address rn offset state) state) replies state
+acts_tested (Block cond load before up wback rn list) program replies state words =
+    block_tested program load (lowest_address up before (register state rn) (bytes_of list)) list (block_back wback up rn (bytes_of list) state) replies state (register_fits state words)
 acts_tested (Branch cond link distance) program replies state words = tt
 acts_tested (BranchReg cond link rm) program replies state words = jumps_tested program replies (linked link state) (register state rm)
 acts_tested (Svc cond imm) program replies state words = tt

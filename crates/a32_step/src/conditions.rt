@@ -47,6 +47,8 @@ pub fn condition(instr: &Instr) -> Cond
         Instr::Extend { cond, .. } => *cond,
         Instr::Rev { cond, .. } => *cond,
         Instr::Word { cond, .. } => *cond,
+        Instr::Half { cond, .. } => *cond,
+        Instr::Block { cond, .. } => *cond,
         Instr::Branch { cond, .. } => *cond,
         Instr::BranchReg { cond, .. } => *cond,
         Instr::Svc { cond, .. } => *cond,

@@ -11,10 +11,12 @@ use crate::phases::{Phase, Wanted};
 use crate::replies::Replies;
 use a32_decode::decode;
 use a32_instr::{DecodeFault, Flags, Instr, Reg, Stop};
+use blocks::Transfer;
 use llsc_base::Image;
-use load_store::Access;
+use load_store::{Access, HalfAccess};
 use std::marker::Model;
 
+mod blocks;
 mod branches;
 mod data_processing;
 mod exclusives;
@@ -331,6 +333,43 @@ impl Cpu {
                     moved,
                 };
                 self.word(*instr, image, access)
+            }
+            Instr::Half {
+                kind,
+                index,
+                rn,
+                rt,
+                ref offset,
+                ..
+            } => {
+                let moved = self.moved_address(rn, offset);
+                let access = HalfAccess {
+                    kind,
+                    index,
+                    rn,
+                    rt,
+                    moved,
+                };
+                self.half(*instr, image, access)
+            }
+            Instr::Block {
+                load,
+                before,
+                up,
+                wback,
+                rn,
+                list,
+                ..
+            } => {
+                let transfer = Transfer {
+                    load,
+                    before,
+                    up,
+                    wback,
+                    rn,
+                    list,
+                };
+                self.block(*instr, image, transfer)
             }
             Instr::Branch { link, words, .. } => self.branch(link, words),
             Instr::BranchReg { link, rm, .. } => self.branch_by_register(link, rm),

@@ -14,6 +14,7 @@ mod operands;
 mod parts;
 mod phases;
 mod products;
+mod registers;
 mod replies;
 mod shifts;
 

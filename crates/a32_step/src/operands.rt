@@ -1,10 +1,10 @@
 //! Addresses: of loads and stores, and of branches.
 ghost use Rattle.std.specs.Prelude.{◌≡◌, ◌%◌, ◌^◌, ◌<◌};
 ghost use Rattle.llsc_base.specs.Memory.{size_bytes};
-ghost use Rattle.a32_instr.specs.LoadStore.{moved, is_added, accessed_address, access_size, part_of};
+ghost use Rattle.a32_instr.specs.LoadStore.{moved, is_added, accessed_address, access_size, half_size, part_of};
 ghost use Rattle.a32_instr.specs.Branch.{target_of};
 
-use a32_instr::{Index, Offset};
+use a32_instr::{HalfKind, Index, Offset};
 use llsc_base::Size;
 
 /// An address moved up or down (DDI 0406C A8.5).
@@ -43,6 +43,16 @@ pub fn size_of_access(byte: bool) -> Size
     ensures { result ≡ access_size byte }
 {
     if byte { Size::B1 } else { Size::B4 }
+}
+
+/// The size of a halfword's access, or of a signed byte's.
+pub fn size_of_half(kind: HalfKind) -> Size
+    ensures { result ≡ half_size kind }
+{
+    match kind {
+        HalfKind::Strh | HalfKind::Ldrh | HalfKind::Ldrsh => Size::B2,
+        HalfKind::Ldrsb => Size::B1,
+    }
 }
 
 /// What of a register a byte's store has, or a word's.

@@ -1,6 +1,10 @@
-//! Halves and bytes of 32-bit numbers (DDI 0406C A5.4.3, A8.8.106).
+//! Halves and bytes of 32-bit numbers (DDI 0406C A5.2.8, A5.4.3, A8.8.106).
 ghost use Rattle.std.specs.Prelude.{◌≡◌};
+ghost use Rattle.a32_instr.specs.State.{low32};
+ghost use Rattle.a32_instr.specs.LoadStore.{half_value};
 ghost use Rattle.a32_instr.specs.Moves.{with_top, reversed, extended, width_of};
+
+use a32_instr::HalfKind;
 
 /// A number with another upper half.
 #[inline(always)]
@@ -51,5 +55,26 @@ fn extend_half(unsigned: bool, x: u32) -> u32
         half
     } else {
         half + 0xffff_0000
+    }
+}
+
+/// The low 32 bits of a reply.
+#[inline(always)]
+pub fn low_word(reply: u64) -> u32
+    ensures { result ≡ low32 reply }
+{
+    (reply & 0xffff_ffff) as u32
+}
+
+/// A loaded halfword or signed byte as 32 bits.
+#[inline]
+pub fn loaded_half(kind: HalfKind, reply: u64) -> u32
+    ensures { result ≡ half_value kind reply }
+{
+    let half = (reply & 0xffff) as u32;
+    match kind {
+        HalfKind::Strh | HalfKind::Ldrh => half,
+        HalfKind::Ldrsb => extend_byte(false, half),
+        HalfKind::Ldrsh => extend_half(false, half),
     }
 }

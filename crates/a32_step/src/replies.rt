@@ -1,4 +1,4 @@
-ghost use Rattle.std.specs.Prelude.{◌≡◌, ◌<◌, ◌≤◌, [], ◌∷◌, ◌++◌, length, slice_get};
+ghost use Rattle.std.specs.Prelude.{◌≡◌, ◌<◌, ◌≤◌, [], ◌∷◌, ◌++◌, length, slice_get, slice_index};
 
 use std::marker::Model;
 
@@ -42,6 +42,22 @@ impl Replies {
         } else {
             Some(self.items[0])
         }
+    }
+
+    /// How many there are.
+    pub fn count(&self) -> usize
+        ensures { result ≡ length self.now }
+    {
+        self.count
+    }
+
+    /// The one of this number, counted from 0.
+    pub fn at(&self, i: usize) -> u64
+        requires { i < length self.now }
+        ensures { result ≡ slice_index self.now i }
+    {
+        let _ = &self.count;
+        self.items[i]
     }
 
     /// One more.

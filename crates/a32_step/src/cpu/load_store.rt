@@ -1,15 +1,18 @@
-//! Loads and stores (DDI 0406C A5.3).
-ghost use Rattle.std.specs.Prelude.{◌≡◌, []};
+//! Loads and stores of one register (DDI 0406C A5.2.8, A5.3).
+ghost use Rattle.std.specs.Prelude.{◌≡◌, ◌≢◌, []};
 ghost use Rattle.llsc_base.specs.Images.{bar_of};
 ghost use Rattle.a32_instr.specs.State.{jumps, writes};
-ghost use Rattle.a32_instr.specs.LoadStore.{loads, stores, word_at, asks_unless, barred, distance_of, moved_address, written_back};
+ghost use Rattle.a32_instr.specs.LoadStore.{loads, loads_half, stores, half_at, word_at, asks_unless, barred, distance_of, moved_address, written_back};
 ghost use Rattle.a32_step.specs.Machine.{wanted_of, moved_on};
 
 use super::Cpu;
-use crate::operands::{accessed_address, is_added, moved, part_stored, size_of_access};
+use crate::operands::{
+    accessed_address, is_added, moved, part_stored, size_of_access, size_of_half,
+};
+use crate::parts::loaded_half;
 use crate::phases::{Phase, Wanted};
 use crate::shifts::shift_by_number;
-use a32_instr::{Ask, Index, Instr, Offset, Reg, Stop};
+use a32_instr::{Ask, HalfKind, Index, Instr, Offset, Reg, Stop};
 use llsc_base::{Bar, Image, Place};
 
 /// The fields of a load or a store, and its moved address.
@@ -17,6 +20,16 @@ use llsc_base::{Bar, Image, Place};
 pub(super) struct Access {
     pub load: bool,
     pub byte: bool,
+    pub index: Index,
+    pub rn: Reg,
+    pub rt: Reg,
+    pub moved: u32,
+}
+
+/// The fields of a load or a store of a halfword or a signed byte, and its moved address.
+#[derive(Clone, Copy)]
+pub(super) struct HalfAccess {
+    pub kind: HalfKind,
     pub index: Index,
     pub rn: Reg,
     pub rt: Reg,
@@ -32,7 +45,7 @@ struct WriteBack {
 }
 
 /// The stop of a thread whose access is barred.
-fn barred(bar: Bar, addr: u32) -> Stop
+pub(super) fn barred(bar: Bar, addr: u32) -> Stop
     ensures { result ≡ barred bar addr }
 {
     match bar {
@@ -181,5 +194,49 @@ impl Cpu {
         }
         let value = part_stored(access.byte, self.operand(access.rt));
         self.store(instr, image, place, back, value)
+    }
+
+    /// A load of a halfword or a signed byte: its place is asked for, and then the reply is written as 32 bits.
+    fn load_half(
+        &mut self,
+        instr: Instr,
+        image: &Image,
+        kind: HalfKind,
+        place: Place,
+        back: WriteBack,
+        rt: Reg,
+    ) -> Wanted
+        ensures wanted { result ≡ wanted_of (loads_half kind image.now place (written_back back.index back.rn back.moved self.old.state) rt self.old.replies self.old.state) }
+        ensures state { self.new ≡ moved_on instr self.old (loads_half kind image.now place (written_back back.index back.rn back.moved self.old.state) rt self.old.replies self.old.state) }
+    {
+        if let Some(reply) = self.replies.first() {
+            return self.finish_load(back, rt, loaded_half(kind, reply));
+        }
+        self.ask(instr, image, place, false, Ask::Load(place))
+    }
+
+    /// LDRH, LDRSB, LDRSH and STRH (DDI 0406C A5.2.8).
+    pub(super) fn half(&mut self, instr: Instr, image: &Image, access: HalfAccess) -> Wanted
+        ensures wanted { result ≡ wanted_of (half_at image.now access.kind access.index access.rn access.rt access.moved self.old.replies self.old.state) }
+        ensures state { self.new ≡ moved_on instr self.old (half_at image.now access.kind access.index access.rn access.rt access.moved self.old.replies self.old.state) }
+    {
+        let back = WriteBack {
+            index: access.index,
+            rn: access.rn,
+            moved: access.moved,
+        };
+        let place = Place {
+            addr: accessed_address(access.index, self.operand(access.rn), back.moved),
+            size: size_of_half(access.kind),
+        };
+        match access.kind {
+            HalfKind::Strh => {
+                let value = u64::from(self.operand(access.rt) & 0xffff);
+                self.store(instr, image, place, back, value)
+            }
+            HalfKind::Ldrh | HalfKind::Ldrsb | HalfKind::Ldrsh => {
+                self.load_half(instr, image, access.kind, place, back, access.rt)
+            }
+        }
     }
 }

@@ -1,0 +1,127 @@
+-- The registers of a list, from each register up.
+use Rattle.std.proofs.Common.{◌≡◌, ℕ, zero, suc, ◌+◌, ◌-◌, ◌/◌, ◌%◌, ◌^◌, ◌<◌, ◌≤◌, ◌==◌, Bool, true, false, if◌then◌else◌, List, [], ◌∷◌, length, slice_index, slice_set, drop, arith, refl, sym, ◌∙◌, ap, subst, shr-shr}
+use Rattle.std.proofs.lemmas.List.{drop_more}
+use Rattle.std.proofs.lemmas.Nat.{ones-le}
+use lib.Count.{ones, ones_step}
+use Rattle.a32_instr.specs.State.{low32}
+use Rattle.a32_instr.specs.Block.{is_listed, registers_of, count_of, loaded}
+
+-- the registers of a list among the k highest
+unfoldable pub highest : ℕ → ℕ → List ℕ
+highest list zero = []
+highest list (suc k) = if is_listed list (15 - k) then (15 - k) ∷ highest list k else highest list k
+
+-- all of them
+pub from_lowest : (list : ℕ) → highest list 16 ≡ registers_of list
+unfolding highest registers_of
+from_lowest list = refl
+
+-- none is left after the highest
+pub at_end : (list r : ℕ) → 16 ≤ r → highest list (16 - r) ≡ []
+unfolding highest
+at_end list r past = let none : 16 - r ≡ 0 = omega (arith, past) in ap (highest list) none
+
+step : (list r : ℕ) → r < 16 → highest list (16 - r) ≡ (if is_listed list r then r ∷ highest list (16 - (r + 1)) else highest list (16 - (r + 1)))
+unfolding highest
+step list r low =
+    let more : 16 - r ≡ suc (16 - (r + 1)) = omega (arith, low) in
+    let back : 15 - (16 - (r + 1)) ≡ r = omega (arith, low) in
+    ap (highest list) more ∙ ap (λ (q : ℕ). if is_listed list q then q ∷ highest list (16 - (r + 1)) else highest list (16 - (r + 1))) back
+
+if_listed : (b : Bool) (r : ℕ) (rs : List ℕ) → b ≡ true → (if b then r ∷ rs else rs) ≡ r ∷ rs
+if_listed true r rs e = refl
+if_listed false r rs e = cc
+
+if_unlisted : (b : Bool) (r : ℕ) (rs : List ℕ) → b ≡ false → (if b then r ∷ rs else rs) ≡ rs
+if_unlisted true r rs e = cc
+if_unlisted false r rs e = refl
+
+-- a register that is listed, and one that isn't
+pub at_listed : (list r : ℕ) → r < 16 → is_listed list r ≡ true → highest list (16 - r) ≡ r ∷ highest list (16 - (r + 1))
+at_listed list r low e = step list r low ∙ if_listed (is_listed list r) r (highest list (16 - (r + 1))) e
+
+pub at_unlisted : (list r : ℕ) → r < 16 → is_listed list r ≡ false → highest list (16 - r) ≡ highest list (16 - (r + 1))
+at_unlisted list r low e = step list r low ∙ if_unlisted (is_listed list r) r (highest list (16 - (r + 1))) e
+
+-- Their number.
+
+bit_counts : (x r : ℕ) (rs : List ℕ) → x < 2 → length (if x == 1 then r ∷ rs else rs) ≡ x + length rs
+bit_counts zero r rs small = omega arith
+bit_counts (suc zero) r rs small = omega arith
+bit_counts (suc (suc x)) r rs small = absurd (omega (arith, small))
+
+highest_count : (list k : ℕ) → list < 2 ^ 16 → k ≤ 16 → length (highest list k) ≡ ones (list / 2 ^ (16 - k))
+unfolding highest
+highest_count list zero small few =
+    let none : list / 2 ^ 16 ≡ 0 = omega (arith, small) in
+    let zeros : ones 0 ≤ 0 = ones-le 0 0 (omega arith) in
+    let sum : 0 ≡ ones 0 = omega (arith, zeros) in
+    sum ∙ ap ones (sym none)
+highest_count list (suc k) small few =
+    let shift : 15 - k + 1 ≡ 16 - k = omega (arith, few) in
+    let here : 15 - k ≡ 16 - suc k = omega (arith, few) in
+    let half : list / 2 ^ (15 - k) / 2 ^ 1 ≡ list / 2 ^ (16 - k) = shr-shr list (15 - k) 1 ∙ ap (λ (n : ℕ). list / 2 ^ n) shift in
+    bit_counts (list / 2 ^ (15 - k) % 2) (15 - k) (highest list k) (omega arith)
+    ∙ ap (λ (n : ℕ). list / 2 ^ (15 - k) % 2 + n) (highest_count list k small (omega (arith, few)) ∙ ap ones (sym half))
+    ∙ sym (ones_step (list / 2 ^ (15 - k)))
+    ∙ ap (λ (n : ℕ). ones (list / 2 ^ n)) here
+
+pub count_is : (list : ℕ) → list < 2 ^ 16 → ones list ≡ count_of list
+count_is list small =
+    let whole : list / 1 ≡ list = omega arith in
+    sym (ap (λ (rs : List ℕ). length rs) (sym (from_lowest list)) ∙ highest_count list 16 small (omega arith) ∙ ap ones whole)
+
+few_of : (b : Bool) (r k : ℕ) (rs : List ℕ) → length rs ≤ k → length (if b then r ∷ rs else rs) ≤ suc k
+few_of true r k rs few = omega (arith, few)
+few_of false r k rs few = omega (arith, few)
+
+highest_most : (list k : ℕ) → length (highest list k) ≤ k
+unfolding highest
+highest_most list zero = omega arith
+highest_most list (suc k) = few_of (is_listed list (15 - k)) (15 - k) k (highest list k) (highest_most list k)
+
+-- a list has 16 registers at most
+pub registers_most : (list : ℕ) → count_of list ≤ 16
+registers_most list = subst (λ (rs : List ℕ). length rs ≤ 16) (from_lowest list) (highest_most list 16)
+
+pub ones_most : (list : ℕ) → list < 2 ^ 16 → ones list ≤ 16
+ones_most list small = ones-le 16 list small
+
+-- The register of a number.
+
+pub first_is : (list r number passed x : ℕ) → r < 16 → is_listed list r ≡ true → number ≡ passed → slice_index (highest list (16 - r)) (number - passed) ≡ x → r ≡ x
+first_is list r number passed x low e same known =
+    let none : number - passed ≡ 0 = omega (arith, same) in
+    sym (ap (λ (n : ℕ). slice_index (highest list (16 - r)) n) none ∙ ap (λ (rs : List ℕ). slice_index rs 0) (at_listed list r low e)) ∙ known
+
+pub later_is : (list r number passed x : ℕ) → r < 16 → is_listed list r ≡ true → passed < number → slice_index (highest list (16 - r)) (number - passed) ≡ x
+    → slice_index (highest list (16 - (r + 1))) (number - (passed + 1)) ≡ x
+later_is list r number passed x low e less known =
+    let more : number - passed ≡ suc (number - (passed + 1)) = omega (arith, less) in
+    sym (ap (λ (n : ℕ). slice_index (highest list (16 - r)) n) more ∙ ap (λ (rs : List ℕ). slice_index rs (suc (number - (passed + 1)))) (at_listed list r low e)) ∙ known
+
+-- a list with the PC isn't empty
+highest_filled : (list k : ℕ) → is_listed list 15 ≡ true → 1 ≤ length (highest list (suc k))
+unfolding highest
+highest_filled list zero e = subst (λ (rs : List ℕ). 1 ≤ length rs) (sym (if_listed (is_listed list 15) 15 [] e)) (omega arith)
+highest_filled list (suc k) e = grown (is_listed list (15 - suc k)) (15 - suc k) (highest list (suc k)) (highest_filled list k e)
+  where
+    grown : (b : Bool) (r : ℕ) (rs : List ℕ) → 1 ≤ length rs → 1 ≤ length (if b then r ∷ rs else rs)
+    grown true r rs some = omega (arith, some)
+    grown false r rs some = some
+
+pub pc_counts : (list : ℕ) → is_listed list 15 ≡ true → 1 ≤ count_of list
+pc_counts list e = subst (λ (rs : List ℕ). 1 ≤ length rs) (from_lowest list) (highest_filled list 15 e)
+
+-- The loaded registers.
+
+pub loaded_all : (list r : ℕ) (values regs : List ℕ) → 16 ≤ r → loaded (highest list (16 - r)) values regs ≡ regs
+unfolding loaded
+loaded_all list r values regs past = ap (λ (rs : List ℕ). loaded rs values regs) (at_end list r past)
+
+pub loaded_next : (list r number : ℕ) (values regs : List ℕ) → r < 16 → is_listed list r ≡ true → number < length values
+    → loaded (highest list (16 - r)) (drop number values) regs ≡ loaded (highest list (16 - (r + 1))) (drop (number + 1) values) (slice_set regs r (low32 (slice_index values number)))
+unfolding loaded
+loaded_next list r number values regs low e less =
+    ap (λ (rs : List ℕ). loaded rs (drop number values) regs) (at_listed list r low e)
+    ∙ ap (λ (vs : List ℕ). loaded (r ∷ highest list (16 - (r + 1))) vs regs) (drop_more values number 0 less)

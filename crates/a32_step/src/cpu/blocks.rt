@@ -1,0 +1,142 @@
+//! Loads and stores of a block of registers (DDI 0406C A5.5).
+ghost use Rattle.std.specs.Prelude.{◌≡◌, ◌<◌, ◌≤◌, ◌-◌, ◌*◌, ◌%◌, ◌^◌, length, true, false};
+ghost use Rattle.a32_instr.specs.State.{jumps};
+ghost use Rattle.a32_instr.specs.Block.{registers_of, count_of, bytes_of, block, block_ask, block_back, block_loaded, with_block};
+ghost use Rattle.a32_step.specs.Machine.{wanted_of, moved_on};
+
+use super::Cpu;
+use super::load_store::barred;
+use crate::operands::moved;
+use crate::parts::low_word;
+use crate::phases::{Phase, Wanted};
+use crate::registers::{count_of, is_listed, listed, lowest_address};
+use a32_instr::{Ask, Instr, Reg, Stop};
+use llsc_base::{Image, Place, Size};
+
+/// The fields of a block's load or store.
+#[derive(Clone, Copy)]
+pub(super) struct Transfer {
+    pub load: bool,
+    pub before: bool,
+    pub up: bool,
+    pub wback: bool,
+    pub rn: Reg,
+    pub list: u16,
+}
+
+impl Cpu {
+    /// The base register moves past the block, where it is written back.
+    fn move_base(&mut self, transfer: Transfer, bytes: u32)
+        ensures { self.new ≡ record self.old { state = block_back transfer.wback transfer.up transfer.rn bytes self.old.state } }
+    {
+        if transfer.wback {
+            let base = moved(self.operand(transfer.rn), transfer.up, bytes);
+            self.set(transfer.rn, base);
+        }
+    }
+
+    /// The access of the register of this number in the list, whose block begins at this address.
+    fn block_ask(&self, transfer: Transfer, lowest: u32, number: usize) -> Ask
+        requires listed { number < count_of transfer.list }
+        requires few { number < 16 }
+        ensures { result ≡ block_ask transfer.load lowest (registers_of transfer.list) self.now.state number }
+    {
+        let place = Place {
+            addr: lowest.wrapping_add(4 * number as u32),
+            size: Size::B4,
+        };
+        if transfer.load {
+            return Ask::Load(place);
+        }
+        Ask::Store(
+            place,
+            u64::from(self.operand(listed(transfer.list, number))),
+        )
+    }
+
+    /// Each listed register gets its reply.
+    #[tactic(auto, using(crate::proofs::Lists::from_lowest, crate::proofs::Lists::at_unlisted, crate::proofs::Lists::loaded_all, crate::proofs::Lists::loaded_next, crate::proofs::Lists::at_listed))]
+    fn set_listed(&mut self, list: u16)
+        requires { count_of list ≤ length self.old.replies }
+        ensures { self.new ≡ record self.old { state = with_block list self.old.replies self.old.state } }
+    {
+        let mut number = 0usize;
+        for r in 0..16u8 {
+            if !is_listed(list, r) {
+                continue;
+            }
+            let value = low_word(self.replies.at(number));
+            self.set(Reg::new(r), value);
+            number += 1;
+        }
+    }
+
+    /// A block is loaded: the base moves, and then the registers get their words.
+    #[tactic(auto, using(crate::proofs::Lists::pc_counts))]
+    fn finish_block(&mut self, transfer: Transfer, count: u32) -> Wanted
+        requires count { count ≡ count_of transfer.list }
+        requires most { count ≤ 16 }
+        requires all { count_of transfer.list ≤ length self.old.replies }
+        ensures wanted { result ≡ wanted_of (block_loaded transfer.list self.old.replies (block_back transfer.wback transfer.up transfer.rn (bytes_of transfer.list) self.old.state)) }
+        ensures state { (instr : Instr) → self.new ≡ moved_on instr self.old (block_loaded transfer.list self.old.replies (block_back transfer.wback transfer.up transfer.rn (bytes_of transfer.list) self.old.state)) }
+    {
+        let list = transfer.list;
+        if is_listed(list, 15) {
+            let value = low_word(self.replies.at(count as usize - 1));
+            return self.finish_at(transfer, count, value);
+        }
+        self.move_base(transfer, 4 * count);
+        self.set_listed(list);
+        self.advance()
+    }
+
+    /// A block is loaded with the PC, if its word is one that the PC may have.
+    fn finish_at(&mut self, transfer: Transfer, count: u32, value: u32) -> Wanted
+        requires count { count ≡ count_of transfer.list }
+        requires most { count ≤ 16 }
+        requires all { count_of transfer.list ≤ length self.old.replies }
+        ensures wanted { result ≡ wanted_of (jumps (with_block transfer.list self.old.replies (block_back transfer.wback transfer.up transfer.rn (bytes_of transfer.list) self.old.state)) value) }
+        ensures state { (instr : Instr) → self.new ≡ moved_on instr self.old (jumps (with_block transfer.list self.old.replies (block_back transfer.wback transfer.up transfer.rn (bytes_of transfer.list) self.old.state)) value) }
+    {
+        if value % 2 == 1 {
+            return self.stop(Stop::Thumb(self.pc));
+        }
+        if value % 4 == 2 {
+            return self.stop(Stop::Unpredictable(self.pc));
+        }
+        let list = transfer.list;
+        self.move_base(transfer, 4 * count);
+        self.set_listed(list);
+        self.pc = value;
+        self.finish();
+        Wanted::Done
+    }
+
+    /// LDM and STM (DDI 0406C A8.8.58 to A8.8.61, A8.8.199 to A8.8.202).
+    pub(super) fn block(&mut self, instr: Instr, image: &Image, transfer: Transfer) -> Wanted
+        ensures wanted { result ≡ wanted_of (block image.now transfer.load transfer.before transfer.up transfer.wback transfer.rn transfer.list self.old.replies self.old.state) }
+        ensures state { self.new ≡ moved_on instr self.old (block image.now transfer.load transfer.before transfer.up transfer.wback transfer.rn transfer.list self.old.replies self.old.state) }
+    {
+        let count = count_of(transfer.list);
+        let lowest = lowest_address(
+            transfer.up,
+            transfer.before,
+            self.operand(transfer.rn),
+            4 * count,
+        );
+        if let Some(word) = image.test_words(lowest, count, !transfer.load) {
+            return self.stop(barred(word.bar, word.addr));
+        }
+        let replies = self.replies.count();
+        if replies < count as usize {
+            let ask = self.block_ask(transfer, lowest, replies);
+            self.phase = Phase::Awaiting(instr, ask);
+            return Wanted::Access(ask);
+        }
+        if transfer.load {
+            return self.finish_block(transfer, count);
+        }
+        self.move_base(transfer, 4 * count);
+        self.advance()
+    }
+}
