@@ -80,6 +80,10 @@ fn by_register_or_media(word: u32) -> Result<Instr, DecodeFault>
 }
 
 #[cfg(test)]
+mod half_and_block_tests;
+#[cfg(test)]
 mod operation_tests;
 #[cfg(test)]
 mod tests;
+#[cfg(test)]
+mod vector_tests;
