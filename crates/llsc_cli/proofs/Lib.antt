@@ -9,3 +9,6 @@ pub mod Served
 pub mod SoloEnds
 pub mod Streams
 pub mod Turns
+pub mod Numbers
+pub mod OptionWords
+pub mod Requests

@@ -1,7 +1,8 @@
 -- What a call of the program answers: a status and a text.
 use Rattle.std.specs.Prelude.{◌≡◌, ℕ, ◌^◌, ◌==◌, ◌⊎◌, nat_lt, if◌then◌else◌, List, ◌++◌, length, Option, Some, None, codes}
 use Rattle.std.specs.Option.{option_map}
-use Rattle.llsc_base.specs.Sizes.{Numbers}
+use Rattle.llsc_base.specs.Sizes.{Numbers, numbers, size_fault, size_fault_name}
+use Rattle.llsc_base.specs.declared.sizes.SizeFault.{SizeFault}
 use Rattle.llsc_base.specs.Flat.{flat_fault, flat_fault_name, flat_image}
 use Rattle.a32_instr.specs.declared.outside.Stop.{Stop}
 use Rattle.a32_instr.specs.declared.outside.Stop.TheVariants as stop
@@ -11,14 +12,9 @@ use Rattle.llsc_cli.specs.Report.{report_of}
 use Rattle.llsc_cli.specs.Host.{Rose, AreBytes, AddsFront}
 use Rattle.llsc_cli.specs.Request.{Request, Solo}
 
--- the machine that runs where no size is given: 1,048,576 bytes, one thread, 4096 classes, writes without a bound
--- that a run could reach
-abbrev pub solo_size : Numbers
-solo_size = record { mem = 1048576; threads = 1; classes = 4096; limit = 2 ^ 62 }
-
--- the steps that a thread has where no budget is given
-abbrev pub solo_budget : ℕ
-solo_budget = 100000000
+-- the machine of one thread with so much memory: 4096 classes, and writes without a bound that a run could reach
+abbrev pub solo_size : ℕ → Numbers
+solo_size mem = numbers mem 1 4096 (2 ^ 62)
 
 -- the most bytes of a program file
 abbrev pub most_bytes : ℕ
@@ -37,9 +33,9 @@ abbrev pub read_text : List ℕ
 read_text = codes "llsc: read failed\n"
 
 -- the name of what is wrong with a file, if anything is: its length, or the first fault of a flat file
-abbrev pub refusal_of : List ℕ → Option (List ℕ)
-refusal_of file =
-    if nat_lt most_bytes (length file) then Some (codes "FileTooLong") else option_map flat_fault_name (flat_fault file solo_size)
+abbrev pub refusal_of : Numbers → List ℕ → Option (List ℕ)
+refusal_of size file =
+    if nat_lt most_bytes (length file) then Some (codes "FileTooLong") else option_map flat_fault_name (flat_fault file size)
 
 -- 0 where the thread left by an exit call with code 0, else 1
 abbrev pub status_of : Stop → ℕ
@@ -47,14 +43,23 @@ status_of (stop.Exit code) = if code == 0 then 0 else 1
 status_of _ = 1
 
 -- a file that is refused is answered with status 4 and the refusal; any other is run, and answered with the report
-abbrev pub AnswersBy : List ℕ → Option (List ℕ) → ℕ → List ℕ → Type 0
-AnswersBy file (Some name) status text = (status ≡ 4) × (text ≡ refusal_text name)
-AnswersBy file None status text =
-    (end : ThreadEnd) × IsSoloEnd (flat_image file solo_size) solo_size solo_budget end × (status ≡ status_of end.stop) × (text ≡ report_of solo_budget end)
+abbrev pub AnswersBy : Numbers → ℕ → List ℕ → Option (List ℕ) → ℕ → List ℕ → Type 0
+AnswersBy size budget file (Some name) status text = (status ≡ 4) × (text ≡ refusal_text name)
+AnswersBy size budget file None status text =
+    (end : ThreadEnd) × IsSoloEnd (flat_image file size) size budget end × (status ≡ status_of end.stop) × (text ≡ report_of budget end)
 
 -- the status and the text for the bytes of the file
-abbrev pub Answers : List ℕ → ℕ → List ℕ → Type 0
-Answers file status text = AnswersBy file (refusal_of file) status text
+abbrev pub Answers : Numbers → ℕ → List ℕ → ℕ → List ℕ → Type 0
+Answers size budget file status text = AnswersBy size budget file (refusal_of size file) status text
+
+-- a machine that can't be is refused before the file is read
+abbrev pub AnswersSized : Option SizeFault → Numbers → ℕ → List ℕ → ℕ → List ℕ → Type 0
+AnswersSized (Some fault) size budget file status text = (status ≡ 4) × (text ≡ refusal_text (size_fault_name fault))
+AnswersSized None size budget file status text = Answers size budget file status text
+
+-- the status and the text for so much memory, a budget and the bytes of the file
+abbrev pub AnswersSolo : ℕ → ℕ → List ℕ → ℕ → List ℕ → Type 0
+AnswersSolo mem budget file status text = AnswersSized (size_fault (solo_size mem)) (solo_size mem) budget file status text
 
 -- the statuses of an answer that was given whole
 abbrev pub IsDone : ℕ → Type 0
@@ -63,11 +68,15 @@ IsDone status = (status ≡ 0) ⊎ ((status ≡ 1) ⊎ (status ≡ 4))
 -- a request for a run is answered so, by bytes that its file may hold
 abbrev pub IsAnswer : (List ℕ → Option (List ℕ)) → Option Request → ℕ → List ℕ → Type 0
 IsAnswer held request status text =
-    (name : List ℕ) × (file : List ℕ) × ((request ≡ Some (Solo name)) × (AreBytes (held name) file × Answers file status text))
+    (name : List ℕ) × (mem : ℕ) × (budget : ℕ) × (file : List ℕ)
+    × ((request ≡ Some (Solo name mem budget)) × (AreBytes (held name) file × AnswersSolo mem budget file status text))
 
--- the read of the request's file failed: the count rose, and the name of the last failed read is the request's
+-- the read of the request's file failed: the count rose, the name of the last failed read is the request's, and there is
+-- a machine for it
 abbrev pub ReadFailed : Option Request → ℕ → ℕ → List ℕ → Type 0
-ReadFailed request faults_before faults_after lost = Rose faults_before faults_after × (request ≡ Some (Solo lost))
+ReadFailed request faults_before faults_after lost =
+    Rose faults_before faults_after
+    × ((mem : ℕ) × (budget : ℕ) × ((request ≡ Some (Solo lost mem budget)) × (size_fault (solo_size mem) ≡ None)))
 
 -- a front was written of the text that answers the words, of one that answers the request, or after a failed read of
 -- the text that says so

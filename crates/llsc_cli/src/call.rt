@@ -1,17 +1,18 @@
 //! The top call: words and files in, a status and a text out.
 ghost use Rattle.std.specs.Prelude.{◌≡◌, ◌≢◌, codes, ◌<◌, ◌≤◌, ◌⊎◌, ℕ, List, length, map, string_bytes, None, Some};
+ghost use Rattle.llsc_base.specs.Sizes.{size_fault};
 ghost use Rattle.llsc_base.specs.Flat.{flat_fault, flat_image, flat_fault_name};
 ghost use Rattle.llsc_cli.specs.Host.{Adds, AddsFront, AreBytes, Rose};
-ghost use Rattle.llsc_cli.specs.Request.{request_of, Solo};
+ghost use Rattle.llsc_cli.specs.Request.{request_of, HasBudget, Solo};
 ghost use Rattle.llsc_cli.specs.Report.{report_of};
 ghost use Rattle.llsc_cli.specs.Solo.{IsSoloEnd};
-ghost use Rattle.llsc_cli.specs.Answer.{solo_size, solo_budget, most_bytes, refusal_text, words_text, read_text, status_of, Answers, IsDone, IsAnswer, ReadFailed, IsCut};
-ghost use Rattle.llsc_cli.specs.Reads.{CutAfter, IsAnswered, IsCutFile};
+ghost use Rattle.llsc_cli.specs.Answer.{solo_size, most_bytes, refusal_text, words_text, read_text, status_of, Answers, AnswersSolo, IsDone, IsAnswer, ReadFailed, IsCut};
+ghost use Rattle.llsc_cli.specs.Reads.{CutAfter, IsAnswered, IsCutFile, IsAnsweredSolo, IsCutSolo};
 
 use crate::host::{Host, ReadFault};
 use crate::report::Report;
 use crate::threads::{ThreadEnd, solo};
-use crate::words::parse;
+use crate::words::{SoloRequest, parse};
 use a32_step::Stop;
 use llsc_base::{FlatFault, Image, MachineSize};
 use std::alloc::Global;
@@ -19,8 +20,10 @@ use std::alloc::Global;
 /// The most bytes of a program file.
 const MOST_BYTES: usize = 33_554_432;
 
-/// The steps of a thread where no budget is given.
-const BUDGET: u64 = 100_000_000;
+/// The classes of rows of a machine of one thread, and the most writes of one.
+const CLASSES: u64 = 4096;
+
+const MOST_WRITES: u64 = 1 << 62;
 
 /// How a call ended.
 #[derive(Clone, Copy, Debug, PartialEq, Eq)]
@@ -54,16 +57,6 @@ fn say<H: Host>(host: &mut H, text: &[u8], status: u8) -> Ended
     }
 }
 
-/// The machine that runs where no size is given.
-fn machine_size() -> MachineSize
-    ensures { result ≡ solo_size }
-{
-    match MachineSize::new(1_048_576, 1, 4096, 1 << 62) {
-        Ok(size) => size,
-        Err(_) => unreachable!(),
-    }
-}
-
 /// 0 where the thread left by an exit call with code 0, else 1.
 fn status(stop: Stop) -> u8
     ensures value { result ≡ status_of stop }
@@ -93,23 +86,31 @@ fn refuse<H: Host>(alloc: Global, host: &mut H, name: &str) -> Ended
 }
 
 /// Runs an image and writes the report.
-fn run<H: Host>(alloc: Global, host: &mut H, image: &Image) -> Ended
-    requires { length image.now.bytes ≡ 1048576 }
+fn run<H: Host>(
+    alloc: Global,
+    host: &mut H,
+    size: &MachineSize,
+    budget: u64,
+    image: &Image,
+) -> Ended
+    requires one_thread { size.now.threads ≡ 1 }
+    requires budget { budget ≤ 1000000000000 }
+    requires whole { length image.now.bytes ≡ size.now.mem }
     ensures ended { (result.status ≡ 0) ⊎ ((result.status ≡ 1) ⊎ ((result.status ≡ 5) ⊎ (result.status ≡ 6))) }
-    ensures done { (result.status ≡ 0) ⊎ (result.status ≡ 1) → (end : ThreadEnd) × (IsSoloEnd image.now solo_size solo_budget end
-        × ((result.status ≡ status_of end.stop) × Adds (H.written host.old) (H.written host.new) (report_of solo_budget end))) }
-    ensures cut { result.status ≡ 5 → Rose (H.write_faults host.old) (H.write_faults host.new) × (end : ThreadEnd) × (IsSoloEnd image.now solo_size solo_budget end
-        × AddsFront (H.written host.old) (H.written host.new) (report_of solo_budget end)) }
+    ensures done { (result.status ≡ 0) ⊎ (result.status ≡ 1) → (end : ThreadEnd) × (IsSoloEnd image.now size.now budget end
+        × ((result.status ≡ status_of end.stop) × Adds (H.written host.old) (H.written host.new) (report_of budget end))) }
+    ensures cut { result.status ≡ 5 → Rose (H.write_faults host.old) (H.write_faults host.new) × (end : ThreadEnd) × (IsSoloEnd image.now size.now budget end
+        × AddsFront (H.written host.old) (H.written host.new) (report_of budget end)) }
     ensures memory { result.status ≡ 6 → H.written host.new ≡ H.written host.old }
     ensures write_answered { result.status ≢ 5 → H.write_faults host.new ≡ H.write_faults host.old }
     ensures files { H.file host.new ≡ H.file host.old }
     ensures read_faults { H.read_faults host.new ≡ H.read_faults host.old }
     ensures lost { H.lost host.new ≡ H.lost host.old }
 {
-    let Ok(end) = solo(alloc, image, &machine_size(), BUDGET) else {
+    let Ok(end) = solo(alloc, image, size, budget) else {
         return out_of_memory();
     };
-    let Ok(report) = Report::new(alloc, BUDGET, &end) else {
+    let Ok(report) = Report::new(alloc, budget, &end) else {
         return out_of_memory();
     };
     match report.write(host) {
@@ -139,19 +140,27 @@ fn refuse_flat<H: Host>(alloc: Global, host: &mut H, fault: FlatFault) -> Ended
 }
 
 /// Answers for the bytes of a program file.
-fn respond<H: Host>(alloc: Global, host: &mut H, file: &[u8]) -> Ended
-    requires { length file.now ≤ most_bytes }
+fn respond<H: Host>(
+    alloc: Global,
+    host: &mut H,
+    size: &MachineSize,
+    budget: u64,
+    file: &[u8],
+) -> Ended
+    requires one_thread { size.now.threads ≡ 1 }
+    requires budget { budget ≤ 1000000000000 }
+    requires most { length file.now ≤ most_bytes }
     ensures ended { IsDone result.status ⊎ ((result.status ≡ 5) ⊎ (result.status ≡ 6)) }
-    ensures done { IsDone result.status → (text : List ℕ) × (Answers file.now result.status text × Adds (H.written host.old) (H.written host.new) text) }
-    ensures cut { result.status ≡ 5 → Rose (H.write_faults host.old) (H.write_faults host.new) × (status : ℕ) × (text : List ℕ) × (Answers file.now status text × AddsFront (H.written host.old) (H.written host.new) text) }
+    ensures done { IsDone result.status → (text : List ℕ) × (Answers size.now budget file.now result.status text × Adds (H.written host.old) (H.written host.new) text) }
+    ensures cut { result.status ≡ 5 → Rose (H.write_faults host.old) (H.write_faults host.new) × (status : ℕ) × (text : List ℕ) × (Answers size.now budget file.now status text × AddsFront (H.written host.old) (H.written host.new) text) }
     ensures memory { result.status ≡ 6 → H.written host.new ≡ H.written host.old }
     ensures write_answered { result.status ≢ 5 → H.write_faults host.new ≡ H.write_faults host.old }
     ensures files { H.file host.new ≡ H.file host.old }
     ensures read_faults { H.read_faults host.new ≡ H.read_faults host.old }
     ensures lost { H.lost host.new ≡ H.lost host.old }
 {
-    match Image::flat(alloc, file, &machine_size()) {
-        Ok(image) => run(alloc, host, &image),
+    match Image::flat(alloc, file, size) {
+        Ok(image) => run(alloc, host, size, budget, &image),
         Err(fault) => refuse_flat(alloc, host, fault),
     }
 }
@@ -179,12 +188,20 @@ fn refuse_read<H: Host>(host: &mut H, fault: ReadFault) -> Ended
 }
 
 /// Runs the flat file of a name.
-fn run_file<H: Host>(alloc: Global, host: &mut H, name: &str) -> Ended
+fn run_file<H: Host>(
+    alloc: Global,
+    host: &mut H,
+    size: &MachineSize,
+    budget: u64,
+    name: &str,
+) -> Ended
+    requires one_thread { size.now.threads ≡ 1 }
+    requires budget { budget ≤ 1000000000000 }
     ensures ended { IsDone result.status ⊎ ((result.status ≡ 3) ⊎ ((result.status ≡ 5) ⊎ (result.status ≡ 6))) }
-    ensures done { IsDone result.status → IsAnswered (H.file host.old name.now) result.status (H.written host.old) (H.written host.new) }
+    ensures done { IsDone result.status → IsAnswered size.now budget (H.file host.old name.now) result.status (H.written host.old) (H.written host.new) }
     ensures read { result.status ≡ 3 → Rose (H.read_faults host.old) (H.read_faults host.new) × (H.lost host.new ≡ name.now) × Adds (H.written host.old) (H.written host.new) read_text }
     ensures write { result.status ≡ 5 → Rose (H.write_faults host.old) (H.write_faults host.new) }
-    ensures cut { result.status ≡ 5 → IsCutFile (H.file host.old name.now) (Rose (H.read_faults host.old) (H.read_faults host.new) × (H.lost host.new ≡ name.now)) (H.written host.old) (H.written host.new) }
+    ensures cut { result.status ≡ 5 → IsCutFile size.now budget (H.file host.old name.now) (Rose (H.read_faults host.old) (H.read_faults host.new) × (H.lost host.new ≡ name.now)) (H.written host.old) (H.written host.new) }
     ensures memory { result.status ≡ 6 → H.written host.new ≡ H.written host.old }
     ensures write_answered { result.status ≢ 5 → H.write_faults host.new ≡ H.write_faults host.old }
     ensures read_answered { result.status ≢ 3 → result.status ≢ 5 → H.read_faults host.new ≡ H.read_faults host.old }
@@ -193,8 +210,26 @@ fn run_file<H: Host>(alloc: Global, host: &mut H, name: &str) -> Ended
         return out_of_memory();
     };
     match host.read_file(alloc, owned, MOST_BYTES) {
-        Ok(file) => respond(alloc, host, file.as_slice()),
+        Ok(file) => respond(alloc, host, size, budget, file.as_slice()),
         Err(fault) => refuse_read(host, fault),
+    }
+}
+
+/// Runs the file of a request on a machine of one thread with so much memory, if there is one.
+fn run_sized<H: Host>(alloc: Global, host: &mut H, request: SoloRequest<'_>) -> Ended
+    requires { HasBudget request }
+    ensures ended { IsDone result.status ⊎ ((result.status ≡ 3) ⊎ ((result.status ≡ 5) ⊎ (result.status ≡ 6))) }
+    ensures done { IsDone result.status → IsAnsweredSolo request.entry.mem request.entry.budget (H.file host.old request.entry.file.now) result.status (H.written host.old) (H.written host.new) }
+    ensures read { result.status ≡ 3 → Rose (H.read_faults host.old) (H.read_faults host.new) × (H.lost host.new ≡ request.entry.file.now) × (size_fault (solo_size request.entry.mem) ≡ None) × Adds (H.written host.old) (H.written host.new) read_text }
+    ensures write { result.status ≡ 5 → Rose (H.write_faults host.old) (H.write_faults host.new) }
+    ensures cut { result.status ≡ 5 → IsCutSolo request.entry.mem request.entry.budget (H.file host.old request.entry.file.now) (Rose (H.read_faults host.old) (H.read_faults host.new) × (H.lost host.new ≡ request.entry.file.now) × (size_fault (solo_size request.entry.mem) ≡ None)) (H.written host.old) (H.written host.new) }
+    ensures memory { result.status ≡ 6 → H.written host.new ≡ H.written host.old }
+    ensures write_answered { result.status ≢ 5 → H.write_faults host.new ≡ H.write_faults host.old }
+    ensures read_answered { result.status ≢ 3 → result.status ≢ 5 → H.read_faults host.new ≡ H.read_faults host.old }
+{
+    match MachineSize::new(request.mem, 1, CLASSES, MOST_WRITES) {
+        Ok(size) => run_file(alloc, host, &size, request.budget, request.file),
+        Err(fault) => refuse(alloc, host, fault.name()),
     }
 }
 
@@ -214,10 +249,10 @@ pub fn llsc<H: Host>(alloc: Global, words: &[String], host: &mut H) -> Ended
     // A request is answered by what its file holds.
     ensures done { IsDone result.status → (text : List ℕ) ×
         (IsAnswer (H.file host.old) (request_of (map string_bytes words.now)) result.status text × Adds (H.written host.old) (H.written host.new) text) }
-    ensures complete { (name file : List ℕ) → request_of (map string_bytes words.now) ≡ Some (Solo name) → H.file host.old name ≡ Some file
+    ensures complete { (name file : List ℕ) (mem budget : ℕ) → request_of (map string_bytes words.now) ≡ Some (Solo name mem budget) → H.file host.old name ≡ Some file
         → (Rose (H.write_faults host.old) (H.write_faults host.new) → ⊥)
         → (Rose (H.read_faults host.old) (H.read_faults host.new) → ⊥) ⊎ (H.lost host.new ≢ name)
-        → (result.status ≡ 6) ⊎ ((text : List ℕ) × (Answers file result.status text × Adds (H.written host.old) (H.written host.new) text)) }
+        → (result.status ≡ 6) ⊎ ((text : List ℕ) × (AnswersSolo mem budget file result.status text × Adds (H.written host.old) (H.written host.new) text)) }
 
     // A failure of the host is answered as one only where the host had it in this call.
     ensures read { result.status ≡ 3 →
@@ -237,7 +272,7 @@ pub fn llsc<H: Host>(alloc: Global, words: &[String], host: &mut H) -> Ended
 {
     match parse(words) {
         None => say(host, b"llsc: words\n", 2),
-        Some(request) => run_file(alloc, host, request.file()),
+        Some(request) => run_sized(alloc, host, request),
     }
 }
 

@@ -309,3 +309,106 @@ fn answers_failures(rt: HostRuntime) -> Result<(), Fail> {
     }
     Ok(())
 }
+
+#[test]
+fn reads_options(rt: HostRuntime) -> Result<(), Fail> {
+    let left = "thread 0 stop exit 0 steps 3 out 0\n\nreads 0 writes 0 fails 0\n";
+    let cases: [(&[&str], u8, &str); 26] = [
+        (
+            &["solo", "--flat", "--budget", "2", "p"],
+            1,
+            "thread 0 stop budget 2 steps 2 out 0\n\nreads 0 writes 0 fails 0\n",
+        ),
+        (&["solo", "--flat", "--budget", "3", "p"], 0, left),
+        (
+            &["solo", "--budget", "1000000000000", "--flat", "p"],
+            0,
+            left,
+        ),
+        (
+            &["solo", "--mem", "65536", "--budget", "9", "--flat", "p"],
+            0,
+            left,
+        ),
+        (&["solo", "--flat", "--mem", "16777216", "p"], 0, left),
+        (&["solo", "--flat", "--mem", "65537", "p"], 4, "llsc: Mem\n"),
+        (&["solo", "--flat", "--mem", "65535", "p"], 4, "llsc: Mem\n"),
+        (&["solo", "--flat", "--mem", "0", "p"], 4, "llsc: Mem\n"),
+        (
+            &["solo", "--flat", "--mem", "16781312", "p"],
+            4,
+            "llsc: Mem\n",
+        ),
+        (
+            &["solo", "--flat", "--mem", "18446744073709551615", "p"],
+            4,
+            "llsc: Mem\n",
+        ),
+        // the size is refused before the file is read
+        (&["solo", "--flat", "--mem", "1", "q"], 4, "llsc: Mem\n"),
+        (
+            &["solo", "--flat", "--mem", "65536", "q"],
+            3,
+            "llsc: read failed\n",
+        ),
+        // budgets and numbers out of form
+        (
+            &["solo", "--flat", "--budget", "0", "p"],
+            2,
+            "llsc: words\n",
+        ),
+        (
+            &["solo", "--flat", "--budget", "1000000000001", "p"],
+            2,
+            "llsc: words\n",
+        ),
+        (
+            &["solo", "--flat", "--mem", "18446744073709551616", "p"],
+            2,
+            "llsc: words\n",
+        ),
+        (
+            &["solo", "--flat", "--budget", "03", "p"],
+            2,
+            "llsc: words\n",
+        ),
+        (
+            &["solo", "--flat", "--budget", "+3", "p"],
+            2,
+            "llsc: words\n",
+        ),
+        (
+            &["solo", "--flat", "--budget", "-3", "p"],
+            2,
+            "llsc: words\n",
+        ),
+        (
+            &["solo", "--flat", "--budget", "3a", "p"],
+            2,
+            "llsc: words\n",
+        ),
+        (&["solo", "--flat", "--budget", "", "p"], 2, "llsc: words\n"),
+        // options that are unknown, given twice, without a value, joined to it, or behind the file
+        (&["solo", "--flat", "--seed", "3", "p"], 2, "llsc: words\n"),
+        (&["solo", "--flat", "--flat", "p"], 2, "llsc: words\n"),
+        (
+            &["solo", "--flat", "--mem", "65536", "--mem", "65536", "p"],
+            2,
+            "llsc: words\n",
+        ),
+        (&["solo", "--flat", "--budget", "p"], 2, "llsc: words\n"),
+        (&["solo", "--flat", "--budget=3", "p"], 2, "llsc: words\n"),
+        (&["solo", "p", "--flat"], 2, "llsc: words\n"),
+    ];
+    for (words, status, text) in cases {
+        let mut host = host_of(rt.alloc(), bytes_of(rt.alloc(), LEAVE)?, &[], 100)?;
+        let words = owned(rt.alloc(), words)?;
+        assert_eq!(rt;
+            llsc(rt.alloc(), words.as_slice(), &mut host).status,
+            status,
+            "for {text}"
+        );
+        assert_eq!(rt; host.written(), text.as_bytes());
+    }
+    Ok(())
+}

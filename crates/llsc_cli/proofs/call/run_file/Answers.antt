@@ -17,7 +17,7 @@ returns-in-Ok-read_file-clause-done g c = λ done.
 
 pub returns-in-Err-clause-cut : goal.returns-in-Err-clause-cut
 returns-in-Err-clause-cut g c = λ five.
-    cut_read c.in-Err.fault (g.H.Host.file c.args.host.now c.args.name.now) (g.H.Host.written c.args.host.now) (g.H.Host.written c.refuse_read.new.host)
+    cut_read c.args.size.now c.args.budget c.in-Err.fault (g.H.Host.file c.args.host.now c.args.name.now) (g.H.Host.written c.args.host.now) (g.H.Host.written c.refuse_read.new.host)
     (λ failed. let cause = c.in-Err.ensures.cause (ap Err failed) in
     (rw c.refuse_read.ensures.read_faults cause.0, c.refuse_read.ensures.lost ∙ cause.1 ∙ c.in-Ok.ensures.ok))
     (λ long. subst (λ (n : List ℕ). (file : List ℕ) × AreBytes (g.H.Host.file c.args.host.now n) file × (most_bytes < length file)) c.in-Ok.ensures.ok
