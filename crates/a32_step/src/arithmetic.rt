@@ -100,3 +100,25 @@ pub fn compute(op: AluOp, x: u32, y: Shifted, flags: Flags) -> Computed
         AluOp::Mvn => of_logic(!y.value, y.carry, flags),
     }
 }
+
+/// The value of a data-processing operation, where its flags aren't asked for.
+#[inline]
+#[tactic(auto, unfolding(a32_instr::specs::Sum::sum_of))]
+pub fn value_of(op: AluOp, x: u32, y: Shifted, flags: Flags) -> u32
+    ensures { result ≡ (computed op x y flags).value }
+{
+    match op {
+        AluOp::And | AluOp::Tst => x & y.value,
+        AluOp::Eor | AluOp::Teq => x ^ y.value,
+        AluOp::Sub | AluOp::Cmp => x.wrapping_sub(y.value),
+        AluOp::Rsb => y.value.wrapping_sub(x),
+        AluOp::Add | AluOp::Cmn => x.wrapping_add(y.value),
+        AluOp::Adc => x.wrapping_add(y.value).wrapping_add(as_number(flags.c)),
+        AluOp::Sbc => x.wrapping_add(!y.value).wrapping_add(as_number(flags.c)),
+        AluOp::Rsc => y.value.wrapping_add(!x).wrapping_add(as_number(flags.c)),
+        AluOp::Orr => x | y.value,
+        AluOp::Mov => y.value,
+        AluOp::Bic => x & !y.value,
+        AluOp::Mvn => !y.value,
+    }
+}

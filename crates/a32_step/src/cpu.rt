@@ -155,6 +155,9 @@ impl Cpu {
     fn finish(&mut self)
         ensures { self.new ≡ between self.old.state }
     {
+        if let Phase::Between = self.phase {
+            return;
+        }
         self.phase = Phase::Between;
         self.replies.clear();
     }

@@ -1,10 +1,10 @@
 //! Data processing (DDI 0406C A5.2).
-ghost use Rattle.std.specs.Prelude.{◌≡◌};
+ghost use Rattle.std.specs.Prelude.{◌≡◌, true};
 ghost use Rattle.a32_instr.specs.DataProcessing.{operand_of, alu};
 ghost use Rattle.a32_step.specs.Machine.{wanted_of, moved_on};
 
 use super::Cpu;
-use crate::arithmetic::compute;
+use crate::arithmetic::{compute, value_of};
 use crate::phases::Wanted;
 use crate::shifts::{immediate, shift, shift_by_number};
 use a32_instr::{AluOp, Instr, Operand2, Reg, Shifted};
@@ -25,7 +25,22 @@ impl Cpu {
         }
     }
 
+    /// Data processing that sets the flags.
+    fn alu_with_flags(&mut self, op: AluOp, rd: Reg, rn: Reg, operand: Operand2) -> Wanted
+        ensures wanted { result ≡ wanted_of (alu op true rd rn operand self.old.state) }
+        ensures state { (instr : Instr) → self.new ≡ moved_on instr self.old (alu op true rd rn operand self.old.state) }
+    {
+        let second = self.second_operand(operand);
+        let computed = compute(op, self.operand(rn), second, self.flags);
+        if op.is_compare() {
+            self.flags = computed.flags;
+            return self.advance();
+        }
+        self.write(computed.flags, rd, computed.value)
+    }
+
     /// Data processing (DDI 0406C A5.2).
+    #[inline]
     pub(super) fn alu(
         &mut self,
         op: AluOp,
@@ -37,13 +52,14 @@ impl Cpu {
         ensures wanted { result ≡ wanted_of (alu op sets rd rn operand self.old.state) }
         ensures state { (instr : Instr) → self.new ≡ moved_on instr self.old (alu op sets rd rn operand self.old.state) }
     {
-        let second = self.second_operand(operand);
-        let computed = compute(op, self.operand(rn), second, self.flags);
-        let flags = if sets { computed.flags } else { self.flags };
+        if sets {
+            return self.alu_with_flags(op, rd, rn, operand);
+        }
         if op.is_compare() {
-            self.flags = flags;
             return self.advance();
         }
-        self.write(flags, rd, computed.value)
+        let second = self.second_operand(operand);
+        let value = value_of(op, self.operand(rn), second, self.flags);
+        self.write(self.flags, rd, value)
     }
 }
