@@ -235,9 +235,8 @@ fn run_sized<H: Host>(alloc: Global, host: &mut H, request: SoloRequest<'_>) -> 
 
 /// The one call of the program: answers the words with a status and a text.
 ///
-/// The words are those behind the program's name. No file is read but the one that they name, and
-/// nothing is written but the text, each piece by one write. What is written stays as it was where
-/// memory is wanting.
+/// The words are those behind the program's name. The text is added to what the host has written,
+/// whole or, where a write failed, a front of it; where memory is wanting, nothing is added.
 pub fn llsc<H: Host>(alloc: Global, words: &[String], host: &mut H) -> Ended
     ensures ended { IsDone result.status ⊎ ((result.status ≡ 2) ⊎ ((result.status ≡ 3) ⊎ ((result.status ≡ 5) ⊎ (result.status ≡ 6)))) }
 
