@@ -5,3 +5,4 @@ pub mod Tested
 pub mod Words
 pub mod Lists
 pub mod Blocks
+pub mod Remembered

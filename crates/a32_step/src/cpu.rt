@@ -2,14 +2,15 @@
 ghost use Rattle.std.specs.Prelude.{◌≡◌, ◌≢◌, ◌<◌, ◌≤◌, ◌%◌, ◌+◌, ◌^◌, length, slice_index, IsTrue, if◌then◌else◌, false, [], None, Some};
 ghost use Rattle.a32_instr.specs.State.{register, with_register, advanced, jumps, writes, answered, stops};
 ghost use Rattle.a32_instr.specs.Effect.{acts, effect_of};
+ghost use Rattle.a32_instr.specs.Table.{meaning, table};
 ghost use Rattle.llsc_base.specs.Images.{word_at};
 ghost use Rattle.a32_step.specs.Words.{AreWords};
 ghost use Rattle.a32_step.specs.Machine.{start_of, given, next_effect, wanted_of, after_next, after_instr, begins, moved_on, instr_at, between, Follows, IsReady, IsTested, IsAwaiting, IsCalling};
 
 use crate::conditions::{condition, passes};
+use crate::decoded::Decoded;
 use crate::phases::{Phase, Wanted};
 use crate::replies::Replies;
-use a32_decode::decode;
 use a32_instr::{DecodeFault, Flags, Instr, Reg, Stop};
 use blocks::Transfer;
 use llsc_base::Image;
@@ -35,6 +36,8 @@ pub struct Cpu {
     replies: Replies,
     /// The span that served the last fetch.
     near: usize,
+    /// The words that were decoded before.
+    decoded: Decoded,
 }
 
 impl Model for Cpu {
@@ -69,6 +72,7 @@ impl Cpu {
             phase: Phase::Between,
             replies: Replies::new(),
             near: 0,
+            decoded: Decoded::new(),
         }
     }
 
@@ -241,7 +245,7 @@ impl Cpu {
         let Some(word) = self.fetch(image) else {
             return self.stop(Stop::Outside(self.pc));
         };
-        match decode(word) {
+        match self.decode(word) {
             Ok(instr) => self.begin(instr, image),
             Err(DecodeFault::Undefined) => self.stop(Stop::Undefined(self.pc)),
             Err(DecodeFault::Unpredictable) => self.stop(Stop::Unpredictable(self.pc)),
@@ -257,6 +261,15 @@ impl Cpu {
         let word = image.fetch_near(self.pc, &mut near);
         self.near = near;
         word
+    }
+
+    /// The instruction of the word at the PC, or why it is none.
+    #[inline]
+    fn decode(&mut self, word: u32) -> Result<Instr, DecodeFault>
+        ensures instr { result ≡ meaning table word }
+        ensures same { self.new ≡ self.old }
+    {
+        self.decoded.instr(self.pc, word)
     }
 
     /// The instruction begins.

@@ -10,6 +10,7 @@
 mod arithmetic;
 mod conditions;
 mod cpu;
+mod decoded;
 mod operands;
 mod parts;
 mod phases;

@@ -41,6 +41,7 @@ fn cpu(r0: u32, r1: u32, r2: u32, r3: u32, flags: u32) -> Cpu
         phase: Phase::Between,
         replies: Replies::new(),
         near: 0,
+        decoded: Decoded::new(),
     }
 }
 
