@@ -1,21 +1,25 @@
 //! Data-processing instructions and their neighbours (DDI 0406C A5.2).
 ghost use Rattle.std.specs.Prelude.{◌≡◌, ◌<◌, ◌==◌, ◌&&◌, ◌∷◌, []};
 ghost use Rattle.a32_instr.specs.Bits.{bits_of};
-ghost use Rattle.a32_instr.specs.Table.{alu_imm, alu_by_num, alu_by_reg, movw, movt, nop, yields, mul, mla, mls, long, clz, branch_reg, load_ex, store_ex, alu_fits, alu_op, alu_unpredictable, shift_kind};
+ghost use Rattle.a32_instr.specs.Table.{alu_imm, alu_by_num, alu_by_reg, half_imm, half_reg, movw, movt, nop, yields, mul, mla, mls, long, clz, branch_reg, load_ex, store_ex, alu_fits, alu_op, alu_unpredictable, shift_kind};
 ghost use Rattle.a32_decode.specs.Rows.{Fits, Means, NoneFits};
 
 use crate::bits::{bit, bits, condition, register};
 use crate::pc::{one_of_2_is_pc, one_of_4_is_pc};
-use crate::{branch, multiply, synchronization};
+use crate::{branch, extra_load_store, multiply, synchronization};
 use a32_instr::{AluOp, DecodeFault, Instr, Operand2, Reg, ShiftKind};
 
-/// Data processing with registers, multiplications and exclusives: a word whose bits 27:25 are 000 (DDI 0406C A5.2).
+/// Data processing with registers, multiplications, exclusives, halfwords and signed bytes: a word whose bits 27:25
+/// are 000 (DDI 0406C A5.2).
 #[inline]
+#[tactic(auto, using(crate::proofs::Halves::half_imm_is_no_product, crate::proofs::Halves::half_reg_is_no_product))]
 pub fn with_registers(word: u32) -> Result<Instr, DecodeFault>
     requires group { bits_of word 25 3 ≡ 0 }
     requires cond { bits_of word 28 4 < 15 }
     ensures alu_by_num { Fits alu_by_num word → Means alu_by_num word result }
     ensures alu_by_reg { Fits alu_by_reg word → Means alu_by_reg word result }
+    ensures half_imm { Fits half_imm word → Means half_imm word result }
+    ensures half_reg { Fits half_reg word → Means half_reg word result }
     ensures mul { Fits mul word → Means mul word result }
     ensures mla { Fits mla word → Means mla word result }
     ensures mls { Fits mls word → Means mls word result }
@@ -24,7 +28,7 @@ pub fn with_registers(word: u32) -> Result<Instr, DecodeFault>
     ensures branch_reg { Fits branch_reg word → Means branch_reg word result }
     ensures load_ex { Fits load_ex word → Means load_ex word result }
     ensures store_ex { Fits store_ex word → Means store_ex word result }
-    ensures none { NoneFits (alu_by_num ∷ alu_by_reg ∷ mul ∷ mla ∷ mls ∷ long ∷ clz ∷ branch_reg ∷ load_ex ∷ store_ex ∷ []) word → result ≡ Err DecodeFault.Undefined }
+    ensures none { NoneFits (alu_by_num ∷ alu_by_reg ∷ half_imm ∷ half_reg ∷ mul ∷ mla ∷ mls ∷ long ∷ clz ∷ branch_reg ∷ load_ex ∷ store_ex ∷ []) word → result ≡ Err DecodeFault.Undefined }
 {
     if !bit(word, 4) {
         return shifted_by_number(word);
@@ -33,7 +37,7 @@ pub fn with_registers(word: u32) -> Result<Instr, DecodeFault>
         return shifted_by_register(word);
     }
     if bits(word, 4, 4) != 9 {
-        return Err(DecodeFault::Undefined);
+        return extra_load_store::half(word);
     }
     if bit(word, 24) {
         return synchronization::exclusive(word);

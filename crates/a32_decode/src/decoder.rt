@@ -1,10 +1,10 @@
 ghost use Rattle.std.specs.Prelude.{◌≡◌, ◌<◌, ◌∷◌, []};
 ghost use Rattle.a32_instr.specs.Bits.{bits_of};
-ghost use Rattle.a32_instr.specs.Table.{alu_imm, alu_by_num, alu_by_reg, movw, movt, nop, yields, mul, mla, mls, long, clz, extend, rev, word_imm, word_reg, branch, branch_reg, svc, load_ex, store_ex, clrex, barrier, meaning, table};
+ghost use Rattle.a32_instr.specs.Table.{alu_imm, alu_by_num, alu_by_reg, half_imm, half_reg, movw, movt, nop, yields, mul, mla, mls, long, clz, extend, rev, word_imm, word_reg, block, branch, branch_reg, svc, load_ex, store_ex, clrex, barrier, meaning, table};
 ghost use Rattle.a32_decode.specs.Rows.{Fits, Means, NoneFits};
 
 use crate::bits::{bit, bits};
-use crate::{branch, data_processing, load_store, media, synchronization};
+use crate::{block, branch, data_processing, load_store, media, synchronization};
 use a32_instr::{DecodeFault, Instr};
 
 /// The instruction that a word is, or why it is none: what the table of words says of it.
@@ -24,6 +24,8 @@ fn by_class(word: u32) -> Result<Instr, DecodeFault>
     ensures alu_imm { Fits alu_imm word → Means alu_imm word result }
     ensures alu_by_num { Fits alu_by_num word → Means alu_by_num word result }
     ensures alu_by_reg { Fits alu_by_reg word → Means alu_by_reg word result }
+    ensures half_imm { Fits half_imm word → Means half_imm word result }
+    ensures half_reg { Fits half_reg word → Means half_reg word result }
     ensures movw { Fits movw word → Means movw word result }
     ensures movt { Fits movt word → Means movt word result }
     ensures nop { Fits nop word → Means nop word result }
@@ -37,6 +39,7 @@ fn by_class(word: u32) -> Result<Instr, DecodeFault>
     ensures rev { Fits rev word → Means rev word result }
     ensures word_imm { Fits word_imm word → Means word_imm word result }
     ensures word_reg { Fits word_reg word → Means word_reg word result }
+    ensures block { Fits block word → Means block word result }
     ensures branch { Fits branch word → Means branch word result }
     ensures branch_reg { Fits branch_reg word → Means branch_reg word result }
     ensures svc { Fits svc word → Means svc word result }
@@ -52,6 +55,7 @@ fn by_class(word: u32) -> Result<Instr, DecodeFault>
         1 => data_processing::with_immediate(word),
         2 => load_store::immediate(word),
         3 => by_register_or_media(word),
+        4 => block::block(word),
         5 => branch::immediate(word),
         7 => branch::supervisor_call(word),
         _ => Err(DecodeFault::Undefined),
@@ -76,6 +80,10 @@ fn by_register_or_media(word: u32) -> Result<Instr, DecodeFault>
 }
 
 #[cfg(test)]
+mod half_and_block_tests;
+#[cfg(test)]
 mod operation_tests;
 #[cfg(test)]
 mod tests;
+#[cfg(test)]
+mod vector_tests;

@@ -7,9 +7,11 @@
 #![tactic(auto)]
 
 mod bits;
+mod block;
 mod branch;
 mod data_processing;
 mod decoder;
+mod extra_load_store;
 mod load_store;
 mod media;
 mod multiply;

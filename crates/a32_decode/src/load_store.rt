@@ -75,7 +75,7 @@ fn of_word(word: u32, offset: Offset) -> Instr
 // Whether bits 24 and 21 name an index form.
 #[inline(always)]
 #[tactic(auto, unfolding(a32_instr::specs::Table::index_fits))]
-fn is_index(p: u32, w: u32) -> bool
+pub(crate) fn is_index(p: u32, w: u32) -> bool
     ensures { result ≡ index_fits p w }
 {
     !(p == 0 && w == 1)
@@ -84,7 +84,7 @@ fn is_index(p: u32, w: u32) -> bool
 // The index form that bits 24 and 21 name.
 #[inline(always)]
 #[tactic(auto, unfolding(a32_instr::specs::Table::index_of))]
-fn index(p: u32, w: u32) -> Index
+pub(crate) fn index(p: u32, w: u32) -> Index
     ensures { result ≡ index_of p w }
 {
     if p == 0 {

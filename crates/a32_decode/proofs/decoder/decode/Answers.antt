@@ -6,4 +6,4 @@ use Rattle.a32_decode.proofs.decoder.decode.Goals as goal
 pub returns : goal.returns
 returns c =
     let e = c.by_class.ensures in
-    meaning_by table c.args.word c.by_class.result (e.clrex, (e.barrier, (e.alu_imm, (e.alu_by_num, (e.alu_by_reg, (e.movw, (e.movt, (e.nop, (e.yields, (e.mul, (e.mla, (e.mls, (e.long, (e.clz, (e.extend, (e.rev, (e.word_imm, (e.word_reg, (e.branch, (e.branch_reg, (e.svc, (e.load_ex, (e.store_ex, tt))))))))))))))))))))))) e.none
+    meaning_by table c.args.word c.by_class.result (e.clrex, (e.barrier, (e.alu_imm, (e.alu_by_num, (e.alu_by_reg, (e.half_imm, (e.half_reg, (e.movw, (e.movt, (e.nop, (e.yields, (e.mul, (e.mla, (e.mls, (e.long, (e.clz, (e.extend, (e.rev, (e.word_imm, (e.word_reg, (e.block, (e.branch, (e.branch_reg, (e.svc, (e.load_ex, (e.store_ex, tt)))))))))))))))))))))))))) e.none
