@@ -1,7 +1,8 @@
 //! One instruction at a time, against what a processor did. Each table was made by running the instruction in a
 //! program for Arm Linux under `qemu-arm`. A row has the word, r0 to r3 and the flags before it, and then r0, r1 and
 //! the flags after it, all in hexadecimal; the flags are N, Z, C and V as bits 3, 2, 1 and 0. A line that begins
-//! with a semicolon is a comment.
+//! with a semicolon is a comment. Loads and stores have rows of their own (`accesses`, `edges` and `blocks`), which
+//! `transcripts` reads.
 ghost use Rattle.a32_step.specs.Machine.{IsReady};
 
 use super::*;
@@ -9,10 +10,14 @@ use llsc_base::MachineSize;
 use std::alloc::Global;
 use std::test::Fail;
 
+mod accesses;
+mod blocks;
 mod conditions;
+mod edges;
 mod operations;
 mod products;
 mod shifts;
+mod transcripts;
 
 // An image whose first instruction is this word.
 fn image(alloc: Global, word: u32) -> Result<Image, Fail> {
@@ -34,8 +39,19 @@ fn flags_of(bits: u32) -> Flags {
 fn cpu(r0: u32, r1: u32, r2: u32, r3: u32, flags: u32) -> Cpu
     ensures { IsReady result.phase }
 {
+    cpu_with(
+        [r0, r1, r2, r3, 4, 5, 6, 7, 8, 9, 10, 11, 12, 13, 14],
+        flags,
+    )
+}
+
+// The same with all its registers given.
+#[tactic(auto, using(crate::proofs::Words::words_none, crate::proofs::Words::words_more))]
+fn cpu_with(regs: [u32; 15], flags: u32) -> Cpu
+    ensures { IsReady result.phase }
+{
     Cpu {
-        regs: [r0, r1, r2, r3, 4, 5, 6, 7, 8, 9, 10, 11, 12, 13, 14],
+        regs,
         flags: flags_of(flags),
         pc: 0x1000,
         phase: Phase::Between,

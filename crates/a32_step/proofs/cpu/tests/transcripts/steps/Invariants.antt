@@ -1,0 +1,6 @@
+use Rattle.a32_step.specs.Machine.{IsReady}
+use Rattle.a32_step.proofs.cpu.tests.transcripts.steps.Given as goal
+
+-- no reply is awaited where the core goes on
+abbrev pub invariant-loop : goal.invariant-loop
+invariant-loop l = IsReady l.cpu.phase

@@ -1,0 +1,327 @@
+//! Every index form and offset of the loads and stores of one register. What a row wants was computed from the
+//! pseudocode of DDI 0406C A8.8.62 to A8.8.90 and A8.8.203 to A8.8.218, and `qemu-arm` does the same.
+
+use super::transcripts::check;
+use super::*;
+
+const ACCESSES: &str = "\
+; LDR
+e591000c 0 r1=2000 : 89abcdef : load 4 200c, done 1004 r0=89abcdef
+e7910002 d r1=23c0 r2=44 : 89abcdef : load 4 2404, done 1004 r0=89abcdef
+e7910182 d r1=23c4 r2=20000008 : 89abcdef : load 4 2404, done 1004 r0=89abcdef
+e7910222 0 r1=2400 r2=4f : 89abcdef : load 4 2404, done 1004 r0=89abcdef
+e7910022 0 r1=2404 r2=ffffffff : 89abcdef : load 4 2404, done 1004 r0=89abcdef
+e7910242 0 r1=2408 r2=ffffffcf : 89abcdef : load 4 2404, done 1004 r0=89abcdef
+e7910042 1 r1=2405 r2=80000000 : 89abcdef : load 4 2404, done 1004 r0=89abcdef
+e7910462 f r1=ef002400 r2=411 : 89abcdef : load 4 2404, done 1004 r0=89abcdef
+e7910062 0 r1=23fc r2=11 : 89abcdef : load 4 2404, done 1004 r0=89abcdef
+e7910062 2 r1=800023fc r2=11 : 89abcdef : load 4 2404, done 1004 r0=89abcdef
+e511000c 0 r1=2000 : 89abcdef : load 4 1ff4, done 1004 r0=89abcdef
+e7110002 d r1=2448 r2=44 : 89abcdef : load 4 2404, done 1004 r0=89abcdef
+e7110182 d r1=2444 r2=20000008 : 89abcdef : load 4 2404, done 1004 r0=89abcdef
+e7110222 0 r1=2408 r2=4f : 89abcdef : load 4 2404, done 1004 r0=89abcdef
+e7110022 0 r1=2404 r2=ffffffff : 89abcdef : load 4 2404, done 1004 r0=89abcdef
+e7110242 0 r1=2400 r2=ffffffcf : 89abcdef : load 4 2404, done 1004 r0=89abcdef
+e7110042 1 r1=2403 r2=80000000 : 89abcdef : load 4 2404, done 1004 r0=89abcdef
+e7110462 f r1=11002408 r2=411 : 89abcdef : load 4 2404, done 1004 r0=89abcdef
+e7110062 0 r1=240c r2=11 : 89abcdef : load 4 2404, done 1004 r0=89abcdef
+e7110062 2 r1=8000240c r2=11 : 89abcdef : load 4 2404, done 1004 r0=89abcdef
+e5b1000c 0 r1=2000 : 89abcdef : load 4 200c, done 1004 r0=89abcdef r1=200c
+e7b10002 d r1=23c0 r2=44 : 89abcdef : load 4 2404, done 1004 r0=89abcdef r1=2404
+e7b10182 d r1=23c4 r2=20000008 : 89abcdef : load 4 2404, done 1004 r0=89abcdef r1=2404
+e7b10222 0 r1=2400 r2=4f : 89abcdef : load 4 2404, done 1004 r0=89abcdef r1=2404
+e7b10022 0 r1=2404 r2=ffffffff : 89abcdef : load 4 2404, done 1004 r0=89abcdef
+e7b10242 0 r1=2408 r2=ffffffcf : 89abcdef : load 4 2404, done 1004 r0=89abcdef r1=2404
+e7b10042 1 r1=2405 r2=80000000 : 89abcdef : load 4 2404, done 1004 r0=89abcdef r1=2404
+e7b10462 f r1=ef002400 r2=411 : 89abcdef : load 4 2404, done 1004 r0=89abcdef r1=2404
+e7b10062 0 r1=23fc r2=11 : 89abcdef : load 4 2404, done 1004 r0=89abcdef r1=2404
+e7b10062 2 r1=800023fc r2=11 : 89abcdef : load 4 2404, done 1004 r0=89abcdef r1=2404
+e531000c 0 r1=2000 : 89abcdef : load 4 1ff4, done 1004 r0=89abcdef r1=1ff4
+e7310002 d r1=2448 r2=44 : 89abcdef : load 4 2404, done 1004 r0=89abcdef r1=2404
+e7310182 d r1=2444 r2=20000008 : 89abcdef : load 4 2404, done 1004 r0=89abcdef r1=2404
+e7310222 0 r1=2408 r2=4f : 89abcdef : load 4 2404, done 1004 r0=89abcdef r1=2404
+e7310022 0 r1=2404 r2=ffffffff : 89abcdef : load 4 2404, done 1004 r0=89abcdef
+e7310242 0 r1=2400 r2=ffffffcf : 89abcdef : load 4 2404, done 1004 r0=89abcdef r1=2404
+e7310042 1 r1=2403 r2=80000000 : 89abcdef : load 4 2404, done 1004 r0=89abcdef r1=2404
+e7310462 f r1=11002408 r2=411 : 89abcdef : load 4 2404, done 1004 r0=89abcdef r1=2404
+e7310062 0 r1=240c r2=11 : 89abcdef : load 4 2404, done 1004 r0=89abcdef r1=2404
+e7310062 2 r1=8000240c r2=11 : 89abcdef : load 4 2404, done 1004 r0=89abcdef r1=2404
+e491000c 0 r1=2000 : 89abcdef : load 4 2000, done 1004 r0=89abcdef r1=200c
+e6910002 d r1=2404 r2=44 : 89abcdef : load 4 2404, done 1004 r0=89abcdef r1=2448
+e6910182 d r1=2404 r2=20000008 : 89abcdef : load 4 2404, done 1004 r0=89abcdef r1=2444
+e6910222 0 r1=2404 r2=4f : 89abcdef : load 4 2404, done 1004 r0=89abcdef r1=2408
+e6910022 0 r1=2404 r2=ffffffff : 89abcdef : load 4 2404, done 1004 r0=89abcdef
+e6910242 0 r1=2404 r2=ffffffcf : 89abcdef : load 4 2404, done 1004 r0=89abcdef r1=2400
+e6910042 1 r1=2404 r2=80000000 : 89abcdef : load 4 2404, done 1004 r0=89abcdef r1=2403
+e6910462 f r1=2404 r2=411 : 89abcdef : load 4 2404, done 1004 r0=89abcdef r1=11002408
+e6910062 0 r1=2404 r2=11 : 89abcdef : load 4 2404, done 1004 r0=89abcdef r1=240c
+e6910062 2 r1=2404 r2=11 : 89abcdef : load 4 2404, done 1004 r0=89abcdef r1=8000240c
+e411000c 0 r1=2000 : 89abcdef : load 4 2000, done 1004 r0=89abcdef r1=1ff4
+e6110002 d r1=2404 r2=44 : 89abcdef : load 4 2404, done 1004 r0=89abcdef r1=23c0
+e6110182 d r1=2404 r2=20000008 : 89abcdef : load 4 2404, done 1004 r0=89abcdef r1=23c4
+e6110222 0 r1=2404 r2=4f : 89abcdef : load 4 2404, done 1004 r0=89abcdef r1=2400
+e6110022 0 r1=2404 r2=ffffffff : 89abcdef : load 4 2404, done 1004 r0=89abcdef
+e6110242 0 r1=2404 r2=ffffffcf : 89abcdef : load 4 2404, done 1004 r0=89abcdef r1=2408
+e6110042 1 r1=2404 r2=80000000 : 89abcdef : load 4 2404, done 1004 r0=89abcdef r1=2405
+e6110462 f r1=2404 r2=411 : 89abcdef : load 4 2404, done 1004 r0=89abcdef r1=ef002400
+e6110062 0 r1=2404 r2=11 : 89abcdef : load 4 2404, done 1004 r0=89abcdef r1=23fc
+e6110062 2 r1=2404 r2=11 : 89abcdef : load 4 2404, done 1004 r0=89abcdef r1=800023fc
+; STR
+e581000c 0 r0=12345678 r1=2000 : : store 4 200c 12345678, done 1004
+e7810002 d r0=12345678 r1=23c0 r2=44 : : store 4 2404 12345678, done 1004
+e7810182 d r0=12345678 r1=23c4 r2=20000008 : : store 4 2404 12345678, done 1004
+e7810222 0 r0=12345678 r1=2400 r2=4f : : store 4 2404 12345678, done 1004
+e7810022 0 r0=12345678 r1=2404 r2=ffffffff : : store 4 2404 12345678, done 1004
+e7810242 0 r0=12345678 r1=2408 r2=ffffffcf : : store 4 2404 12345678, done 1004
+e7810042 1 r0=12345678 r1=2405 r2=80000000 : : store 4 2404 12345678, done 1004
+e7810462 f r0=12345678 r1=ef002400 r2=411 : : store 4 2404 12345678, done 1004
+e7810062 0 r0=12345678 r1=23fc r2=11 : : store 4 2404 12345678, done 1004
+e7810062 2 r0=12345678 r1=800023fc r2=11 : : store 4 2404 12345678, done 1004
+e501000c 0 r0=12345678 r1=2000 : : store 4 1ff4 12345678, done 1004
+e7010002 d r0=12345678 r1=2448 r2=44 : : store 4 2404 12345678, done 1004
+e7010182 d r0=12345678 r1=2444 r2=20000008 : : store 4 2404 12345678, done 1004
+e7010222 0 r0=12345678 r1=2408 r2=4f : : store 4 2404 12345678, done 1004
+e7010022 0 r0=12345678 r1=2404 r2=ffffffff : : store 4 2404 12345678, done 1004
+e7010242 0 r0=12345678 r1=2400 r2=ffffffcf : : store 4 2404 12345678, done 1004
+e7010042 1 r0=12345678 r1=2403 r2=80000000 : : store 4 2404 12345678, done 1004
+e7010462 f r0=12345678 r1=11002408 r2=411 : : store 4 2404 12345678, done 1004
+e7010062 0 r0=12345678 r1=240c r2=11 : : store 4 2404 12345678, done 1004
+e7010062 2 r0=12345678 r1=8000240c r2=11 : : store 4 2404 12345678, done 1004
+e5a1000c 0 r0=12345678 r1=2000 : : store 4 200c 12345678, done 1004 r1=200c
+e7a10002 d r0=12345678 r1=23c0 r2=44 : : store 4 2404 12345678, done 1004 r1=2404
+e7a10182 d r0=12345678 r1=23c4 r2=20000008 : : store 4 2404 12345678, done 1004 r1=2404
+e7a10222 0 r0=12345678 r1=2400 r2=4f : : store 4 2404 12345678, done 1004 r1=2404
+e7a10022 0 r0=12345678 r1=2404 r2=ffffffff : : store 4 2404 12345678, done 1004
+e7a10242 0 r0=12345678 r1=2408 r2=ffffffcf : : store 4 2404 12345678, done 1004 r1=2404
+e7a10042 1 r0=12345678 r1=2405 r2=80000000 : : store 4 2404 12345678, done 1004 r1=2404
+e7a10462 f r0=12345678 r1=ef002400 r2=411 : : store 4 2404 12345678, done 1004 r1=2404
+e7a10062 0 r0=12345678 r1=23fc r2=11 : : store 4 2404 12345678, done 1004 r1=2404
+e7a10062 2 r0=12345678 r1=800023fc r2=11 : : store 4 2404 12345678, done 1004 r1=2404
+e521000c 0 r0=12345678 r1=2000 : : store 4 1ff4 12345678, done 1004 r1=1ff4
+e7210002 d r0=12345678 r1=2448 r2=44 : : store 4 2404 12345678, done 1004 r1=2404
+e7210182 d r0=12345678 r1=2444 r2=20000008 : : store 4 2404 12345678, done 1004 r1=2404
+e7210222 0 r0=12345678 r1=2408 r2=4f : : store 4 2404 12345678, done 1004 r1=2404
+e7210022 0 r0=12345678 r1=2404 r2=ffffffff : : store 4 2404 12345678, done 1004
+e7210242 0 r0=12345678 r1=2400 r2=ffffffcf : : store 4 2404 12345678, done 1004 r1=2404
+e7210042 1 r0=12345678 r1=2403 r2=80000000 : : store 4 2404 12345678, done 1004 r1=2404
+e7210462 f r0=12345678 r1=11002408 r2=411 : : store 4 2404 12345678, done 1004 r1=2404
+e7210062 0 r0=12345678 r1=240c r2=11 : : store 4 2404 12345678, done 1004 r1=2404
+e7210062 2 r0=12345678 r1=8000240c r2=11 : : store 4 2404 12345678, done 1004 r1=2404
+e481000c 0 r0=12345678 r1=2000 : : store 4 2000 12345678, done 1004 r1=200c
+e6810002 d r0=12345678 r1=2404 r2=44 : : store 4 2404 12345678, done 1004 r1=2448
+e6810182 d r0=12345678 r1=2404 r2=20000008 : : store 4 2404 12345678, done 1004 r1=2444
+e6810222 0 r0=12345678 r1=2404 r2=4f : : store 4 2404 12345678, done 1004 r1=2408
+e6810022 0 r0=12345678 r1=2404 r2=ffffffff : : store 4 2404 12345678, done 1004
+e6810242 0 r0=12345678 r1=2404 r2=ffffffcf : : store 4 2404 12345678, done 1004 r1=2400
+e6810042 1 r0=12345678 r1=2404 r2=80000000 : : store 4 2404 12345678, done 1004 r1=2403
+e6810462 f r0=12345678 r1=2404 r2=411 : : store 4 2404 12345678, done 1004 r1=11002408
+e6810062 0 r0=12345678 r1=2404 r2=11 : : store 4 2404 12345678, done 1004 r1=240c
+e6810062 2 r0=12345678 r1=2404 r2=11 : : store 4 2404 12345678, done 1004 r1=8000240c
+e401000c 0 r0=12345678 r1=2000 : : store 4 2000 12345678, done 1004 r1=1ff4
+e6010002 d r0=12345678 r1=2404 r2=44 : : store 4 2404 12345678, done 1004 r1=23c0
+e6010182 d r0=12345678 r1=2404 r2=20000008 : : store 4 2404 12345678, done 1004 r1=23c4
+e6010222 0 r0=12345678 r1=2404 r2=4f : : store 4 2404 12345678, done 1004 r1=2400
+e6010022 0 r0=12345678 r1=2404 r2=ffffffff : : store 4 2404 12345678, done 1004
+e6010242 0 r0=12345678 r1=2404 r2=ffffffcf : : store 4 2404 12345678, done 1004 r1=2408
+e6010042 1 r0=12345678 r1=2404 r2=80000000 : : store 4 2404 12345678, done 1004 r1=2405
+e6010462 f r0=12345678 r1=2404 r2=411 : : store 4 2404 12345678, done 1004 r1=ef002400
+e6010062 0 r0=12345678 r1=2404 r2=11 : : store 4 2404 12345678, done 1004 r1=23fc
+e6010062 2 r0=12345678 r1=2404 r2=11 : : store 4 2404 12345678, done 1004 r1=800023fc
+; LDRB
+e5d1000c 0 r1=2000 : 8d : load 1 200c, done 1004 r0=8d
+e7d10002 d r1=23bf r2=44 : 8d : load 1 2403, done 1004 r0=8d
+e7d10182 d r1=23c3 r2=20000008 : 8d : load 1 2403, done 1004 r0=8d
+e7d10222 0 r1=23ff r2=4f : 8d : load 1 2403, done 1004 r0=8d
+e7d10022 0 r1=2403 r2=ffffffff : 8d : load 1 2403, done 1004 r0=8d
+e7d10242 0 r1=2407 r2=ffffffcf : 8d : load 1 2403, done 1004 r0=8d
+e7d10042 1 r1=2404 r2=80000000 : 8d : load 1 2403, done 1004 r0=8d
+e7d10462 f r1=ef0023ff r2=411 : 8d : load 1 2403, done 1004 r0=8d
+e7d10062 0 r1=23fb r2=11 : 8d : load 1 2403, done 1004 r0=8d
+e7d10062 2 r1=800023fb r2=11 : 8d : load 1 2403, done 1004 r0=8d
+e551000c 0 r1=2000 : 8d : load 1 1ff4, done 1004 r0=8d
+e7510002 d r1=2447 r2=44 : 8d : load 1 2403, done 1004 r0=8d
+e7510182 d r1=2443 r2=20000008 : 8d : load 1 2403, done 1004 r0=8d
+e7510222 0 r1=2407 r2=4f : 8d : load 1 2403, done 1004 r0=8d
+e7510022 0 r1=2403 r2=ffffffff : 8d : load 1 2403, done 1004 r0=8d
+e7510242 0 r1=23ff r2=ffffffcf : 8d : load 1 2403, done 1004 r0=8d
+e7510042 1 r1=2402 r2=80000000 : 8d : load 1 2403, done 1004 r0=8d
+e7510462 f r1=11002407 r2=411 : 8d : load 1 2403, done 1004 r0=8d
+e7510062 0 r1=240b r2=11 : 8d : load 1 2403, done 1004 r0=8d
+e7510062 2 r1=8000240b r2=11 : 8d : load 1 2403, done 1004 r0=8d
+e5f1000c 0 r1=2000 : 8d : load 1 200c, done 1004 r0=8d r1=200c
+e7f10002 d r1=23bf r2=44 : 8d : load 1 2403, done 1004 r0=8d r1=2403
+e7f10182 d r1=23c3 r2=20000008 : 8d : load 1 2403, done 1004 r0=8d r1=2403
+e7f10222 0 r1=23ff r2=4f : 8d : load 1 2403, done 1004 r0=8d r1=2403
+e7f10022 0 r1=2403 r2=ffffffff : 8d : load 1 2403, done 1004 r0=8d
+e7f10242 0 r1=2407 r2=ffffffcf : 8d : load 1 2403, done 1004 r0=8d r1=2403
+e7f10042 1 r1=2404 r2=80000000 : 8d : load 1 2403, done 1004 r0=8d r1=2403
+e7f10462 f r1=ef0023ff r2=411 : 8d : load 1 2403, done 1004 r0=8d r1=2403
+e7f10062 0 r1=23fb r2=11 : 8d : load 1 2403, done 1004 r0=8d r1=2403
+e7f10062 2 r1=800023fb r2=11 : 8d : load 1 2403, done 1004 r0=8d r1=2403
+e571000c 0 r1=2000 : 8d : load 1 1ff4, done 1004 r0=8d r1=1ff4
+e7710002 d r1=2447 r2=44 : 8d : load 1 2403, done 1004 r0=8d r1=2403
+e7710182 d r1=2443 r2=20000008 : 8d : load 1 2403, done 1004 r0=8d r1=2403
+e7710222 0 r1=2407 r2=4f : 8d : load 1 2403, done 1004 r0=8d r1=2403
+e7710022 0 r1=2403 r2=ffffffff : 8d : load 1 2403, done 1004 r0=8d
+e7710242 0 r1=23ff r2=ffffffcf : 8d : load 1 2403, done 1004 r0=8d r1=2403
+e7710042 1 r1=2402 r2=80000000 : 8d : load 1 2403, done 1004 r0=8d r1=2403
+e7710462 f r1=11002407 r2=411 : 8d : load 1 2403, done 1004 r0=8d r1=2403
+e7710062 0 r1=240b r2=11 : 8d : load 1 2403, done 1004 r0=8d r1=2403
+e7710062 2 r1=8000240b r2=11 : 8d : load 1 2403, done 1004 r0=8d r1=2403
+e4d1000c 0 r1=2000 : 8d : load 1 2000, done 1004 r0=8d r1=200c
+e6d10002 d r1=2403 r2=44 : 8d : load 1 2403, done 1004 r0=8d r1=2447
+e6d10182 d r1=2403 r2=20000008 : 8d : load 1 2403, done 1004 r0=8d r1=2443
+e6d10222 0 r1=2403 r2=4f : 8d : load 1 2403, done 1004 r0=8d r1=2407
+e6d10022 0 r1=2403 r2=ffffffff : 8d : load 1 2403, done 1004 r0=8d
+e6d10242 0 r1=2403 r2=ffffffcf : 8d : load 1 2403, done 1004 r0=8d r1=23ff
+e6d10042 1 r1=2403 r2=80000000 : 8d : load 1 2403, done 1004 r0=8d r1=2402
+e6d10462 f r1=2403 r2=411 : 8d : load 1 2403, done 1004 r0=8d r1=11002407
+e6d10062 0 r1=2403 r2=11 : 8d : load 1 2403, done 1004 r0=8d r1=240b
+e6d10062 2 r1=2403 r2=11 : 8d : load 1 2403, done 1004 r0=8d r1=8000240b
+e451000c 0 r1=2000 : 8d : load 1 2000, done 1004 r0=8d r1=1ff4
+e6510002 d r1=2403 r2=44 : 8d : load 1 2403, done 1004 r0=8d r1=23bf
+e6510182 d r1=2403 r2=20000008 : 8d : load 1 2403, done 1004 r0=8d r1=23c3
+e6510222 0 r1=2403 r2=4f : 8d : load 1 2403, done 1004 r0=8d r1=23ff
+e6510022 0 r1=2403 r2=ffffffff : 8d : load 1 2403, done 1004 r0=8d
+e6510242 0 r1=2403 r2=ffffffcf : 8d : load 1 2403, done 1004 r0=8d r1=2407
+e6510042 1 r1=2403 r2=80000000 : 8d : load 1 2403, done 1004 r0=8d r1=2404
+e6510462 f r1=2403 r2=411 : 8d : load 1 2403, done 1004 r0=8d r1=ef0023ff
+e6510062 0 r1=2403 r2=11 : 8d : load 1 2403, done 1004 r0=8d r1=23fb
+e6510062 2 r1=2403 r2=11 : 8d : load 1 2403, done 1004 r0=8d r1=800023fb
+; STRB
+e5c1000c 0 r0=12345678 r1=2000 : : store 1 200c 78, done 1004
+e7c10002 d r0=12345678 r1=23bf r2=44 : : store 1 2403 78, done 1004
+e7c10182 d r0=12345678 r1=23c3 r2=20000008 : : store 1 2403 78, done 1004
+e7c10222 0 r0=12345678 r1=23ff r2=4f : : store 1 2403 78, done 1004
+e7c10022 0 r0=12345678 r1=2403 r2=ffffffff : : store 1 2403 78, done 1004
+e7c10242 0 r0=12345678 r1=2407 r2=ffffffcf : : store 1 2403 78, done 1004
+e7c10042 1 r0=12345678 r1=2404 r2=80000000 : : store 1 2403 78, done 1004
+e7c10462 f r0=12345678 r1=ef0023ff r2=411 : : store 1 2403 78, done 1004
+e7c10062 0 r0=12345678 r1=23fb r2=11 : : store 1 2403 78, done 1004
+e7c10062 2 r0=12345678 r1=800023fb r2=11 : : store 1 2403 78, done 1004
+e541000c 0 r0=12345678 r1=2000 : : store 1 1ff4 78, done 1004
+e7410002 d r0=12345678 r1=2447 r2=44 : : store 1 2403 78, done 1004
+e7410182 d r0=12345678 r1=2443 r2=20000008 : : store 1 2403 78, done 1004
+e7410222 0 r0=12345678 r1=2407 r2=4f : : store 1 2403 78, done 1004
+e7410022 0 r0=12345678 r1=2403 r2=ffffffff : : store 1 2403 78, done 1004
+e7410242 0 r0=12345678 r1=23ff r2=ffffffcf : : store 1 2403 78, done 1004
+e7410042 1 r0=12345678 r1=2402 r2=80000000 : : store 1 2403 78, done 1004
+e7410462 f r0=12345678 r1=11002407 r2=411 : : store 1 2403 78, done 1004
+e7410062 0 r0=12345678 r1=240b r2=11 : : store 1 2403 78, done 1004
+e7410062 2 r0=12345678 r1=8000240b r2=11 : : store 1 2403 78, done 1004
+e5e1000c 0 r0=12345678 r1=2000 : : store 1 200c 78, done 1004 r1=200c
+e7e10002 d r0=12345678 r1=23bf r2=44 : : store 1 2403 78, done 1004 r1=2403
+e7e10182 d r0=12345678 r1=23c3 r2=20000008 : : store 1 2403 78, done 1004 r1=2403
+e7e10222 0 r0=12345678 r1=23ff r2=4f : : store 1 2403 78, done 1004 r1=2403
+e7e10022 0 r0=12345678 r1=2403 r2=ffffffff : : store 1 2403 78, done 1004
+e7e10242 0 r0=12345678 r1=2407 r2=ffffffcf : : store 1 2403 78, done 1004 r1=2403
+e7e10042 1 r0=12345678 r1=2404 r2=80000000 : : store 1 2403 78, done 1004 r1=2403
+e7e10462 f r0=12345678 r1=ef0023ff r2=411 : : store 1 2403 78, done 1004 r1=2403
+e7e10062 0 r0=12345678 r1=23fb r2=11 : : store 1 2403 78, done 1004 r1=2403
+e7e10062 2 r0=12345678 r1=800023fb r2=11 : : store 1 2403 78, done 1004 r1=2403
+e561000c 0 r0=12345678 r1=2000 : : store 1 1ff4 78, done 1004 r1=1ff4
+e7610002 d r0=12345678 r1=2447 r2=44 : : store 1 2403 78, done 1004 r1=2403
+e7610182 d r0=12345678 r1=2443 r2=20000008 : : store 1 2403 78, done 1004 r1=2403
+e7610222 0 r0=12345678 r1=2407 r2=4f : : store 1 2403 78, done 1004 r1=2403
+e7610022 0 r0=12345678 r1=2403 r2=ffffffff : : store 1 2403 78, done 1004
+e7610242 0 r0=12345678 r1=23ff r2=ffffffcf : : store 1 2403 78, done 1004 r1=2403
+e7610042 1 r0=12345678 r1=2402 r2=80000000 : : store 1 2403 78, done 1004 r1=2403
+e7610462 f r0=12345678 r1=11002407 r2=411 : : store 1 2403 78, done 1004 r1=2403
+e7610062 0 r0=12345678 r1=240b r2=11 : : store 1 2403 78, done 1004 r1=2403
+e7610062 2 r0=12345678 r1=8000240b r2=11 : : store 1 2403 78, done 1004 r1=2403
+e4c1000c 0 r0=12345678 r1=2000 : : store 1 2000 78, done 1004 r1=200c
+e6c10002 d r0=12345678 r1=2403 r2=44 : : store 1 2403 78, done 1004 r1=2447
+e6c10182 d r0=12345678 r1=2403 r2=20000008 : : store 1 2403 78, done 1004 r1=2443
+e6c10222 0 r0=12345678 r1=2403 r2=4f : : store 1 2403 78, done 1004 r1=2407
+e6c10022 0 r0=12345678 r1=2403 r2=ffffffff : : store 1 2403 78, done 1004
+e6c10242 0 r0=12345678 r1=2403 r2=ffffffcf : : store 1 2403 78, done 1004 r1=23ff
+e6c10042 1 r0=12345678 r1=2403 r2=80000000 : : store 1 2403 78, done 1004 r1=2402
+e6c10462 f r0=12345678 r1=2403 r2=411 : : store 1 2403 78, done 1004 r1=11002407
+e6c10062 0 r0=12345678 r1=2403 r2=11 : : store 1 2403 78, done 1004 r1=240b
+e6c10062 2 r0=12345678 r1=2403 r2=11 : : store 1 2403 78, done 1004 r1=8000240b
+e441000c 0 r0=12345678 r1=2000 : : store 1 2000 78, done 1004 r1=1ff4
+e6410002 d r0=12345678 r1=2403 r2=44 : : store 1 2403 78, done 1004 r1=23bf
+e6410182 d r0=12345678 r1=2403 r2=20000008 : : store 1 2403 78, done 1004 r1=23c3
+e6410222 0 r0=12345678 r1=2403 r2=4f : : store 1 2403 78, done 1004 r1=23ff
+e6410022 0 r0=12345678 r1=2403 r2=ffffffff : : store 1 2403 78, done 1004
+e6410242 0 r0=12345678 r1=2403 r2=ffffffcf : : store 1 2403 78, done 1004 r1=2407
+e6410042 1 r0=12345678 r1=2403 r2=80000000 : : store 1 2403 78, done 1004 r1=2404
+e6410462 f r0=12345678 r1=2403 r2=411 : : store 1 2403 78, done 1004 r1=ef0023ff
+e6410062 0 r0=12345678 r1=2403 r2=11 : : store 1 2403 78, done 1004 r1=23fb
+e6410062 2 r0=12345678 r1=2403 r2=11 : : store 1 2403 78, done 1004 r1=800023fb
+; LDRH
+e1d10db6 5 r1=2000 : 8bcd : load 2 20d6, done 1004 r0=8bcd
+e19100b2 a r1=2000 r2=126 : 8bcd : load 2 2126, done 1004 r0=8bcd
+e1510db6 5 r1=2000 : 8bcd : load 2 1f2a, done 1004 r0=8bcd
+e11100b2 a r1=2000 r2=126 : 8bcd : load 2 1eda, done 1004 r0=8bcd
+e1f10db6 5 r1=2000 : 8bcd : load 2 20d6, done 1004 r0=8bcd r1=20d6
+e1b100b2 a r1=2000 r2=126 : 8bcd : load 2 2126, done 1004 r0=8bcd r1=2126
+e1710db6 5 r1=2000 : 8bcd : load 2 1f2a, done 1004 r0=8bcd r1=1f2a
+e13100b2 a r1=2000 r2=126 : 8bcd : load 2 1eda, done 1004 r0=8bcd r1=1eda
+e0d10db6 5 r1=2000 : 8bcd : load 2 2000, done 1004 r0=8bcd r1=20d6
+e09100b2 a r1=2000 r2=126 : 8bcd : load 2 2000, done 1004 r0=8bcd r1=2126
+e0510db6 5 r1=2000 : 8bcd : load 2 2000, done 1004 r0=8bcd r1=1f2a
+e01100b2 a r1=2000 r2=126 : 8bcd : load 2 2000, done 1004 r0=8bcd r1=1eda
+e1d130b0 0 r1=2000 : 0 : load 2 2000, done 1004 r3=0
+e1d130b0 0 r1=2000 : 7fff : load 2 2000, done 1004 r3=7fff
+e1d130b0 0 r1=2000 : 8000 : load 2 2000, done 1004 r3=8000
+e1d130b0 0 r1=2000 : ffff : load 2 2000, done 1004 r3=ffff
+e1d130b0 0 r1=2000 : 80 : load 2 2000, done 1004 r3=80
+; STRH
+e1c10db6 5 r0=1234f678 r1=2000 : : store 2 20d6 f678, done 1004
+e18100b2 a r0=1234f678 r1=2000 r2=126 : : store 2 2126 f678, done 1004
+e1410db6 5 r0=1234f678 r1=2000 : : store 2 1f2a f678, done 1004
+e10100b2 a r0=1234f678 r1=2000 r2=126 : : store 2 1eda f678, done 1004
+e1e10db6 5 r0=1234f678 r1=2000 : : store 2 20d6 f678, done 1004 r1=20d6
+e1a100b2 a r0=1234f678 r1=2000 r2=126 : : store 2 2126 f678, done 1004 r1=2126
+e1610db6 5 r0=1234f678 r1=2000 : : store 2 1f2a f678, done 1004 r1=1f2a
+e12100b2 a r0=1234f678 r1=2000 r2=126 : : store 2 1eda f678, done 1004 r1=1eda
+e0c10db6 5 r0=1234f678 r1=2000 : : store 2 2000 f678, done 1004 r1=20d6
+e08100b2 a r0=1234f678 r1=2000 r2=126 : : store 2 2000 f678, done 1004 r1=2126
+e0410db6 5 r0=1234f678 r1=2000 : : store 2 2000 f678, done 1004 r1=1f2a
+e00100b2 a r0=1234f678 r1=2000 r2=126 : : store 2 2000 f678, done 1004 r1=1eda
+e1c130b0 0 r1=2000 r3=0 : : store 2 2000 0, done 1004
+e1c130b0 0 r1=2000 r3=7fff : : store 2 2000 7fff, done 1004
+e1c130b0 0 r1=2000 r3=ffff8000 : : store 2 2000 8000, done 1004
+e1c130b0 0 r1=2000 r3=ffff0000 : : store 2 2000 0, done 1004
+; LDRSB
+e1d10dd6 5 r1=2000 : 8d : load 1 20d6, done 1004 r0=ffffff8d
+e19100d2 a r1=2000 r2=126 : 8d : load 1 2126, done 1004 r0=ffffff8d
+e1510dd6 5 r1=2000 : 8d : load 1 1f2a, done 1004 r0=ffffff8d
+e11100d2 a r1=2000 r2=126 : 8d : load 1 1eda, done 1004 r0=ffffff8d
+e1f10dd6 5 r1=2000 : 8d : load 1 20d6, done 1004 r0=ffffff8d r1=20d6
+e1b100d2 a r1=2000 r2=126 : 8d : load 1 2126, done 1004 r0=ffffff8d r1=2126
+e1710dd6 5 r1=2000 : 8d : load 1 1f2a, done 1004 r0=ffffff8d r1=1f2a
+e13100d2 a r1=2000 r2=126 : 8d : load 1 1eda, done 1004 r0=ffffff8d r1=1eda
+e0d10dd6 5 r1=2000 : 8d : load 1 2000, done 1004 r0=ffffff8d r1=20d6
+e09100d2 a r1=2000 r2=126 : 8d : load 1 2000, done 1004 r0=ffffff8d r1=2126
+e0510dd6 5 r1=2000 : 8d : load 1 2000, done 1004 r0=ffffff8d r1=1f2a
+e01100d2 a r1=2000 r2=126 : 8d : load 1 2000, done 1004 r0=ffffff8d r1=1eda
+e1d130d0 0 r1=2000 : 0 : load 1 2000, done 1004 r3=0
+e1d130d0 0 r1=2000 : 7f : load 1 2000, done 1004 r3=7f
+e1d130d0 0 r1=2000 : 80 : load 1 2000, done 1004 r3=ffffff80
+e1d130d0 0 r1=2000 : ff : load 1 2000, done 1004 r3=ffffffff
+; LDRSH
+e1d10df6 5 r1=2000 : 8bcd : load 2 20d6, done 1004 r0=ffff8bcd
+e19100f2 a r1=2000 r2=126 : 8bcd : load 2 2126, done 1004 r0=ffff8bcd
+e1510df6 5 r1=2000 : 8bcd : load 2 1f2a, done 1004 r0=ffff8bcd
+e11100f2 a r1=2000 r2=126 : 8bcd : load 2 1eda, done 1004 r0=ffff8bcd
+e1f10df6 5 r1=2000 : 8bcd : load 2 20d6, done 1004 r0=ffff8bcd r1=20d6
+e1b100f2 a r1=2000 r2=126 : 8bcd : load 2 2126, done 1004 r0=ffff8bcd r1=2126
+e1710df6 5 r1=2000 : 8bcd : load 2 1f2a, done 1004 r0=ffff8bcd r1=1f2a
+e13100f2 a r1=2000 r2=126 : 8bcd : load 2 1eda, done 1004 r0=ffff8bcd r1=1eda
+e0d10df6 5 r1=2000 : 8bcd : load 2 2000, done 1004 r0=ffff8bcd r1=20d6
+e09100f2 a r1=2000 r2=126 : 8bcd : load 2 2000, done 1004 r0=ffff8bcd r1=2126
+e0510df6 5 r1=2000 : 8bcd : load 2 2000, done 1004 r0=ffff8bcd r1=1f2a
+e01100f2 a r1=2000 r2=126 : 8bcd : load 2 2000, done 1004 r0=ffff8bcd r1=1eda
+e1d130f0 0 r1=2000 : 0 : load 2 2000, done 1004 r3=0
+e1d130f0 0 r1=2000 : 7fff : load 2 2000, done 1004 r3=7fff
+e1d130f0 0 r1=2000 : 8000 : load 2 2000, done 1004 r3=ffff8000
+e1d130f0 0 r1=2000 : ffff : load 2 2000, done 1004 r3=ffffffff
+e1d130f0 0 r1=2000 : 80 : load 2 2000, done 1004 r3=80
+";
+
+#[test]
+fn accesses_each_form(rt: HostRuntime) -> Result<(), Fail> {
+    check(&rt, rt.alloc(), ACCESSES)
+}
