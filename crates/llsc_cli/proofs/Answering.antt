@@ -8,7 +8,7 @@ use Rattle.llsc_base.specs.declared.flat.FlatFault.{FlatFault}
 use Rattle.llsc_base.specs.declared.flat.FlatFault.TheVariants as flat
 use Rattle.llsc_base.specs.Flat.{flat_fault, flat_fault_name, flat_image, flat_byte}
 use Rattle.llsc_base.proofs.Values.{length-values_below}
-use Rattle.llsc_cli.specs.declared.threads.ThreadEnd.{ThreadEnd}
+use Rattle.llsc_cli.specs.declared.threads.Ran.{Ran}
 use Rattle.llsc_cli.specs.Host.{AreBytes, Adds}
 use Rattle.llsc_cli.specs.Report.{report_of}
 use Rattle.llsc_cli.specs.Solo.{IsSoloEnd}
@@ -29,14 +29,14 @@ refusal_is file fault short is =
     rw test (ap (λ f. option_map flat_fault_name f) is)
 
 -- the answer for a file that is run
-pub answers_run : (file : List ℕ) (size : Numbers) (image : Program) (status : ℕ) (end : ThreadEnd)
+pub answers_run : (file : List ℕ) (size : Numbers) (image : Program) (status : ℕ) (ran : Ran)
     → length file ≤ most_bytes → size ≡ solo_size → flat_fault file size ≡ None → image ≡ flat_image file size
-    → IsSoloEnd image solo_size solo_budget end → status ≡ status_of end.stop → Answers file status (report_of solo_budget end)
-answers_run file size image status end short same none is ends ended =
+    → IsSoloEnd image solo_size solo_budget ran → status ≡ status_of ran.end.stop → Answers file status (report_of solo_budget ran)
+answers_run file size image status ran short same none is ends ended =
     let clean : flat_fault file solo_size ≡ None = ap (λ s. flat_fault file s) (sym same) ∙ none in
     let whole : image ≡ flat_image file solo_size = is ∙ ap (λ s. flat_image file s) same in
-    let ran : AnswersBy file None status (report_of solo_budget end) = (end, subst (λ i. IsSoloEnd i solo_size solo_budget end) whole ends, ended, refl) in
-    subst (λ r. AnswersBy file r status (report_of solo_budget end)) (sym (refusal_is file None short clean)) ran
+    let answer : AnswersBy file None status (report_of solo_budget ran) = (ran, subst (λ i. IsSoloEnd i solo_size solo_budget ran) whole ends, ended, refl) in
+    subst (λ r. AnswersBy file r status (report_of solo_budget ran)) (sym (refusal_is file None short clean)) answer
 
 -- the answer for a file that is refused
 pub answers_refused : (file : List ℕ) (size : Numbers) (fault : FlatFault)

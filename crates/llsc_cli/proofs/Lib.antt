@@ -1,11 +1,12 @@
 pub mod Alone
 pub mod Answering
 pub mod Counts
-pub mod Decided
 pub mod Fronts
-pub mod Listed
+pub mod Loading
+pub mod Logs
 pub mod Loops
 pub mod Served
 pub mod SoloEnds
 pub mod Streams
 pub mod Turns
+pub mod Works

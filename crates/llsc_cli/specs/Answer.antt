@@ -5,7 +5,7 @@ use Rattle.llsc_base.specs.Sizes.{Numbers}
 use Rattle.llsc_base.specs.Flat.{flat_fault, flat_fault_name, flat_image}
 use Rattle.a32_instr.specs.declared.outside.Stop.{Stop}
 use Rattle.a32_instr.specs.declared.outside.Stop.TheVariants as stop
-use Rattle.llsc_cli.specs.declared.threads.ThreadEnd.{ThreadEnd}
+use Rattle.llsc_cli.specs.declared.threads.Ran.{Ran}
 use Rattle.llsc_cli.specs.Solo.{IsSoloEnd}
 use Rattle.llsc_cli.specs.Report.{report_of}
 use Rattle.llsc_cli.specs.Host.{Rose, AreBytes, AddsFront}
@@ -50,7 +50,7 @@ status_of _ = 1
 abbrev pub AnswersBy : List ℕ → Option (List ℕ) → ℕ → List ℕ → Type 0
 AnswersBy file (Some name) status text = (status ≡ 4) × (text ≡ refusal_text name)
 AnswersBy file None status text =
-    (end : ThreadEnd) × IsSoloEnd (flat_image file solo_size) solo_size solo_budget end × (status ≡ status_of end.stop) × (text ≡ report_of solo_budget end)
+    (ran : Ran) × IsSoloEnd (flat_image file solo_size) solo_size solo_budget ran × (status ≡ status_of ran.end.stop) × (text ≡ report_of solo_budget ran)
 
 -- the status and the text for the bytes of the file
 abbrev pub Answers : List ℕ → ℕ → List ℕ → Type 0

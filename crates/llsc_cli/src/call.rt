@@ -10,7 +10,7 @@ ghost use Rattle.llsc_cli.specs.Reads.{CutAfter, IsAnswered, IsCutFile};
 
 use crate::host::{Host, ReadFault};
 use crate::report::Report;
-use crate::threads::{ThreadEnd, solo};
+use crate::threads::{Ran, solo};
 use crate::words::parse;
 use a32_step::Stop;
 use llsc_base::{FlatFault, Image, MachineSize};
@@ -96,25 +96,26 @@ fn refuse<H: Host>(alloc: Global, host: &mut H, name: &str) -> Ended
 fn run<H: Host>(alloc: Global, host: &mut H, image: &Image) -> Ended
     requires { length image.now.bytes ≡ 1048576 }
     ensures ended { (result.status ≡ 0) ⊎ ((result.status ≡ 1) ⊎ ((result.status ≡ 5) ⊎ (result.status ≡ 6))) }
-    ensures done { (result.status ≡ 0) ⊎ (result.status ≡ 1) → (end : ThreadEnd) × (IsSoloEnd image.now solo_size solo_budget end
-        × ((result.status ≡ status_of end.stop) × Adds (H.written host.old) (H.written host.new) (report_of solo_budget end))) }
-    ensures cut { result.status ≡ 5 → Rose (H.write_faults host.old) (H.write_faults host.new) × (end : ThreadEnd) × (IsSoloEnd image.now solo_size solo_budget end
-        × AddsFront (H.written host.old) (H.written host.new) (report_of solo_budget end)) }
+    ensures done { (result.status ≡ 0) ⊎ (result.status ≡ 1) → (ran : Ran) × (IsSoloEnd image.now solo_size solo_budget ran
+        × ((result.status ≡ status_of ran.end.stop) × Adds (H.written host.old) (H.written host.new) (report_of solo_budget ran))) }
+    ensures cut { result.status ≡ 5 → Rose (H.write_faults host.old) (H.write_faults host.new) × (ran : Ran) × (IsSoloEnd image.now solo_size solo_budget ran
+        × AddsFront (H.written host.old) (H.written host.new) (report_of solo_budget ran)) }
     ensures memory { result.status ≡ 6 → H.written host.new ≡ H.written host.old }
     ensures write_answered { result.status ≢ 5 → H.write_faults host.new ≡ H.write_faults host.old }
     ensures files { H.file host.new ≡ H.file host.old }
     ensures read_faults { H.read_faults host.new ≡ H.read_faults host.old }
     ensures lost { H.lost host.new ≡ H.lost host.old }
 {
-    let Ok(end) = solo(alloc, image, &machine_size(), BUDGET) else {
+    let Ok(ran) = solo(alloc, image, &machine_size(), BUDGET) else {
         return out_of_memory();
     };
-    let Ok(report) = Report::new(alloc, BUDGET, &end) else {
+    let stop = ran.end.stop;
+    let Ok(report) = Report::new(alloc, BUDGET, ran) else {
         return out_of_memory();
     };
     match report.write(host) {
         Ok(()) => Ended {
-            status: status(end.stop),
+            status: status(stop),
         },
         Err(_) => Ended { status: 5 },
     }

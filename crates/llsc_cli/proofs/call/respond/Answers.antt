@@ -22,10 +22,10 @@ pub returns-in-Ok-clause-cut : goal.returns-in-Ok-clause-cut
 returns-in-Ok-clause-cut g c = λ five.
     let cut = c.run.ensures.cut five in (
       cut.0,
-      status_of cut.1.stop,
+      status_of cut.1.end.stop,
       report_of solo_budget cut.1,
       (
-        answers_run c.args.file.now c.machine_size.result c.in-Ok.image (status_of cut.1.stop) cut.1 c.requires c.machine_size.ensures c.in-Ok.ensures.ok.0 c.in-Ok.ensures.ok.1 cut.2.0 refl,
+        answers_run c.args.file.now c.machine_size.result c.in-Ok.image (status_of cut.1.end.stop) cut.1 c.requires c.machine_size.ensures c.in-Ok.ensures.ok.0 c.in-Ok.ensures.ok.1 cut.2.0 refl,
         cut.2.1,
       ),
     )
