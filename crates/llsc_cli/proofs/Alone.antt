@@ -13,11 +13,11 @@ use Rattle.history.specs.declared.entry.Cause.TheVariants.{Absent}
 use Rattle.history.proofs.Marks.{IsAsLarge-accessed}
 use Rattle.a32_instr.specs.declared.outside.Ask.{Ask}
 use Rattle.a32_instr.specs.declared.outside.Ask.TheVariants.{StoreEx}
-use Rattle.llsc_cli.specs.Run.{Pair}
+use Rattle.guest_calls.specs.Run.{Pair}
 use Rattle.llsc_cli.specs.Serving.{made, reply_to}
 use Rattle.llsc_cli.specs.Solo.{pair_of, pairs_of, FailsUnmarked, AllFailUnmarked, IsAlone}
 use Rattle.llsc_cli.proofs.Served.{on_marked}
-use Rattle.llsc_cli.proofs.Decided.{Replies, AreDecided}
+use Rattle.guest_calls.proofs.Decided.{Replies, AreDecided}
 
 -- memory after a list of accesses, whatever was replied
 abbrev pub served : Monitor → List Pair → Monitor

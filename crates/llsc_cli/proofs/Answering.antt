@@ -9,7 +9,7 @@ use Rattle.llsc_base.specs.declared.flat.FlatFault.{FlatFault}
 use Rattle.llsc_base.specs.declared.flat.FlatFault.TheVariants as flat
 use Rattle.llsc_base.specs.Flat.{flat_fault, flat_fault_name, flat_image, flat_byte}
 use Rattle.llsc_base.proofs.Values.{length-values_below}
-use Rattle.llsc_cli.specs.declared.threads.ThreadEnd.{ThreadEnd}
+use Rattle.llsc_cli.specs.declared.threads.Ran.{Ran}
 use Rattle.llsc_cli.specs.Host.{AreBytes, Adds, AddsFront}
 use Rattle.llsc_cli.specs.Report.{report_of}
 use Rattle.llsc_cli.specs.Solo.{IsSoloEnd}
@@ -29,12 +29,12 @@ refusal_is size file fault short is =
     rw test (ap (λ f. option_map flat_fault_name f) is)
 
 -- the answer for a file that is run
-pub answers_run : (size : Numbers) (budget : ℕ) (file : List ℕ) (image : Program) (status : ℕ) (end : ThreadEnd)
+pub answers_run : (size : Numbers) (budget : ℕ) (file : List ℕ) (image : Program) (status : ℕ) (ran : Ran)
     → length file ≤ most_bytes → flat_fault file size ≡ None → image ≡ flat_image file size
-    → IsSoloEnd image size budget end → status ≡ status_of end.stop → Answers size budget file status (report_of budget end)
-answers_run size budget file image status end short clean whole ends ended =
-    let ran : AnswersBy size budget file None status (report_of budget end) = (end, subst (λ i. IsSoloEnd i size budget end) whole ends, ended, refl) in
-    subst (λ r. AnswersBy size budget file r status (report_of budget end)) (sym (refusal_is size file None short clean)) ran
+    → IsSoloEnd image size budget ran → status ≡ status_of ran.end.stop → Answers size budget file status (report_of budget ran)
+answers_run size budget file image status ran short clean whole ends ended =
+    let answer : AnswersBy size budget file None status (report_of budget ran) = (ran, subst (λ i. IsSoloEnd i size budget ran) whole ends, ended, refl) in
+    subst (λ r. AnswersBy size budget file r status (report_of budget ran)) (sym (refusal_is size file None short clean)) answer
 
 -- the answer for a file that is refused
 pub answers_refused : (size : Numbers) (budget : ℕ) (file : List ℕ) (fault : FlatFault)

@@ -8,7 +8,7 @@ use Rattle.history.specs.declared.entry.Entry.{Entry}
 use Rattle.history.specs.declared.entry.Entry.TheVariants as entry
 use Rattle.a32_instr.specs.declared.outside.Ask.{Ask}
 use Rattle.a32_instr.specs.declared.outside.Ask.TheVariants.{Load, LoadEx, Store, StoreEx, Clear}
-use Rattle.llsc_cli.specs.Run.{Pair}
+use Rattle.guest_calls.specs.Run.{Pair}
 use Rattle.llsc_cli.specs.Solo.{pair_of, pairs_of, reads_in, writes_in, fails_in, FailsUnmarked, AllFailUnmarked, IsAlone}
 use Rattle.llsc_cli.proofs.Alone.{access_served, pairs_of-access, pairs_of-mark, one_still}
 

@@ -1,9 +1,9 @@
 pub mod Alone
 pub mod Answering
 pub mod Counts
-pub mod Decided
 pub mod Fronts
-pub mod Listed
+pub mod Loading
+pub mod Logs
 pub mod Loops
 pub mod Served
 pub mod SoloEnds
@@ -12,3 +12,4 @@ pub mod Turns
 pub mod Numbers
 pub mod OptionWords
 pub mod Requests
+pub mod Works

@@ -6,7 +6,7 @@ use Rattle.llsc_base.specs.declared.sizes.SizeFault.{SizeFault}
 use Rattle.llsc_base.specs.Flat.{flat_fault, flat_fault_name, flat_image}
 use Rattle.a32_instr.specs.declared.outside.Stop.{Stop}
 use Rattle.a32_instr.specs.declared.outside.Stop.TheVariants as stop
-use Rattle.llsc_cli.specs.declared.threads.ThreadEnd.{ThreadEnd}
+use Rattle.llsc_cli.specs.declared.threads.Ran.{Ran}
 use Rattle.llsc_cli.specs.Solo.{IsSoloEnd}
 use Rattle.llsc_cli.specs.Report.{report_of}
 use Rattle.llsc_cli.specs.Host.{Rose, AreBytes, AddsFront}
@@ -46,7 +46,7 @@ status_of _ = 1
 abbrev pub AnswersBy : Numbers → ℕ → List ℕ → Option (List ℕ) → ℕ → List ℕ → Type 0
 AnswersBy size budget file (Some name) status text = (status ≡ 4) × (text ≡ refusal_text name)
 AnswersBy size budget file None status text =
-    (end : ThreadEnd) × IsSoloEnd (flat_image file size) size budget end × (status ≡ status_of end.stop) × (text ≡ report_of budget end)
+    (ran : Ran) × IsSoloEnd (flat_image file size) size budget ran × (status ≡ status_of ran.end.stop) × (text ≡ report_of budget ran)
 
 -- the status and the text for the bytes of the file
 abbrev pub Answers : Numbers → ℕ → List ℕ → ℕ → List ℕ → Type 0

@@ -2,7 +2,6 @@ pub mod Host
 pub mod MemoryHost
 pub mod MemoryHostInside
 pub mod Request
-pub mod Run
 pub mod Serving
 pub mod Solo
 pub mod Working

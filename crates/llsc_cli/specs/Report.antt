@@ -1,9 +1,10 @@
 -- The report of a run of one thread.
-use Rattle.std.specs.Prelude.{ℕ, ◌+◌, ◌/◌, ◌%◌, nat_lt, if◌then◌else◌, List, [], ◌∷◌, ◌++◌, codes}
+use Rattle.std.specs.Prelude.{ℕ, ◌+◌, ◌/◌, ◌%◌, nat_lt, if◌then◌else◌, List, [], ◌∷◌, ◌++◌, length, codes}
 use Rattle.std.specs.Fmt.{decimal}
 use Rattle.a32_instr.specs.declared.outside.Stop.{Stop}
 use Rattle.a32_instr.specs.declared.outside.Stop.TheVariants.{Exit, Undefined, Unpredictable, Alignment, Outside, ReadOnly, Thumb, Budget, TagLimit}
 use Rattle.llsc_cli.specs.declared.threads.ThreadEnd.{ThreadEnd}
+use Rattle.llsc_cli.specs.declared.threads.Ran.{Ran}
 
 -- a hexadecimal digit in lower case
 abbrev pub hex_digit : ℕ → ℕ
@@ -29,16 +30,16 @@ stop_text budget (Thumb pc) = codes "thumb " ++ address_text pc
 stop_text budget Budget = codes "budget " ++ decimal budget
 stop_text budget (TagLimit addr) = codes "taglimit " ++ address_text addr
 
--- the line of a thread, whose output has no bytes
-abbrev pub head_line : ℕ → ℕ → ThreadEnd → List ℕ
-head_line thread budget end =
-    codes "thread " ++ (decimal thread ++ (codes " stop " ++ (stop_text budget end.stop ++ (codes " steps " ++ (decimal end.steps ++ codes " out 0\n")))))
+-- the line of a thread, whose output has so many bytes
+abbrev pub head_line : ℕ → ℕ → ThreadEnd → ℕ → List ℕ
+head_line thread budget end count =
+    codes "thread " ++ (decimal thread ++ (codes " stop " ++ (stop_text budget end.stop ++ (codes " steps " ++ (decimal end.steps ++ (codes " out " ++ (decimal count ++ codes "\n")))))))
 
 -- the line of the counts
 abbrev pub last_line : ThreadEnd → List ℕ
 last_line end =
     codes "reads " ++ (decimal end.reads ++ (codes " writes " ++ (decimal end.writes ++ (codes " fails " ++ (decimal end.fails ++ codes "\n")))))
 
--- the report of thread 0: its line, its output on a line of its own, and the counts
-abbrev pub report_of : ℕ → ThreadEnd → List ℕ
-report_of budget end = head_line 0 budget end ++ (codes "\n" ++ last_line end)
+-- the report of thread 0: its line, its output and the end of that line, and the counts
+abbrev pub report_of : ℕ → Ran → List ℕ
+report_of budget ran = head_line 0 budget ran.end (length ran.output) ++ (ran.output ++ (codes "\n" ++ last_line ran.end))

@@ -3,4 +3,4 @@ use Rattle.std.specs.Prelude.{ℕ, List, ◌++◌, codes, string_bytes}
 use Rattle.llsc_cli.specs.declared.report.Report.{Report}
 
 abbrev pub text_of : Report → List ℕ
-text_of report = string_bytes report.head ++ (codes "\n" ++ string_bytes report.last)
+text_of report = string_bytes report.head ++ (report.output ++ (codes "\n" ++ string_bytes report.last))

@@ -10,9 +10,10 @@ use Rattle.history.specs.declared.entry.Entry.{Entry}
 use Rattle.history.specs.declared.entry.Entry.TheVariants as entry
 use Rattle.a32_instr.specs.declared.outside.Ask.TheVariants.{Load, LoadEx, Store, StoreEx, Clear}
 use Rattle.a32_step.specs.Machine.{Machine, start_of}
-use Rattle.llsc_cli.specs.Run.{Pair, Reaches, Ends}
+use Rattle.guest_calls.specs.Run.{Pair, Reaches, Ends}
 use Rattle.llsc_cli.specs.declared.threads.Thread.{Thread}
 use Rattle.llsc_cli.specs.declared.threads.ThreadEnd.{ThreadEnd}
+use Rattle.llsc_cli.specs.declared.threads.Ran.{Ran}
 
 -- The accesses of a history as what a thread asked and what was replied: a load has its value, a store 0, and a
 -- store-exclusive 0 where it stored and 1 where it failed. (A mark of the history is no access.)
@@ -66,20 +67,20 @@ pub record IsAlone (bytes : List ℕ) (history : List Entry) : Type 0 where
   pub legal : IsArmLegal (at_rest bytes 1) history
   pub decided : AllFailUnmarked (at_rest bytes 1) history
 
--- a thread under way: the history that brought it here, its memory and its counts
+-- a thread under way: the history that brought it here, its memory, its output and its counts
 pub record IsUnderWay (program : Program) (budget : ℕ) (start : Machine) (first : List ℕ) (thread : Thread) : Type 0 where
   pub history : List Entry
-  pub reached : Reaches program budget start (pairs_of 0 history) thread.cpu thread.steps
+  pub reached : Reaches program budget start (pairs_of 0 history) thread.cpu thread.steps thread.output
   pub alone : IsAlone first history
   pub memory : thread.memory ≡ monitor_after (at_rest first 1) history
   pub reads : thread.reads ≡ reads_of history
   pub writes : thread.writes ≡ writes_of history
   pub fails : thread.fails ≡ fails_of history
 
--- an end of a thread and its counts, where memory began as these bytes
-pub record IsEnd (program : Program) (budget : ℕ) (start : Machine) (first : List ℕ) (end : ThreadEnd) : Type 0 where
+-- an end of a thread, its counts and its output, where memory began as these bytes
+pub record IsEnd (program : Program) (budget : ℕ) (start : Machine) (first : List ℕ) (end : ThreadEnd) (output : List ℕ) : Type 0 where
   pub history : List Entry
-  pub ends : Ends program budget start (pairs_of 0 history) end.stop end.steps
+  pub ends : Ends program budget start (pairs_of 0 history) end.stop end.steps output
   pub alone : IsAlone first history
   pub reads : end.reads ≡ reads_of history
   pub writes : end.writes ≡ writes_of history
@@ -89,6 +90,6 @@ pub record IsEnd (program : Program) (budget : ℕ) (start : Machine) (first : L
 abbrev pub solo_start : Program → Numbers → Machine
 solo_start program size = start_of program.entry 0 1 (room_of size + 4096)
 
--- the end of a program's one thread
-abbrev pub IsSoloEnd : Program → Numbers → ℕ → ThreadEnd → Type 0
-IsSoloEnd program size budget end = IsEnd program budget (solo_start program size) program.bytes end
+-- the end of a program's one thread, with its output
+abbrev pub IsSoloEnd : Program → Numbers → ℕ → Ran → Type 0
+IsSoloEnd program size budget ran = IsEnd program budget (solo_start program size) program.bytes ran.end ran.output

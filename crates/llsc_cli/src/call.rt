@@ -11,7 +11,7 @@ ghost use Rattle.llsc_cli.specs.Reads.{CutAfter, IsAnswered, IsCutFile, IsAnswer
 
 use crate::host::{Host, ReadFault};
 use crate::report::Report;
-use crate::threads::{ThreadEnd, solo};
+use crate::threads::{Ran, solo};
 use crate::words::{SoloRequest, parse};
 use a32_step::Stop;
 use llsc_base::{FlatFault, Image, MachineSize};
@@ -97,25 +97,26 @@ fn run<H: Host>(
     requires budget { budget ≤ 1000000000000 }
     requires whole { length image.now.bytes ≡ size.now.mem }
     ensures ended { (result.status ≡ 0) ⊎ ((result.status ≡ 1) ⊎ ((result.status ≡ 5) ⊎ (result.status ≡ 6))) }
-    ensures done { (result.status ≡ 0) ⊎ (result.status ≡ 1) → (end : ThreadEnd) × (IsSoloEnd image.now size.now budget end
-        × ((result.status ≡ status_of end.stop) × Adds (H.written host.old) (H.written host.new) (report_of budget end))) }
-    ensures cut { result.status ≡ 5 → Rose (H.write_faults host.old) (H.write_faults host.new) × (end : ThreadEnd) × (IsSoloEnd image.now size.now budget end
-        × AddsFront (H.written host.old) (H.written host.new) (report_of budget end)) }
+    ensures done { (result.status ≡ 0) ⊎ (result.status ≡ 1) → (ran : Ran) × (IsSoloEnd image.now size.now budget ran
+        × ((result.status ≡ status_of ran.end.stop) × Adds (H.written host.old) (H.written host.new) (report_of budget ran))) }
+    ensures cut { result.status ≡ 5 → Rose (H.write_faults host.old) (H.write_faults host.new) × (ran : Ran) × (IsSoloEnd image.now size.now budget ran
+        × AddsFront (H.written host.old) (H.written host.new) (report_of budget ran)) }
     ensures memory { result.status ≡ 6 → H.written host.new ≡ H.written host.old }
     ensures write_answered { result.status ≢ 5 → H.write_faults host.new ≡ H.write_faults host.old }
     ensures files { H.file host.new ≡ H.file host.old }
     ensures read_faults { H.read_faults host.new ≡ H.read_faults host.old }
     ensures lost { H.lost host.new ≡ H.lost host.old }
 {
-    let Ok(end) = solo(alloc, image, size, budget) else {
+    let Ok(ran) = solo(alloc, image, size, budget) else {
         return out_of_memory();
     };
-    let Ok(report) = Report::new(alloc, budget, &end) else {
+    let stop = ran.end.stop;
+    let Ok(report) = Report::new(alloc, budget, ran) else {
         return out_of_memory();
     };
     match report.write(host) {
         Ok(()) => Ended {
-            status: status(end.stop),
+            status: status(stop),
         },
         Err(_) => Ended { status: 5 },
     }

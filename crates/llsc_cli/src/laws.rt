@@ -1,25 +1,17 @@
-//! Laws of runs, each a function of no effect whose contract is the law.
+//! The law of runs on memory, a function of no effect whose contract is the law.
 ghost use Rattle.std.specs.Prelude.{◌≡◌, ℕ, List};
 ghost use Rattle.llsc_base.specs.Images.{Program};
 ghost use Rattle.llsc_base.specs.Sizes.{Numbers};
-ghost use Rattle.a32_instr.specs.declared.outside.Stop.{Stop};
 ghost use Rattle.a32_step.specs.Machine.{Machine};
-ghost use Rattle.llsc_cli.specs.Run.{Pair, Ends};
 ghost use Rattle.llsc_cli.specs.Solo.{IsEnd, IsSoloEnd};
 ghost use Rattle.llsc_cli.specs.declared.threads.ThreadEnd.{ThreadEnd};
+ghost use Rattle.llsc_cli.specs.declared.threads.Ran.{Ran};
 
-/// A guest thread that starts so, with this budget and these accesses and replies, has one end at most.
-pub fn runs_have_one_end()
-    ensures { (program : Program) (budget : ℕ) (start : Machine) (pairs : List Pair) (stop other : Stop) (steps count : ℕ) →
-        Ends program budget start pairs stop steps → Ends program budget start pairs other count →
-        (stop ≡ other) × (steps ≡ count) }
-{}
-
-/// A guest thread alone has one end at most: its stop, its steps, and how many loads, stores and failed
+/// A guest thread alone has one end at most: its stop, its steps, its output, and how many loads, stores and failed
 /// store-exclusives it made follow from its program, its budget, its start and its memory at first.
 pub fn threads_alone_have_one_end()
-    ensures any_start { (program : Program) (budget : ℕ) (start : Machine) (first : List ℕ) (end other : ThreadEnd) →
-        IsEnd program budget start first end → IsEnd program budget start first other → end ≡ other }
-    ensures solo { (program : Program) (size : Numbers) (budget : ℕ) (end other : ThreadEnd) →
-        IsSoloEnd program size budget end → IsSoloEnd program size budget other → end ≡ other }
+    ensures any_start { (program : Program) (budget : ℕ) (start : Machine) (first : List ℕ) (end other : ThreadEnd) (output text : List ℕ) →
+        IsEnd program budget start first end output → IsEnd program budget start first other text → (end ≡ other) × (output ≡ text) }
+    ensures solo { (program : Program) (size : Numbers) (budget : ℕ) (ran other : Ran) →
+        IsSoloEnd program size budget ran → IsSoloEnd program size budget other → ran ≡ other }
 {}

@@ -5,8 +5,9 @@ ghost use Rattle.llsc_cli.specs.Report.{hex_digit, head_line, last_line, report_
 ghost use Rattle.llsc_cli.specs.ReportText.{text_of};
 
 use crate::host::{Failed, Host};
-use crate::threads::ThreadEnd;
+use crate::threads::{Ran, ThreadEnd};
 use a32_step::Stop;
+use guest_calls::Output;
 use std::alloc::{AllocError, Global};
 use std::fmt;
 
@@ -102,15 +103,24 @@ impl fmt::Display for StopText {
     }
 }
 
-/// The line of a thread, which has no output.
-fn head(alloc: Global, thread: u32, budget: u64, end: &ThreadEnd) -> Result<String, AllocError>
-    ensures { IfOk result (λ line. string_bytes line ≡ head_line thread budget end.now) }
+/// The line of a thread, whose output has so many bytes.
+fn head(
+    alloc: Global,
+    thread: u32,
+    budget: u64,
+    end: &ThreadEnd,
+    count: usize,
+) -> Result<String, AllocError>
+    ensures { IfOk result (λ line. string_bytes line ≡ head_line thread budget end.now count) }
 {
     let stop = StopText {
         stop: end.stop,
         budget,
     };
-    format!(in alloc; "thread {thread} stop {stop} steps {} out 0\n", end.steps)
+    format!(in alloc;
+        "thread {thread} stop {stop} steps {} out {count}\n",
+        end.steps
+    )
 }
 
 /// The line of the counts.
@@ -127,21 +137,24 @@ fn last(alloc: Global, end: &ThreadEnd) -> Result<String, AllocError>
 #[derive(Drop)]
 pub struct Report {
     head: String,
+    output: Output,
     last: String,
 }
 
 impl Report {
     /// The report of thread 0 with this budget.
-    pub fn new(alloc: Global, budget: u64, end: &ThreadEnd) -> Result<Report, AllocError>
-        ensures { IfOk result (λ report. text_of report ≡ report_of budget end.now) }
+    pub fn new(alloc: Global, budget: u64, ran: Ran) -> Result<Report, AllocError>
+        ensures { IfOk result (λ report. text_of report ≡ report_of budget ran) }
     {
         Ok(Report {
-            head: head(alloc, 0, budget, end)?,
-            last: last(alloc, end)?,
+            head: head(alloc, 0, budget, &ran.end, ran.output.bytes().len())?,
+            last: last(alloc, &ran.end)?,
+            output: ran.output,
         })
     }
 
-    /// Writes the report: the thread's line, the end of its output's line, and the counts, one write each.
+    /// Writes the report: the thread's line, its output if there is any, the end of the output's line, and the counts,
+    /// one write each.
     #[tactic(auto, using(crate::proofs::Fronts::adds_both, crate::proofs::Fronts::front_less, crate::proofs::Fronts::front_more))]
     pub fn write<H: Host>(&self, host: &mut H) -> Result<(), Failed>
         ensures whole { OnOk result (Adds (H.written host.old) (H.written host.new) (text_of self.now)) }
@@ -153,9 +166,28 @@ impl Report {
         ensures lost { H.lost host.new ≡ H.lost host.old }
     {
         host.write(self.head.as_bytes())?;
-        write_both(host, b"\n", self.last.as_bytes())?;
+        write_below(host, self.output.bytes(), self.last.as_bytes())?;
         Ok(())
     }
+}
+
+/// Writes what stands below a thread's line: its output if there is any, the end of that line, and the counts.
+#[tactic(auto, using(crate::proofs::Fronts::adds_both, crate::proofs::Fronts::front_less, crate::proofs::Fronts::front_more))]
+fn write_below<H: Host>(host: &mut H, output: &[u8], last: &[u8]) -> Result<(), Failed>
+    ensures whole { OnOk result (Adds (H.written host.old) (H.written host.new) (output.now ++ (codes "\n" ++ last.now))) }
+    ensures front { OnErr result (AddsFront (H.written host.old) (H.written host.new) (output.now ++ (codes "\n" ++ last.now))) }
+    ensures cause { OnErr result (Rose (H.write_faults host.old) (H.write_faults host.new)) }
+    ensures other { OnOk result (H.write_faults host.new ≡ H.write_faults host.old) }
+    ensures files { H.file host.new ≡ H.file host.old }
+    ensures read_faults { H.read_faults host.new ≡ H.read_faults host.old }
+    ensures lost { H.lost host.new ≡ H.lost host.old }
+{
+    if output.is_empty() {
+        return write_both(host, b"\n", last);
+    }
+    host.write(output)?;
+    write_both(host, b"\n", last)?;
+    Ok(())
 }
 
 /// Two writes, one after the other.

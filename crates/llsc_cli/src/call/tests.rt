@@ -4,6 +4,8 @@ use crate::memory_host::MemoryHost;
 use std::alloc::AllocError;
 use std::test::Fail;
 
+mod prints;
+
 // A program that leaves with code 0 in three steps.
 const LEAVE: &[u32] = &[0xe3a0_0000, 0xe3a0_7001, 0xef00_0000];
 

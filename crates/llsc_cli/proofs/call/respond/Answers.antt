@@ -22,10 +22,10 @@ pub returns-in-Ok-clause-cut : goal.returns-in-Ok-clause-cut
 returns-in-Ok-clause-cut g c = λ five.
     let cut = c.run.ensures.cut five in (
       cut.0,
-      status_of cut.1.stop,
+      status_of cut.1.end.stop,
       report_of c.args.budget cut.1,
       (
-        answers_run c.args.size.now c.args.budget c.args.file.now c.in-Ok.image (status_of cut.1.stop) cut.1 c.requires.most c.in-Ok.ensures.ok.0 c.in-Ok.ensures.ok.1 cut.2.0 refl,
+        answers_run c.args.size.now c.args.budget c.args.file.now c.in-Ok.image (status_of cut.1.end.stop) cut.1 c.requires.most c.in-Ok.ensures.ok.0 c.in-Ok.ensures.ok.1 cut.2.0 refl,
         cut.2.1,
       ),
     )

@@ -4,8 +4,8 @@ use Rattle.llsc_base.specs.Images.{Program}
 use Rattle.a32_instr.specs.declared.outside.Ask.{Ask}
 use Rattle.a32_instr.specs.declared.outside.Stop.{Stop}
 use Rattle.a32_step.specs.Machine.{Machine}
-use Rattle.llsc_cli.specs.Run.{Pair, Ends}
-use Rattle.llsc_cli.proofs.Decided.{AreDecided, one_end}
+use Rattle.guest_calls.specs.Run.{Pair, Ends}
+use Rattle.guest_calls.proofs.Decided.{AreDecided, one_end}
 
 -- the reply that a list has after so long a beginning
 abbrev reply_after : List Pair → List Pair → Option ℕ
@@ -23,8 +23,10 @@ list_decides : (pairs : List Pair) → AreDecided (λ front ask. reply_after pai
 list_decides pairs front back ask reply parts = ap (λ l. reply_after l front) parts ∙ reply_found front back ask reply
 
 -- two ends of one list are the same
-pub one_end_of_list : (program : Program) (budget : ℕ) (start : Machine) (pairs : List Pair) (stop other : Stop) (steps count : ℕ)
-    → Ends program budget start pairs stop steps → Ends program budget start pairs other count → (stop ≡ other) × (steps ≡ count)
-one_end_of_list program budget start pairs stop other steps count ends ends_too =
-    let same = one_end (λ front ask. reply_after pairs front) program budget start pairs pairs stop other steps count ends (list_decides pairs) ends_too (list_decides pairs) in
-    (same.1, same.2)
+pub one_end_of_list : (program : Program) (budget : ℕ) (start : Machine) (pairs : List Pair) (stop other : Stop) (steps count : ℕ) (output text : List ℕ)
+    → Ends program budget start pairs stop steps output → Ends program budget start pairs other count text → (stop ≡ other) × (steps ≡ count) × (output ≡ text)
+one_end_of_list program budget start pairs stop other steps count output text ends ends_too =
+    let same =
+    one_end (λ front ask. reply_after pairs front) program budget start pairs pairs stop other steps count output text
+    ends (list_decides pairs) ends_too (list_decides pairs) in
+    (same.1, same.2, same.3)

@@ -1,0 +1,4 @@
+pub mod Calls
+pub mod OutputInside
+pub mod Run
+pub mod Steps

@@ -1,0 +1,95 @@
+//! The table of guest calls.
+ghost use Rattle.std.specs.Prelude.{◌≡◌, length};
+ghost use Rattle.a32_step.specs.Machine.{IsCalling};
+ghost use Rattle.guest_calls.specs.Calls.{call_effect, write_effect};
+ghost use Rattle.guest_calls.specs.Run.{returned};
+ghost use Rattle.guest_calls.specs.Steps.{step_of, after_call, HaveRoom};
+
+use crate::output::Output;
+use a32_step::{CallAsk, Cpu};
+
+/// The number of a call, in r7.
+const EXIT: u32 = 1;
+
+const WRITE: u32 = 4;
+
+const SCHED_YIELD: u32 = 158;
+
+/// Errors as answers: minus 38, minus 9, minus 14 and minus 28.
+const NO_CALL: u32 = 0xffff_ffda;
+
+const BAD_DESCRIPTOR: u32 = 0xffff_fff7;
+
+const BAD_ADDRESS: u32 = 0xffff_fff2;
+
+const NO_ROOM: u32 = 0xffff_ffe4;
+
+/// What becomes of a guest call.
+#[derive(Clone, Copy, Debug, PartialEq, Eq)]
+pub enum CallStep {
+    /// The thread ends with this code.
+    Exit(u8),
+    /// r0 has the answer, and the thread goes on.
+    Answered,
+    /// So many bytes of memory from an address up are to be loaded and written; the answer is then their number.
+    Bytes { from: u32, len: u32 },
+}
+
+/// Makes the guest call that a core waits for, where memory has `mem` bytes and the thread wrote `out` before.
+///
+/// The core is answered where the step is [`CallStep::Answered`]; at [`CallStep::Bytes`] the caller loads the bytes, adds
+/// them to the output, and answers the core by their number.
+pub fn guest_call(cpu: &mut Cpu, ask: &CallAsk, mem: u32, out: &Output) -> CallStep
+    requires { IsCalling cpu.old.phase }
+    ensures step { result ≡ step_of (call_effect ask.now mem (length out.now)) }
+    ensures cpu { cpu.new ≡ after_call cpu.old (call_effect ask.now mem (length out.now)) }
+    ensures room { HaveRoom mem (length out.now) result }
+{
+    if ask.imm != 0 {
+        return answered(cpu, NO_CALL);
+    }
+    match ask.number {
+        EXIT => CallStep::Exit((ask.a & 0xff) as u8),
+        WRITE => write(cpu, ask, mem, out),
+        SCHED_YIELD => answered(cpu, 0),
+        _ => answered(cpu, NO_CALL),
+    }
+}
+
+/// The call is answered.
+fn answered(cpu: &mut Cpu, value: u32) -> CallStep
+    requires { IsCalling cpu.old.phase }
+    ensures step { result ≡ CallStep.Answered }
+    ensures cpu { cpu.new ≡ returned cpu.old value }
+{
+    cpu.answer(value);
+    CallStep::Answered
+}
+
+/// Makes a write: r0 is the descriptor, r1 the address of the bytes, and r2 their number.
+fn write(cpu: &mut Cpu, ask: &CallAsk, mem: u32, out: &Output) -> CallStep
+    requires { IsCalling cpu.old.phase }
+    ensures step { result ≡ step_of (write_effect ask.now.a ask.now.b ask.now.c mem (length out.now)) }
+    ensures cpu { cpu.new ≡ after_call cpu.old (write_effect ask.now.a ask.now.b ask.now.c mem (length out.now)) }
+    ensures room { HaveRoom mem (length out.now) result }
+{
+    if ask.a != 1 && ask.a != 2 {
+        return answered(cpu, BAD_DESCRIPTOR);
+    }
+    if ask.c == 0 {
+        return answered(cpu, 0);
+    }
+    if u64::from(ask.b) + u64::from(ask.c) > u64::from(mem) {
+        return answered(cpu, BAD_ADDRESS);
+    }
+    if ask.c > out.room_left() {
+        return answered(cpu, NO_ROOM);
+    }
+    CallStep::Bytes {
+        from: ask.b,
+        len: ask.c,
+    }
+}
+
+#[cfg(test)]
+mod tests;
