@@ -39,11 +39,12 @@ pub enum CallStep {
 ///
 /// The core is answered where the step is [`CallStep::Answered`]; at [`CallStep::Bytes`] the caller loads the bytes, adds
 /// them to the output, and answers the core by their number.
-pub fn guest_call(cpu: &mut Cpu, ask: &CallAsk, mem: u32, out: &Output) -> CallStep
+pub fn guest_call(cpu: &mut Cpu, ask: &CallAsk, mem: u32, out: &mut Output) -> CallStep
     requires { IsCalling cpu.old.phase }
-    ensures step { result ≡ step_of (call_effect ask.now mem (length out.now)) }
-    ensures cpu { cpu.new ≡ after_call cpu.old (call_effect ask.now mem (length out.now)) }
-    ensures room { HaveRoom mem (length out.now) result }
+    ensures step { result ≡ step_of (call_effect ask.now mem (length out.old)) }
+    ensures cpu { cpu.new ≡ after_call cpu.old (call_effect ask.now mem (length out.old)) }
+    ensures out { out.new ≡ out.old }
+    ensures room { HaveRoom mem (length out.old) result }
 {
     if ask.imm != 0 {
         return answered(cpu, NO_CALL);

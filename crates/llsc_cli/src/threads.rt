@@ -216,7 +216,7 @@ impl Thread {
         ensures ends { IfSome result (λ end. Leaves (effect_of_call image.now call (length self.old.output)) self.old self.new end) }
     {
         let mem = image.bytes().len() as u32;
-        match guest_call(&mut self.cpu, &call, mem, &self.output) {
+        match guest_call(&mut self.cpu, &call, mem, &mut self.output) {
             CallStep::Exit(code) => {
                 self.steps += 1;
                 Some(self.end(Stop::Exit(code)))

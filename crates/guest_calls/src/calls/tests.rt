@@ -27,7 +27,8 @@ fn made(alloc: Global, ask: CallAsk, count: u32, mem: u32) -> Result<(CallStep, 
     let Wanted::Call(_) = cpu.next(&image) else {
         return Err(Fail::from("the program makes no call"));
     };
-    let step = guest_call(&mut cpu, &ask, mem, &written(alloc, count)?);
+    let mut output = written(alloc, count)?;
+    let step = guest_call(&mut cpu, &ask, mem, &mut output);
     Ok((step, cpu.reg(0)))
 }
 
