@@ -348,7 +348,7 @@ impl Cpu {
                     rt,
                     moved,
                 };
-                self.word(*instr, image, access)
+                self.word(instr, image, access)
             }
             Instr::Half {
                 kind,
@@ -366,7 +366,7 @@ impl Cpu {
                     rt,
                     moved,
                 };
-                self.half(*instr, image, access)
+                self.half(instr, image, access)
             }
             Instr::Block {
                 load,
@@ -385,20 +385,20 @@ impl Cpu {
                     rn,
                     list,
                 };
-                self.block(*instr, image, transfer)
+                self.block(instr, image, transfer)
             }
             Instr::Branch { link, words, .. } => self.branch(link, words),
             Instr::BranchReg { link, rm, .. } => self.branch_by_register(link, rm),
             Instr::Svc { imm, .. } => self.call(imm),
-            Instr::LoadEx { size, rn, rt, .. } => self.load_exclusive(*instr, image, size, rn, rt),
+            Instr::LoadEx { size, rn, rt, .. } => self.load_exclusive(instr, image, size, rn, rt),
             Instr::StoreEx {
                 size,
                 rn,
                 rd,
                 rt,
                 ..
-            } => { self.store_exclusive(*instr, image, size, rn, rd, rt) }
-            Instr::Clrex => self.clear_exclusive(*instr),
+            } => { self.store_exclusive(instr, image, size, rn, rd, rt) }
+            Instr::Clrex => self.clear_exclusive(instr),
         }
     }
 }

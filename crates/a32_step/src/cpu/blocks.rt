@@ -113,9 +113,9 @@ impl Cpu {
     }
 
     /// LDM and STM (DDI 0406C A8.8.58 to A8.8.61, A8.8.199 to A8.8.202).
-    pub(super) fn block(&mut self, instr: Instr, image: &Image, transfer: Transfer) -> Wanted
+    pub(super) fn block(&mut self, instr: &Instr, image: &Image, transfer: Transfer) -> Wanted
         ensures wanted { result ≡ wanted_of (block image.now transfer.load transfer.before transfer.up transfer.wback transfer.rn transfer.list self.old.replies self.old.state) }
-        ensures state { self.new ≡ moved_on instr self.old (block image.now transfer.load transfer.before transfer.up transfer.wback transfer.rn transfer.list self.old.replies self.old.state) }
+        ensures state { self.new ≡ moved_on instr.now self.old (block image.now transfer.load transfer.before transfer.up transfer.wback transfer.rn transfer.list self.old.replies self.old.state) }
     {
         let count = count_of(transfer.list);
         let lowest = lowest_address(
@@ -130,7 +130,7 @@ impl Cpu {
         let replies = self.replies.count();
         if replies < count as usize {
             let ask = self.block_ask(transfer, lowest, replies);
-            self.phase = Phase::Awaiting(instr, ask);
+            self.phase = Phase::Awaiting(*instr, ask);
             return Wanted::Access(ask);
         }
         if transfer.load {

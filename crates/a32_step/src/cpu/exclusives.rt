@@ -44,14 +44,14 @@ impl Cpu {
     /// LDREX, LDREXB, LDREXH and LDREXD (DDI 0406C A8.8.75 to A8.8.78).
     pub(super) fn load_exclusive(
         &mut self,
-        instr: Instr,
+        instr: &Instr,
         image: &Image,
         size: Size,
         rn: Reg,
         rt: Reg,
     ) -> Wanted
         ensures wanted { result ≡ wanted_of (load_exclusive size rn rt image.now self.old.replies self.old.state) }
-        ensures state { self.new ≡ moved_on instr self.old (load_exclusive size rn rt image.now self.old.replies self.old.state) }
+        ensures state { self.new ≡ moved_on instr.now self.old (load_exclusive size rn rt image.now self.old.replies self.old.state) }
     {
         if let Some(reply) = self.replies.first() {
             self.set_loaded(size, rt, reply);
@@ -67,7 +67,7 @@ impl Cpu {
     /// STREX, STREXB, STREXH and STREXD (DDI 0406C A8.8.212 to A8.8.215).
     pub(super) fn store_exclusive(
         &mut self,
-        instr: Instr,
+        instr: &Instr,
         image: &Image,
         size: Size,
         rn: Reg,
@@ -75,7 +75,7 @@ impl Cpu {
         rt: Reg,
     ) -> Wanted
         ensures wanted { result ≡ wanted_of (store_exclusive size rn rd rt image.now self.old.replies self.old.state) }
-        ensures state { self.new ≡ moved_on instr self.old (store_exclusive size rn rd rt image.now self.old.replies self.old.state) }
+        ensures state { self.new ≡ moved_on instr.now self.old (store_exclusive size rn rd rt image.now self.old.replies self.old.state) }
     {
         if let Some(reply) = self.replies.first() {
             self.set(rd, (reply & 0xffff_ffff) as u32);
@@ -90,14 +90,14 @@ impl Cpu {
     }
 
     /// CLREX (DDI 0406C A8.8.32).
-    pub(super) fn clear_exclusive(&mut self, instr: Instr) -> Wanted
+    pub(super) fn clear_exclusive(&mut self, instr: &Instr) -> Wanted
         ensures wanted { result ≡ wanted_of (clear_exclusive self.old.replies self.old.state) }
-        ensures state { self.new ≡ moved_on instr self.old (clear_exclusive self.old.replies self.old.state) }
+        ensures state { self.new ≡ moved_on instr.now self.old (clear_exclusive self.old.replies self.old.state) }
     {
         if self.replies.first().is_some() {
             return self.advance();
         }
-        self.phase = Phase::Awaiting(instr, Ask::Clear);
+        self.phase = Phase::Awaiting(*instr, Ask::Clear);
         Wanted::Access(Ask::Clear)
     }
 }

@@ -59,7 +59,7 @@ impl Cpu {
     /// An access that is asked for where nothing bars it.
     pub(super) fn ask(
         &mut self,
-        instr: Instr,
+        instr: &Instr,
         image: &Image,
         place: Place,
         store: bool,
@@ -67,12 +67,12 @@ impl Cpu {
     ) -> Wanted
         requires { self.old.replies ≡ [] }
         ensures wanted { result ≡ wanted_of (asks_unless (bar_of image.now place store) place.addr ask) }
-        ensures state { self.new ≡ moved_on instr self.old (asks_unless (bar_of image.now place store) place.addr ask) }
+        ensures state { self.new ≡ moved_on instr.now self.old (asks_unless (bar_of image.now place store) place.addr ask) }
     {
         if let Some(bar) = image.test(place, store) {
             return self.stop(barred(bar, place.addr));
         }
-        self.phase = Phase::Awaiting(instr, ask);
+        self.phase = Phase::Awaiting(*instr, ask);
         Wanted::Access(ask)
     }
 
@@ -141,14 +141,14 @@ impl Cpu {
     /// A load: its place is asked for, and then the reply is written.
     fn load(
         &mut self,
-        instr: Instr,
+        instr: &Instr,
         image: &Image,
         place: Place,
         back: WriteBack,
         rt: Reg,
     ) -> Wanted
         ensures wanted { result ≡ wanted_of (loads image.now place (written_back back.index back.rn back.moved self.old.state) rt self.old.replies self.old.state) }
-        ensures state { self.new ≡ moved_on instr self.old (loads image.now place (written_back back.index back.rn back.moved self.old.state) rt self.old.replies self.old.state) }
+        ensures state { self.new ≡ moved_on instr.now self.old (loads image.now place (written_back back.index back.rn back.moved self.old.state) rt self.old.replies self.old.state) }
     {
         if let Some(reply) = self.replies.first() {
             return self.finish_load(back, rt, (reply & 0xffff_ffff) as u32);
@@ -159,14 +159,14 @@ impl Cpu {
     /// A store: its place is asked for with the value, and then the base is written back.
     fn store(
         &mut self,
-        instr: Instr,
+        instr: &Instr,
         image: &Image,
         place: Place,
         back: WriteBack,
         value: u64,
     ) -> Wanted
         ensures wanted { result ≡ wanted_of (stores image.now place (written_back back.index back.rn back.moved self.old.state) value self.old.replies self.old.state) }
-        ensures state { self.new ≡ moved_on instr self.old (stores image.now place (written_back back.index back.rn back.moved self.old.state) value self.old.replies self.old.state) }
+        ensures state { self.new ≡ moved_on instr.now self.old (stores image.now place (written_back back.index back.rn back.moved self.old.state) value self.old.replies self.old.state) }
     {
         if self.replies.first().is_some() {
             self.write_back(back.index, back.rn, back.moved);
@@ -176,9 +176,9 @@ impl Cpu {
     }
 
     /// LDR, LDRB, STR and STRB (DDI 0406C A5.3).
-    pub(super) fn word(&mut self, instr: Instr, image: &Image, access: Access) -> Wanted
+    pub(super) fn word(&mut self, instr: &Instr, image: &Image, access: Access) -> Wanted
         ensures wanted { result ≡ wanted_of (word_at image.now access.load access.byte access.index access.rn access.rt access.moved self.old.replies self.old.state) }
-        ensures state { self.new ≡ moved_on instr self.old (word_at image.now access.load access.byte access.index access.rn access.rt access.moved self.old.replies self.old.state) }
+        ensures state { self.new ≡ moved_on instr.now self.old (word_at image.now access.load access.byte access.index access.rn access.rt access.moved self.old.replies self.old.state) }
     {
         let back = WriteBack {
             index: access.index,
@@ -199,7 +199,7 @@ impl Cpu {
     /// A load of a halfword or a signed byte: its place is asked for, and then the reply is written as 32 bits.
     fn load_half(
         &mut self,
-        instr: Instr,
+        instr: &Instr,
         image: &Image,
         kind: HalfKind,
         place: Place,
@@ -207,7 +207,7 @@ impl Cpu {
         rt: Reg,
     ) -> Wanted
         ensures wanted { result ≡ wanted_of (loads_half kind image.now place (written_back back.index back.rn back.moved self.old.state) rt self.old.replies self.old.state) }
-        ensures state { self.new ≡ moved_on instr self.old (loads_half kind image.now place (written_back back.index back.rn back.moved self.old.state) rt self.old.replies self.old.state) }
+        ensures state { self.new ≡ moved_on instr.now self.old (loads_half kind image.now place (written_back back.index back.rn back.moved self.old.state) rt self.old.replies self.old.state) }
     {
         if let Some(reply) = self.replies.first() {
             return self.finish_load(back, rt, loaded_half(kind, reply));
@@ -216,9 +216,9 @@ impl Cpu {
     }
 
     /// LDRH, LDRSB, LDRSH and STRH (DDI 0406C A5.2.8).
-    pub(super) fn half(&mut self, instr: Instr, image: &Image, access: HalfAccess) -> Wanted
+    pub(super) fn half(&mut self, instr: &Instr, image: &Image, access: HalfAccess) -> Wanted
         ensures wanted { result ≡ wanted_of (half_at image.now access.kind access.index access.rn access.rt access.moved self.old.replies self.old.state) }
-        ensures state { self.new ≡ moved_on instr self.old (half_at image.now access.kind access.index access.rn access.rt access.moved self.old.replies self.old.state) }
+        ensures state { self.new ≡ moved_on instr.now self.old (half_at image.now access.kind access.index access.rn access.rt access.moved self.old.replies self.old.state) }
     {
         let back = WriteBack {
             index: access.index,
