@@ -1,3 +1,4 @@
 pub mod Machine
 pub mod Inside
 pub mod Words
+pub mod Progress

@@ -4,12 +4,13 @@ ghost use Rattle.a32_instr.specs.State.{register, with_register, advanced, jumps
 ghost use Rattle.a32_instr.specs.Effect.{acts, effect_of};
 ghost use Rattle.a32_instr.specs.Table.{meaning, table};
 ghost use Rattle.llsc_base.specs.Images.{word_at};
+ghost use Rattle.a32_step.specs.Progress.{progress_of, wanted_in};
 ghost use Rattle.a32_step.specs.Words.{AreWords};
 ghost use Rattle.a32_step.specs.Machine.{start_of, given, next_effect, wanted_of, after_next, after_instr, begins, moved_on, instr_at, between, Follows, IsReady, IsTested, IsAwaiting, IsCalling};
 
 use crate::conditions::{condition, passes};
 use crate::decoded::Decoded;
-use crate::phases::{Phase, Wanted};
+use crate::phases::{Phase, Progress, Wanted};
 use crate::replies::Replies;
 use a32_instr::{DecodeFault, Flags, Instr, Reg, Stop};
 use blocks::Transfer;
@@ -167,27 +168,27 @@ impl Cpu {
     }
 
     /// The thread stops.
-    fn stop(&mut self, stop: Stop) -> Wanted
-        ensures wanted { result ≡ wanted_of (stops stop) }
+    fn stop(&mut self, stop: Stop) -> Progress
+        ensures progress { result ≡ progress_of (stops stop) }
         ensures state { self.new ≡ record self.old { phase = Phase.Stopped stop } }
     {
         self.phase = Phase::Stopped(stop);
-        Wanted::Stopped(stop)
+        Progress::Held
     }
 
     /// The instruction is complete, and wrote no PC.
-    fn advance(&mut self) -> Wanted
-        ensures wanted { result ≡ Wanted.Done }
+    fn advance(&mut self) -> Progress
+        ensures progress { result ≡ Progress.Complete }
         ensures state { self.new ≡ between (advanced self.old.state) }
     {
         self.pc = self.pc.wrapping_add(4);
         self.finish();
-        Wanted::Done
+        Progress::Complete
     }
 
     /// The instruction is complete with a write to the PC, if the value is one that the PC may have.
-    fn jump(&mut self, flags: Flags, value: u32) -> Wanted
-        ensures wanted { result ≡ wanted_of (jumps (record self.old.state { flags = flags }) value) }
+    fn jump(&mut self, flags: Flags, value: u32) -> Progress
+        ensures progress { result ≡ progress_of (jumps (record self.old.state { flags = flags }) value) }
         ensures state { (instr : Instr) → self.new ≡ moved_on instr self.old (jumps (record self.old.state { flags = flags }) value) }
     {
         if value % 2 == 1 {
@@ -199,13 +200,13 @@ impl Cpu {
         self.flags = flags;
         self.pc = value;
         self.finish();
-        Wanted::Done
+        Progress::Complete
     }
 
     /// The instruction is complete with a value in a register, and with these flags.
     #[tactic(auto, using(crate::proofs::Words::words_set))]
-    fn write(&mut self, flags: Flags, r: Reg, value: u32) -> Wanted
-        ensures wanted { result ≡ wanted_of (writes (record self.old.state { flags = flags }) r value) }
+    fn write(&mut self, flags: Flags, r: Reg, value: u32) -> Progress
+        ensures progress { result ≡ progress_of (writes (record self.old.state { flags = flags }) r value) }
         ensures state { (instr : Instr) → self.new ≡ moved_on instr self.old (writes (record self.old.state { flags = flags }) r value) }
     {
         let num = r.num();
@@ -229,17 +230,56 @@ impl Cpu {
         ensures tested { IsTested image.now self.old.replies result }
     {
         match self.phase() {
-            Phase::Between => self.start_next(image),
-            Phase::Inside(instr) => self.act(&instr, image),
+            Phase::Between => self.next_instruction(image),
+            Phase::Inside(instr) => self.go_on(&instr, image),
             Phase::Stopped(stop) => Wanted::Stopped(stop),
             Phase::Awaiting(..) | Phase::Calling(_) => unreachable!(),
         }
     }
 
-    /// The instruction at the PC is fetched, decoded and begun.
-    fn start_next(&mut self, image: &Image) -> Wanted
+    /// The instruction at the PC begins, up to what it wants first.
+    #[inline]
+    #[tactic(auto, using(crate::proofs::Follows::begin_wants))]
+    fn next_instruction(&mut self, image: &Image) -> Wanted
         requires { self.old.replies ≡ [] }
         ensures wanted { result ≡ wanted_of (begins image.now self.old.state (instr_at image.now self.old.state.pc)) }
+        ensures state { self.new ≡ after_instr image.now self.old (instr_at image.now self.old.state.pc) }
+    {
+        let progress = self.start_next(image);
+        self.wanted(progress)
+    }
+
+    /// The instruction in hand goes on after a reply, up to what it wants next.
+    #[inline]
+    #[tactic(auto, using(crate::proofs::Follows::act_wants))]
+    fn go_on(&mut self, instr: &Instr, image: &Image) -> Wanted
+        ensures wanted { result ≡ wanted_of (acts instr.now image.now self.old.replies self.old.state) }
+        ensures state { self.new ≡ moved_on instr.now self.old (acts instr.now image.now self.old.replies self.old.state) }
+    {
+        let progress = self.act(instr, image);
+        self.wanted(progress)
+    }
+
+    /// What is wanted: nothing where the instruction is complete, and else what the phase says.
+    #[inline]
+    fn wanted(&self, progress: Progress) -> Wanted
+        ensures { result ≡ wanted_in progress self.now.phase }
+    {
+        if progress == Progress::Complete {
+            return Wanted::Done;
+        }
+        match self.phase {
+            Phase::Awaiting(_, ask) => Wanted::Access(ask),
+            Phase::Calling(call) => Wanted::Call(call),
+            Phase::Stopped(why) => Wanted::Stopped(why),
+            Phase::Between | Phase::Inside(_) => Wanted::Done,
+        }
+    }
+
+    /// The instruction at the PC is fetched, decoded and begun.
+    fn start_next(&mut self, image: &Image) -> Progress
+        requires { self.old.replies ≡ [] }
+        ensures progress { result ≡ progress_of (begins image.now self.old.state (instr_at image.now self.old.state.pc)) }
         ensures state { self.new ≡ after_instr image.now self.old (instr_at image.now self.old.state.pc) }
     {
         let Some(word) = self.fetch(image) else {
@@ -273,9 +313,9 @@ impl Cpu {
     }
 
     /// The instruction begins.
-    fn begin(&mut self, instr: Instr, image: &Image) -> Wanted
+    fn begin(&mut self, instr: Instr, image: &Image) -> Progress
         requires { self.old.replies ≡ [] }
-        ensures wanted { result ≡ wanted_of (effect_of instr image.now [] self.old.state) }
+        ensures progress { result ≡ progress_of (effect_of instr image.now [] self.old.state) }
         ensures state { self.new ≡ moved_on instr self.old (effect_of instr image.now [] self.old.state) }
     {
         if !passes(condition(&instr), self.flags) {
@@ -285,8 +325,8 @@ impl Cpu {
     }
 
     /// What the instruction does, its condition passed.
-    fn act(&mut self, instr: &Instr, image: &Image) -> Wanted
-        ensures wanted { result ≡ wanted_of (acts instr.now image.now self.old.replies self.old.state) }
+    fn act(&mut self, instr: &Instr, image: &Image) -> Progress
+        ensures progress { result ≡ progress_of (acts instr.now image.now self.old.replies self.old.state) }
         ensures state { self.new ≡ moved_on instr.now self.old (acts instr.now image.now self.old.replies self.old.state) }
     {
         match *instr {

@@ -27,3 +27,12 @@ pub enum Wanted {
     /// Nothing any more.
     Stopped(Stop),
 }
+
+/// How far an instruction has come.
+#[derive(Clone, Copy, Debug, PartialEq, Eq)]
+pub enum Progress {
+    /// It is complete.
+    Complete,
+    /// It isn't: the phase says what it waits for, or why the thread has stopped.
+    Held,
+}

@@ -2,13 +2,14 @@
 ghost use Rattle.std.specs.Prelude.{◌≡◌, ◌<◌, ◌≤◌, ◌-◌, ◌*◌, ◌%◌, ◌^◌, length, true, false};
 ghost use Rattle.a32_instr.specs.State.{jumps};
 ghost use Rattle.a32_instr.specs.Block.{registers_of, count_of, bytes_of, block, block_ask, block_back, block_loaded, with_block};
-ghost use Rattle.a32_step.specs.Machine.{wanted_of, moved_on};
+ghost use Rattle.a32_step.specs.Progress.{progress_of};
+ghost use Rattle.a32_step.specs.Machine.{moved_on};
 
 use super::Cpu;
 use super::load_store::barred;
 use crate::operands::moved;
 use crate::parts::low_word;
-use crate::phases::{Phase, Wanted};
+use crate::phases::{Phase, Progress};
 use crate::registers::{count_of, is_listed, listed, lowest_address};
 use a32_instr::{Ask, Instr, Reg, Stop};
 use llsc_base::{Image, Place, Size};
@@ -73,11 +74,11 @@ impl Cpu {
 
     /// A block is loaded: the base moves, and then the registers get their words.
     #[tactic(auto, using(crate::proofs::Lists::pc_counts))]
-    fn finish_block(&mut self, transfer: Transfer, count: u32) -> Wanted
+    fn finish_block(&mut self, transfer: Transfer, count: u32) -> Progress
         requires count { count ≡ count_of transfer.list }
         requires most { count ≤ 16 }
         requires all { count_of transfer.list ≤ length self.old.replies }
-        ensures wanted { result ≡ wanted_of (block_loaded transfer.list self.old.replies (block_back transfer.wback transfer.up transfer.rn (bytes_of transfer.list) self.old.state)) }
+        ensures progress { result ≡ progress_of (block_loaded transfer.list self.old.replies (block_back transfer.wback transfer.up transfer.rn (bytes_of transfer.list) self.old.state)) }
         ensures state { (instr : Instr) → self.new ≡ moved_on instr self.old (block_loaded transfer.list self.old.replies (block_back transfer.wback transfer.up transfer.rn (bytes_of transfer.list) self.old.state)) }
     {
         let list = transfer.list;
@@ -91,11 +92,11 @@ impl Cpu {
     }
 
     /// A block is loaded with the PC, if its word is one that the PC may have.
-    fn finish_at(&mut self, transfer: Transfer, count: u32, value: u32) -> Wanted
+    fn finish_at(&mut self, transfer: Transfer, count: u32, value: u32) -> Progress
         requires count { count ≡ count_of transfer.list }
         requires most { count ≤ 16 }
         requires all { count_of transfer.list ≤ length self.old.replies }
-        ensures wanted { result ≡ wanted_of (jumps (with_block transfer.list self.old.replies (block_back transfer.wback transfer.up transfer.rn (bytes_of transfer.list) self.old.state)) value) }
+        ensures progress { result ≡ progress_of (jumps (with_block transfer.list self.old.replies (block_back transfer.wback transfer.up transfer.rn (bytes_of transfer.list) self.old.state)) value) }
         ensures state { (instr : Instr) → self.new ≡ moved_on instr self.old (jumps (with_block transfer.list self.old.replies (block_back transfer.wback transfer.up transfer.rn (bytes_of transfer.list) self.old.state)) value) }
     {
         if value % 2 == 1 {
@@ -109,12 +110,12 @@ impl Cpu {
         self.set_listed(list);
         self.pc = value;
         self.finish();
-        Wanted::Done
+        Progress::Complete
     }
 
     /// LDM and STM (DDI 0406C A8.8.58 to A8.8.61, A8.8.199 to A8.8.202).
-    pub(super) fn block(&mut self, instr: &Instr, image: &Image, transfer: Transfer) -> Wanted
-        ensures wanted { result ≡ wanted_of (block image.now transfer.load transfer.before transfer.up transfer.wback transfer.rn transfer.list self.old.replies self.old.state) }
+    pub(super) fn block(&mut self, instr: &Instr, image: &Image, transfer: Transfer) -> Progress
+        ensures progress { result ≡ progress_of (block image.now transfer.load transfer.before transfer.up transfer.wback transfer.rn transfer.list self.old.replies self.old.state) }
         ensures state { self.new ≡ moved_on instr.now self.old (block image.now transfer.load transfer.before transfer.up transfer.wback transfer.rn transfer.list self.old.replies self.old.state) }
     {
         let count = count_of(transfer.list);
@@ -131,7 +132,7 @@ impl Cpu {
         if replies < count as usize {
             let ask = self.block_ask(transfer, lowest, replies);
             self.phase = Phase::Awaiting(*instr, ask);
-            return Wanted::Access(ask);
+            return Progress::Held;
         }
         if transfer.load {
             return self.finish_block(transfer, count);

@@ -1,18 +1,19 @@
 //! Branches (DDI 0406C A5.5) and the supervisor call (A5.6).
 ghost use Rattle.std.specs.Prelude.{◌≡◌};
 ghost use Rattle.a32_instr.specs.Branch.{branched, branches_by_register, call_of};
-ghost use Rattle.a32_step.specs.Machine.{between, moved_on, wanted_of};
+ghost use Rattle.a32_step.specs.Progress.{progress_of};
+ghost use Rattle.a32_step.specs.Machine.{between, moved_on};
 
 use super::Cpu;
 use crate::operands::branch_target;
-use crate::phases::{Phase, Wanted};
+use crate::phases::{Phase, Progress};
 use a32_instr::{CallAsk, Instr, Reg, Stop};
 
 impl Cpu {
     /// B and BL (DDI 0406C A8.8.18, A8.8.25).
     #[tactic(auto, using(crate::proofs::Words::words_set))]
-    pub(super) fn branch(&mut self, link: bool, words: i32) -> Wanted
-        ensures wanted { result ≡ Wanted.Done }
+    pub(super) fn branch(&mut self, link: bool, words: i32) -> Progress
+        ensures progress { result ≡ Progress.Complete }
         ensures state { self.new ≡ between (branched link words self.old.state) }
     {
         if link {
@@ -20,13 +21,13 @@ impl Cpu {
         }
         self.pc = branch_target(self.pc, words);
         self.finish();
-        Wanted::Done
+        Progress::Complete
     }
 
     /// BX and BLX (DDI 0406C A8.8.27, A8.8.26): the register is read before the link is written.
     #[tactic(auto, using(crate::proofs::Words::words_set))]
-    pub(super) fn branch_by_register(&mut self, link: bool, rm: Reg) -> Wanted
-        ensures wanted { result ≡ wanted_of (branches_by_register link rm self.old.state) }
+    pub(super) fn branch_by_register(&mut self, link: bool, rm: Reg) -> Progress
+        ensures progress { result ≡ progress_of (branches_by_register link rm self.old.state) }
         ensures state { (instr : Instr) → self.new ≡ moved_on instr self.old (branches_by_register link rm self.old.state) }
     {
         let address = self.operand(rm);
@@ -41,12 +42,12 @@ impl Cpu {
         }
         self.pc = address;
         self.finish();
-        Wanted::Done
+        Progress::Complete
     }
 
     /// SVC (DDI 0406C A8.8.228).
-    pub(super) fn call(&mut self, imm: u32) -> Wanted
-        ensures wanted { result ≡ Wanted.Call (call_of imm self.old.state) }
+    pub(super) fn call(&mut self, imm: u32) -> Progress
+        ensures progress { result ≡ Progress.Held }
         ensures state { self.new ≡ record self.old { phase = Phase.Calling (call_of imm self.old.state) } }
     {
         let call = CallAsk {
@@ -57,6 +58,6 @@ impl Cpu {
             c: self.regs[2],
         };
         self.phase = Phase::Calling(call);
-        Wanted::Call(call)
+        Progress::Held
     }
 }

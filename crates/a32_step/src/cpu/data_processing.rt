@@ -1,11 +1,12 @@
 //! Data processing (DDI 0406C A5.2).
 ghost use Rattle.std.specs.Prelude.{◌≡◌, true};
 ghost use Rattle.a32_instr.specs.DataProcessing.{operand_of, alu};
-ghost use Rattle.a32_step.specs.Machine.{wanted_of, moved_on};
+ghost use Rattle.a32_step.specs.Progress.{progress_of};
+ghost use Rattle.a32_step.specs.Machine.{moved_on};
 
 use super::Cpu;
 use crate::arithmetic::{compute, value_of};
-use crate::phases::Wanted;
+use crate::phases::Progress;
 use crate::shifts::{immediate, shift, shift_by_number};
 use a32_instr::{AluOp, Instr, Operand2, Reg, Shifted};
 
@@ -26,8 +27,8 @@ impl Cpu {
     }
 
     /// Data processing that sets the flags.
-    fn alu_with_flags(&mut self, op: AluOp, rd: Reg, rn: Reg, operand: Operand2) -> Wanted
-        ensures wanted { result ≡ wanted_of (alu op true rd rn operand self.old.state) }
+    fn alu_with_flags(&mut self, op: AluOp, rd: Reg, rn: Reg, operand: Operand2) -> Progress
+        ensures progress { result ≡ progress_of (alu op true rd rn operand self.old.state) }
         ensures state { (instr : Instr) → self.new ≡ moved_on instr self.old (alu op true rd rn operand self.old.state) }
     {
         let second = self.second_operand(operand);
@@ -48,8 +49,8 @@ impl Cpu {
         rd: Reg,
         rn: Reg,
         operand: Operand2,
-    ) -> Wanted
-        ensures wanted { result ≡ wanted_of (alu op sets rd rn operand self.old.state) }
+    ) -> Progress
+        ensures progress { result ≡ progress_of (alu op sets rd rn operand self.old.state) }
         ensures state { (instr : Instr) → self.new ≡ moved_on instr self.old (alu op sets rd rn operand self.old.state) }
     {
         if sets {

@@ -3,10 +3,11 @@ ghost use Rattle.std.specs.Prelude.{◌≡◌, []};
 ghost use Rattle.llsc_base.specs.Images.{bar_of};
 ghost use Rattle.a32_instr.specs.State.{advanced, with_register};
 ghost use Rattle.a32_instr.specs.Exclusive.{next_register, with_loaded, stored_part, loads_exclusive, stores_exclusive, load_exclusive, store_exclusive, clear_exclusive};
-ghost use Rattle.a32_step.specs.Machine.{wanted_of, moved_on};
+ghost use Rattle.a32_step.specs.Progress.{progress_of};
+ghost use Rattle.a32_step.specs.Machine.{moved_on};
 
 use super::Cpu;
-use crate::phases::{Phase, Wanted};
+use crate::phases::{Phase, Progress};
 use a32_instr::{Ask, Instr, Reg};
 use llsc_base::{Image, Place, Size};
 
@@ -49,8 +50,8 @@ impl Cpu {
         size: Size,
         rn: Reg,
         rt: Reg,
-    ) -> Wanted
-        ensures wanted { result ≡ wanted_of (load_exclusive size rn rt image.now self.old.replies self.old.state) }
+    ) -> Progress
+        ensures progress { result ≡ progress_of (load_exclusive size rn rt image.now self.old.replies self.old.state) }
         ensures state { self.new ≡ moved_on instr.now self.old (load_exclusive size rn rt image.now self.old.replies self.old.state) }
     {
         if let Some(reply) = self.replies.first() {
@@ -73,8 +74,8 @@ impl Cpu {
         rn: Reg,
         rd: Reg,
         rt: Reg,
-    ) -> Wanted
-        ensures wanted { result ≡ wanted_of (store_exclusive size rn rd rt image.now self.old.replies self.old.state) }
+    ) -> Progress
+        ensures progress { result ≡ progress_of (store_exclusive size rn rd rt image.now self.old.replies self.old.state) }
         ensures state { self.new ≡ moved_on instr.now self.old (store_exclusive size rn rd rt image.now self.old.replies self.old.state) }
     {
         if let Some(reply) = self.replies.first() {
@@ -90,14 +91,14 @@ impl Cpu {
     }
 
     /// CLREX (DDI 0406C A8.8.32).
-    pub(super) fn clear_exclusive(&mut self, instr: &Instr) -> Wanted
-        ensures wanted { result ≡ wanted_of (clear_exclusive self.old.replies self.old.state) }
+    pub(super) fn clear_exclusive(&mut self, instr: &Instr) -> Progress
+        ensures progress { result ≡ progress_of (clear_exclusive self.old.replies self.old.state) }
         ensures state { self.new ≡ moved_on instr.now self.old (clear_exclusive self.old.replies self.old.state) }
     {
         if self.replies.first().is_some() {
             return self.advance();
         }
         self.phase = Phase::Awaiting(*instr, Ask::Clear);
-        Wanted::Access(Ask::Clear)
+        Progress::Held
     }
 }

@@ -3,14 +3,15 @@ ghost use Rattle.std.specs.Prelude.{◌≡◌, ◌≢◌, []};
 ghost use Rattle.llsc_base.specs.Images.{bar_of};
 ghost use Rattle.a32_instr.specs.State.{jumps, writes};
 ghost use Rattle.a32_instr.specs.LoadStore.{loads, loads_half, stores, half_at, word_at, asks_unless, barred, distance_of, moved_address, written_back};
-ghost use Rattle.a32_step.specs.Machine.{wanted_of, moved_on};
+ghost use Rattle.a32_step.specs.Progress.{progress_of};
+ghost use Rattle.a32_step.specs.Machine.{moved_on};
 
 use super::Cpu;
 use crate::operands::{
     accessed_address, is_added, moved, part_stored, size_of_access, size_of_half,
 };
 use crate::parts::loaded_half;
-use crate::phases::{Phase, Wanted};
+use crate::phases::{Phase, Progress};
 use crate::shifts::shift_by_number;
 use a32_instr::{Ask, HalfKind, Index, Instr, Offset, Reg, Stop};
 use llsc_base::{Bar, Image, Place};
@@ -64,16 +65,16 @@ impl Cpu {
         place: Place,
         store: bool,
         ask: Ask,
-    ) -> Wanted
+    ) -> Progress
         requires { self.old.replies ≡ [] }
-        ensures wanted { result ≡ wanted_of (asks_unless (bar_of image.now place store) place.addr ask) }
+        ensures progress { result ≡ progress_of (asks_unless (bar_of image.now place store) place.addr ask) }
         ensures state { self.new ≡ moved_on instr.now self.old (asks_unless (bar_of image.now place store) place.addr ask) }
     {
         if let Some(bar) = image.test(place, store) {
             return self.stop(barred(bar, place.addr));
         }
         self.phase = Phase::Awaiting(*instr, ask);
-        Wanted::Access(ask)
+        Progress::Held
     }
 
     /// How far an offset moves.
@@ -109,8 +110,8 @@ impl Cpu {
     }
 
     /// A load is complete: the base is written back, and then the value goes to its register, which may be the PC.
-    fn finish_load(&mut self, back: WriteBack, rt: Reg, value: u32) -> Wanted
-        ensures wanted { result ≡ wanted_of (writes (written_back back.index back.rn back.moved self.old.state) rt value) }
+    fn finish_load(&mut self, back: WriteBack, rt: Reg, value: u32) -> Progress
+        ensures progress { result ≡ progress_of (writes (written_back back.index back.rn back.moved self.old.state) rt value) }
         ensures state { (instr : Instr) → self.new ≡ moved_on instr self.old (writes (written_back back.index back.rn back.moved self.old.state) rt value) }
     {
         if rt.num() == 15 {
@@ -122,8 +123,8 @@ impl Cpu {
     }
 
     /// A load into the PC is complete, if the value is one that the PC may have.
-    fn load_pc(&mut self, back: WriteBack, value: u32) -> Wanted
-        ensures wanted { result ≡ wanted_of (jumps (written_back back.index back.rn back.moved self.old.state) value) }
+    fn load_pc(&mut self, back: WriteBack, value: u32) -> Progress
+        ensures progress { result ≡ progress_of (jumps (written_back back.index back.rn back.moved self.old.state) value) }
         ensures state { (instr : Instr) → self.new ≡ moved_on instr self.old (jumps (written_back back.index back.rn back.moved self.old.state) value) }
     {
         if value % 2 == 1 {
@@ -135,7 +136,7 @@ impl Cpu {
         self.write_back(back.index, back.rn, back.moved);
         self.pc = value;
         self.finish();
-        Wanted::Done
+        Progress::Complete
     }
 
     /// A load: its place is asked for, and then the reply is written.
@@ -146,8 +147,8 @@ impl Cpu {
         place: Place,
         back: WriteBack,
         rt: Reg,
-    ) -> Wanted
-        ensures wanted { result ≡ wanted_of (loads image.now place (written_back back.index back.rn back.moved self.old.state) rt self.old.replies self.old.state) }
+    ) -> Progress
+        ensures progress { result ≡ progress_of (loads image.now place (written_back back.index back.rn back.moved self.old.state) rt self.old.replies self.old.state) }
         ensures state { self.new ≡ moved_on instr.now self.old (loads image.now place (written_back back.index back.rn back.moved self.old.state) rt self.old.replies self.old.state) }
     {
         if let Some(reply) = self.replies.first() {
@@ -164,8 +165,8 @@ impl Cpu {
         place: Place,
         back: WriteBack,
         value: u64,
-    ) -> Wanted
-        ensures wanted { result ≡ wanted_of (stores image.now place (written_back back.index back.rn back.moved self.old.state) value self.old.replies self.old.state) }
+    ) -> Progress
+        ensures progress { result ≡ progress_of (stores image.now place (written_back back.index back.rn back.moved self.old.state) value self.old.replies self.old.state) }
         ensures state { self.new ≡ moved_on instr.now self.old (stores image.now place (written_back back.index back.rn back.moved self.old.state) value self.old.replies self.old.state) }
     {
         if self.replies.first().is_some() {
@@ -176,8 +177,8 @@ impl Cpu {
     }
 
     /// LDR, LDRB, STR and STRB (DDI 0406C A5.3).
-    pub(super) fn word(&mut self, instr: &Instr, image: &Image, access: Access) -> Wanted
-        ensures wanted { result ≡ wanted_of (word_at image.now access.load access.byte access.index access.rn access.rt access.moved self.old.replies self.old.state) }
+    pub(super) fn word(&mut self, instr: &Instr, image: &Image, access: Access) -> Progress
+        ensures progress { result ≡ progress_of (word_at image.now access.load access.byte access.index access.rn access.rt access.moved self.old.replies self.old.state) }
         ensures state { self.new ≡ moved_on instr.now self.old (word_at image.now access.load access.byte access.index access.rn access.rt access.moved self.old.replies self.old.state) }
     {
         let back = WriteBack {
@@ -205,8 +206,8 @@ impl Cpu {
         place: Place,
         back: WriteBack,
         rt: Reg,
-    ) -> Wanted
-        ensures wanted { result ≡ wanted_of (loads_half kind image.now place (written_back back.index back.rn back.moved self.old.state) rt self.old.replies self.old.state) }
+    ) -> Progress
+        ensures progress { result ≡ progress_of (loads_half kind image.now place (written_back back.index back.rn back.moved self.old.state) rt self.old.replies self.old.state) }
         ensures state { self.new ≡ moved_on instr.now self.old (loads_half kind image.now place (written_back back.index back.rn back.moved self.old.state) rt self.old.replies self.old.state) }
     {
         if let Some(reply) = self.replies.first() {
@@ -216,8 +217,8 @@ impl Cpu {
     }
 
     /// LDRH, LDRSB, LDRSH and STRH (DDI 0406C A5.2.8).
-    pub(super) fn half(&mut self, instr: &Instr, image: &Image, access: HalfAccess) -> Wanted
-        ensures wanted { result ≡ wanted_of (half_at image.now access.kind access.index access.rn access.rt access.moved self.old.replies self.old.state) }
+    pub(super) fn half(&mut self, instr: &Instr, image: &Image, access: HalfAccess) -> Progress
+        ensures progress { result ≡ progress_of (half_at image.now access.kind access.index access.rn access.rt access.moved self.old.replies self.old.state) }
         ensures state { self.new ≡ moved_on instr.now self.old (half_at image.now access.kind access.index access.rn access.rt access.moved self.old.replies self.old.state) }
     {
         let back = WriteBack {

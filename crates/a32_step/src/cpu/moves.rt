@@ -1,26 +1,27 @@
 //! Wide moves, CLZ, REV and extends (DDI 0406C A5.2, A5.4.3).
 ghost use Rattle.std.specs.Prelude.{◌≡◌};
 ghost use Rattle.a32_instr.specs.Moves.{moves_wide, moves_top, counts_zeros, reverses, extends};
-ghost use Rattle.a32_step.specs.Machine.{wanted_of, moved_on};
+ghost use Rattle.a32_step.specs.Progress.{progress_of};
+ghost use Rattle.a32_step.specs.Machine.{moved_on};
 
 use super::Cpu;
 use crate::parts::{extend, reverse, with_upper_half};
-use crate::phases::Wanted;
+use crate::phases::Progress;
 use crate::shifts::rotate_right;
 use a32_instr::{Instr, Reg};
 
 impl Cpu {
     /// MOVW (DDI 0406C A8.8.102).
-    pub(super) fn move_wide(&mut self, rd: Reg, imm: u16) -> Wanted
-        ensures wanted { result ≡ wanted_of (moves_wide rd imm self.old.state) }
+    pub(super) fn move_wide(&mut self, rd: Reg, imm: u16) -> Progress
+        ensures progress { result ≡ progress_of (moves_wide rd imm self.old.state) }
         ensures state { (instr : Instr) → self.new ≡ moved_on instr self.old (moves_wide rd imm self.old.state) }
     {
         self.write(self.flags, rd, u32::from(imm))
     }
 
     /// MOVT (DDI 0406C A8.8.106).
-    pub(super) fn move_top(&mut self, rd: Reg, imm: u16) -> Wanted
-        ensures wanted { result ≡ wanted_of (moves_top rd imm self.old.state) }
+    pub(super) fn move_top(&mut self, rd: Reg, imm: u16) -> Progress
+        ensures progress { result ≡ progress_of (moves_top rd imm self.old.state) }
         ensures state { (instr : Instr) → self.new ≡ moved_on instr self.old (moves_top rd imm self.old.state) }
     {
         let value = with_upper_half(self.operand(rd), imm);
@@ -28,8 +29,8 @@ impl Cpu {
     }
 
     /// CLZ (DDI 0406C A8.8.33).
-    pub(super) fn count_zeros(&mut self, rd: Reg, rm: Reg) -> Wanted
-        ensures wanted { result ≡ wanted_of (counts_zeros rd rm self.old.state) }
+    pub(super) fn count_zeros(&mut self, rd: Reg, rm: Reg) -> Progress
+        ensures progress { result ≡ progress_of (counts_zeros rd rm self.old.state) }
         ensures state { (instr : Instr) → self.new ≡ moved_on instr self.old (counts_zeros rd rm self.old.state) }
     {
         let value = self.operand(rm).leading_zeros();
@@ -44,8 +45,8 @@ impl Cpu {
         rd: Reg,
         rm: Reg,
         turn: u8,
-    ) -> Wanted
-        ensures wanted { result ≡ wanted_of (extends unsigned half rd rm turn self.old.state) }
+    ) -> Progress
+        ensures progress { result ≡ progress_of (extends unsigned half rd rm turn self.old.state) }
         ensures state { (instr : Instr) → self.new ≡ moved_on instr self.old (extends unsigned half rd rm turn self.old.state) }
     {
         let turned = rotate_right(self.operand(rm), 8 * u32::from(turn));
@@ -53,8 +54,8 @@ impl Cpu {
     }
 
     /// REV (DDI 0406C A8.8.145).
-    pub(super) fn reverse(&mut self, rd: Reg, rm: Reg) -> Wanted
-        ensures wanted { result ≡ wanted_of (reverses rd rm self.old.state) }
+    pub(super) fn reverse(&mut self, rd: Reg, rm: Reg) -> Progress
+        ensures progress { result ≡ progress_of (reverses rd rm self.old.state) }
         ensures state { (instr : Instr) → self.new ≡ moved_on instr self.old (reverses rd rm self.old.state) }
     {
         let value = reverse(self.operand(rm));

@@ -1,10 +1,11 @@
 //! Multiplications (DDI 0406C A5.2.5).
 ghost use Rattle.std.specs.Prelude.{◌≡◌, if◌then◌else◌};
 ghost use Rattle.a32_instr.specs.Multiply.{product_flags, joined, multiplied, multiplies, multiplies_and_adds, multiplies_and_subtracts, after_long};
-ghost use Rattle.a32_step.specs.Machine.{wanted_of, moved_on, between};
+ghost use Rattle.a32_step.specs.Progress.{progress_of};
+ghost use Rattle.a32_step.specs.Machine.{moved_on, between};
 
 use super::Cpu;
-use crate::phases::Wanted;
+use crate::phases::Progress;
 use crate::products::{minus_product, product, product_plus, wide};
 use crate::shifts::is_negative;
 use a32_instr::{Flags, Instr, LongKind, Reg};
@@ -35,8 +36,8 @@ impl Cpu {
     }
 
     /// The instruction is complete with a product, and with its flags if it sets them.
-    fn write_product(&mut self, sets: bool, rd: Reg, value: u32) -> Wanted
-        ensures wanted { result ≡ wanted_of (multiplied sets rd value self.old.state) }
+    fn write_product(&mut self, sets: bool, rd: Reg, value: u32) -> Progress
+        ensures progress { result ≡ progress_of (multiplied sets rd value self.old.state) }
         ensures state { (instr : Instr) → self.new ≡ moved_on instr self.old (multiplied sets rd value self.old.state) }
     {
         let flags = self.after_product(sets, is_negative(value), value == 0);
@@ -44,8 +45,8 @@ impl Cpu {
     }
 
     /// MUL (DDI 0406C A8.8.114).
-    pub(super) fn multiply(&mut self, sets: bool, rd: Reg, rn: Reg, rm: Reg) -> Wanted
-        ensures wanted { result ≡ wanted_of (multiplies sets rd rn rm self.old.state) }
+    pub(super) fn multiply(&mut self, sets: bool, rd: Reg, rn: Reg, rm: Reg) -> Progress
+        ensures progress { result ≡ progress_of (multiplies sets rd rn rm self.old.state) }
         ensures state { (instr : Instr) → self.new ≡ moved_on instr self.old (multiplies sets rd rn rm self.old.state) }
     {
         let value = product(self.operand(rn), self.operand(rm));
@@ -60,8 +61,8 @@ impl Cpu {
         rn: Reg,
         rm: Reg,
         ra: Reg,
-    ) -> Wanted
-        ensures wanted { result ≡ wanted_of (multiplies_and_adds sets rd rn rm ra self.old.state) }
+    ) -> Progress
+        ensures progress { result ≡ progress_of (multiplies_and_adds sets rd rn rm ra self.old.state) }
         ensures state { (instr : Instr) → self.new ≡ moved_on instr self.old (multiplies_and_adds sets rd rn rm ra self.old.state) }
     {
         let value = product_plus(self.operand(rn), self.operand(rm), self.operand(ra));
@@ -69,8 +70,8 @@ impl Cpu {
     }
 
     /// MLS (DDI 0406C A8.8.101).
-    pub(super) fn multiply_and_subtract(&mut self, rd: Reg, rn: Reg, rm: Reg, ra: Reg) -> Wanted
-        ensures wanted { result ≡ wanted_of (multiplies_and_subtracts rd rn rm ra self.old.state) }
+    pub(super) fn multiply_and_subtract(&mut self, rd: Reg, rn: Reg, rm: Reg, ra: Reg) -> Progress
+        ensures progress { result ≡ progress_of (multiplies_and_subtracts rd rn rm ra self.old.state) }
         ensures state { (instr : Instr) → self.new ≡ moved_on instr self.old (multiplies_and_subtracts rd rn rm ra self.old.state) }
     {
         let value = minus_product(self.operand(ra), self.operand(rn), self.operand(rm));
@@ -93,8 +94,8 @@ impl Cpu {
         hi: Reg,
         rn: Reg,
         rm: Reg,
-    ) -> Wanted
-        ensures wanted { result ≡ Wanted.Done }
+    ) -> Progress
+        ensures progress { result ≡ Progress.Complete }
         ensures state { self.new ≡ between (after_long kind sets lo hi rn rm self.old.state) }
     {
         let old = self.pair(hi, lo);
