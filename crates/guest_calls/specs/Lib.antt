@@ -1,4 +1,5 @@
 pub mod Calls
 pub mod OutputInside
+pub mod Pairs
 pub mod Run
 pub mod Steps

@@ -15,7 +15,8 @@ use Rattle.a32_instr.specs.declared.outside.Ask.{Ask}
 use Rattle.a32_instr.specs.declared.outside.Ask.TheVariants.{StoreEx}
 use Rattle.guest_calls.specs.Run.{Pair}
 use Rattle.llsc_cli.specs.Serving.{made, reply_to}
-use Rattle.llsc_cli.specs.Solo.{pair_of, pairs_of, FailsUnmarked, AllFailUnmarked, IsAlone}
+use Rattle.guest_calls.specs.Pairs.{pair_of, pairs_of}
+use Rattle.llsc_cli.specs.Solo.{FailsUnmarked, AllFailUnmarked, IsAlone}
 use Rattle.llsc_cli.proofs.Served.{on_marked}
 use Rattle.guest_calls.proofs.Decided.{Replies, AreDecided}
 

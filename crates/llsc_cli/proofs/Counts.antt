@@ -9,7 +9,8 @@ use Rattle.history.specs.declared.entry.Entry.TheVariants as entry
 use Rattle.a32_instr.specs.declared.outside.Ask.{Ask}
 use Rattle.a32_instr.specs.declared.outside.Ask.TheVariants.{Load, LoadEx, Store, StoreEx, Clear}
 use Rattle.guest_calls.specs.Run.{Pair}
-use Rattle.llsc_cli.specs.Solo.{pair_of, pairs_of, reads_in, writes_in, fails_in, FailsUnmarked, AllFailUnmarked, IsAlone}
+use Rattle.guest_calls.specs.Pairs.{pair_of, pairs_of}
+use Rattle.llsc_cli.specs.Solo.{reads_in, writes_in, fails_in, FailsUnmarked, AllFailUnmarked, IsAlone}
 use Rattle.llsc_cli.proofs.Alone.{access_served, pairs_of-access, pairs_of-mark, one_still}
 
 -- one for a load or a load-exclusive

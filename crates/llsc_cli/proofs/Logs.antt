@@ -16,7 +16,8 @@ use Rattle.a32_instr.specs.declared.outside.Ask.{Ask}
 use Rattle.a32_instr.specs.declared.outside.Ask.TheVariants.{Load, LoadEx, Store, StoreEx, Clear}
 use Rattle.guest_calls.specs.Run.{Pair, byte_load, byte_loads}
 use Rattle.llsc_cli.specs.Serving.{made, reply_to, loaded_bytes}
-use Rattle.llsc_cli.specs.Solo.{pair_of, pairs_of, reads_in, writes_in, fails_in, FailsUnmarked, AllFailUnmarked, IsAlone}
+use Rattle.guest_calls.specs.Pairs.{pair_of, pairs_of}
+use Rattle.llsc_cli.specs.Solo.{reads_in, writes_in, fails_in, FailsUnmarked, AllFailUnmarked, IsAlone}
 
 -- A thread alone with these accesses and replies has this memory, and so many loads, stores and failed store-exclusives.
 pub record IsLog (first : List ℕ) (pairs : List Pair) (monitor : Monitor) (loads stores misses : ℕ) : Type 0 where

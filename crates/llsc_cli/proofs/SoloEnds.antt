@@ -2,7 +2,8 @@
 use Rattle.std.proofs.Common.{◌≡◌, ℕ, List, sym, ◌∙◌, ap}
 use Rattle.llsc_base.specs.Images.{Program}
 use Rattle.a32_step.specs.Machine.{Machine}
-use Rattle.llsc_cli.specs.Solo.{pairs_of, reads_in, writes_in, fails_in, IsEnd}
+use Rattle.guest_calls.specs.Pairs.{pairs_of}
+use Rattle.llsc_cli.specs.Solo.{reads_in, writes_in, fails_in, IsEnd}
 use Rattle.llsc_cli.specs.declared.threads.ThreadEnd.{ThreadEnd}
 use Rattle.llsc_cli.specs.declared.threads.Ran.{Ran}
 use Rattle.guest_calls.proofs.Decided.{one_end}

@@ -15,7 +15,8 @@ use Rattle.guest_calls.specs.Run.{Pair, byte_loads, effect_of_call, returned, Re
 use Rattle.llsc_cli.specs.declared.threads.Thread.{Thread}
 use Rattle.llsc_cli.specs.declared.threads.ThreadEnd.{ThreadEnd}
 use Rattle.llsc_cli.specs.Serving.{made, reply_to, loaded_bytes}
-use Rattle.llsc_cli.specs.Solo.{pairs_of, reads_in, writes_in, fails_in, FailsUnmarked, IsUnderWay, IsEnd}
+use Rattle.guest_calls.specs.Pairs.{pairs_of}
+use Rattle.llsc_cli.specs.Solo.{reads_in, writes_in, fails_in, FailsUnmarked, IsUnderWay, IsEnd}
 use Rattle.llsc_cli.specs.Calls.{GoesOn, HasPrinted, Leaves}
 use Rattle.llsc_cli.proofs.Logs.{IsLog, log_more, log_loads, length-loaded_bytes}
 

@@ -8,7 +8,7 @@ use Rattle.history.specs.declared.entry.Cause.TheVariants.{Absent}
 use Rattle.a32_instr.specs.declared.outside.Ask.{Ask}
 use Rattle.a32_instr.specs.declared.outside.Ask.TheVariants.{Load, LoadEx, Store, StoreEx, Clear}
 use Rattle.guest_calls.specs.Run.{byte_load}
-use Rattle.llsc_cli.specs.Solo.{pair_of}
+use Rattle.guest_calls.specs.Pairs.{pair_of}
 
 -- the entry that an access makes: a store-exclusive stores just where thread 0 is marked on its row
 abbrev pub made : Monitor → Ask → Entry

@@ -1,33 +1,18 @@
 -- One guest thread alone, whose accesses make a history of Arm's memory and monitors.
-use Rattle.std.specs.Prelude.{◌≡◌, ℕ, ◌+◌, true, false, List, [], ◌∷◌, map, sum_by}
+use Rattle.std.specs.Prelude.{◌≡◌, ℕ, ◌+◌, false, List, [], ◌∷◌, sum_by}
 use Rattle.llsc_base.specs.Memory.{row_of}
 use Rattle.llsc_base.specs.Sizes.{Numbers, room_of}
 use Rattle.llsc_base.specs.Images.{Program}
 use Rattle.history.specs.Monitor.{Monitor, accessed, at_rest, is_on, marked_row, monitor_after}
-use Rattle.history.specs.Parts.{accesses_of, entries_of}
 use Rattle.history.specs.ArmLegal.{IsArmLegal}
 use Rattle.history.specs.declared.entry.Entry.{Entry}
 use Rattle.history.specs.declared.entry.Entry.TheVariants as entry
-use Rattle.a32_instr.specs.declared.outside.Ask.TheVariants.{Load, LoadEx, Store, StoreEx, Clear}
 use Rattle.a32_step.specs.Machine.{Machine, start_of}
-use Rattle.guest_calls.specs.Run.{Pair, Reaches, Ends}
+use Rattle.guest_calls.specs.Run.{Reaches, Ends}
+use Rattle.guest_calls.specs.Pairs.{pairs_of}
 use Rattle.llsc_cli.specs.declared.threads.Thread.{Thread}
 use Rattle.llsc_cli.specs.declared.threads.ThreadEnd.{ThreadEnd}
 use Rattle.llsc_cli.specs.declared.threads.Ran.{Ran}
-
--- The accesses of a history as what a thread asked and what was replied: a load has its value, a store 0, and a
--- store-exclusive 0 where it stored and 1 where it failed. (A mark of the history is no access.)
-abbrev pub pair_of : Entry → Pair
-pair_of (entry.Read thread place value false) = (Load place, value)
-pair_of (entry.Read thread place value true) = (LoadEx place, value)
-pair_of (entry.Write thread place value false) = (Store place value, 0)
-pair_of (entry.Write thread place value true) = (StoreEx place value, 0)
-pair_of (entry.Fail thread place value cause) = (StoreEx place value, 1)
-pair_of _ = (Clear, 0)
-
--- what a thread asked in a history, with the replies, in order
-abbrev pub pairs_of : ℕ → List Entry → List Pair
-pairs_of thread history = map pair_of (accesses_of (entries_of thread history))
 
 -- one for a load or a load-exclusive, one for a store or a store-exclusive that stored, one for one that failed
 abbrev pub reads_in : Entry → ℕ
