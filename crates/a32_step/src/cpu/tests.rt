@@ -79,7 +79,7 @@ fn agrees(alloc: Global, row: &str) -> Result<bool, Fail> {
         number(words.next())?,
         number(words.next())?,
     );
-    if cpu.next(&image) != Progress::Complete || cpu.pc() != 0x1004 {
+    if cpu.next(&image) != Wanted::Done || cpu.pc() != 0x1004 {
         return Ok(false);
     }
     if cpu.reg(0) != number(words.next())? || cpu.reg(1) != number(words.next())? {
