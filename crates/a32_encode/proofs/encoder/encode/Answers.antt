@@ -1,0 +1,40 @@
+use Rattle.std.proofs.Common.{rules, ◌≡◌, ◌<◌, Bool, true, false, Result, Ok, Err, arith, sym}
+use Rattle.a32_instr.specs.Table.{table, meaning}
+use Rattle.a32_instr.specs.declared.instructions.Instr.{Instr}
+use Rattle.a32_instr.specs.declared.instructions.DecodeFault.{DecodeFault}
+use Rattle.a32_encode.proofs.Rows.{sum_is, sum_means}
+use Rattle.a32_encode.proofs.encoder.encode.Goals as goal
+
+-- no word is so large
+pub returns-then-sum-gt4294967295-clause-none : goal.returns-then-sum-gt4294967295-clause-none
+returns-then-sum-gt4294967295-clause-none c = λ fault other small means.
+    let is : c.candidate-sum.result ≡ other = sum_is c.candidate-sum.result c.args.i.now other c.candidate-sum.ensures small means in
+    let large : 4294967295 < c.candidate-sum.result = search rules in
+    omega (arith, is, large, small)
+
+-- another word that means the instruction is its sum
+pub returns-in-Ok-clause-only : goal.returns-in-Ok-clause-only
+returns-in-Ok-clause-only c = λ other small means. sym (sum_is c.candidate-sum.result c.args.i.now other c.candidate-sum.ensures small means)
+
+-- where the table means an instruction by the sum, the decoder reads that instruction
+meant_other : (answer by_table : Result Instr DecodeFault) (meant i : Instr) (same : Bool)
+    → answer ≡ by_table → answer ≡ Ok meant → by_table ≡ Ok i → (meant ≡ i → same ≡ true) → same ≡ false → ⊥
+meant_other answer by_table meant i same decoded is means told differs =
+    let equal : meant ≡ i = cc in
+    let set : same ≡ true = told equal in
+    cc
+
+-- and no fault
+meant_none : (answer by_table : Result Instr DecodeFault) (fault : DecodeFault) (i : Instr)
+    → answer ≡ by_table → answer ≡ Err fault → by_table ≡ Ok i → ⊥
+meant_none answer by_table fault i decoded is means = cc
+
+pub returns-in_default-clause-none : goal.returns-in_default-clause-none
+returns-in_default-clause-none c = λ fault other small means.
+    meant_other c.decode.result (meaning table c.candidate-sum.result) c.in-Ok.meant c.args.i.now c.same.result c.decode.ensures c.in-Ok.is
+    (sum_means c.candidate-sum.result c.args.i.now other c.candidate-sum.ensures small means) c.same.ensures.no c.if-same.false
+
+pub returns-in_default-2-clause-none : goal.returns-in_default-2-clause-none
+returns-in_default-2-clause-none c = λ fault other small means.
+    meant_none c.decode.result (meaning table c.candidate-sum.result) c.in_default.field-0 c.args.i.now c.decode.ensures c.in_default.is
+    (sum_means c.candidate-sum.result c.args.i.now other c.candidate-sum.ensures small means)

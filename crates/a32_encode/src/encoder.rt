@@ -1,0 +1,39 @@
+ghost use Rattle.std.specs.Prelude.{◌≡◌, ◌<◌, ◌^◌, ℕ};
+ghost use Rattle.std.specs.Result.{IfOk};
+ghost use Rattle.a32_instr.specs.Table.{table, meaning};
+
+use crate::same::same;
+use crate::words::candidate;
+use a32_decode::decode;
+use a32_instr::Instr;
+use thiserror::Error;
+
+/// Why an instruction has no word.
+#[derive(Clone, Copy, Debug, PartialEq, Eq, Error)]
+pub enum EncodeFault {
+    /// No word means the instruction.
+    #[error("the instruction has no word")]
+    NoEncoding,
+}
+
+/// The word of an instruction, the only one that the table of words gives it. `NoEncoding` comes
+/// exactly where no word means the instruction: at a field that its bits cannot hold, and at fields
+/// that together are no instruction or an unpredictable one.
+pub fn encode(i: &Instr) -> Result<u32, EncodeFault>
+    ensures word { IfOk result (λ w. (w < 2 ^ 32) × (meaning table w ≡ Ok i.now)) }
+    ensures only { IfOk result (λ w. (other : ℕ) → other < 2 ^ 32 → meaning table other ≡ Ok i.now → other ≡ w) }
+    ensures none { result ≡ Err EncodeFault.NoEncoding → (other : ℕ) → other < 2 ^ 32 → meaning table other ≡ Ok i.now → ⊥ }
+{
+    let sum = candidate(*i);
+    if sum > 0xffff_ffff {
+        return Err(EncodeFault::NoEncoding);
+    }
+    let word = sum as u32;
+    match decode(word) {
+        Ok(meant) if same(*i, meant) => Ok(word),
+        _ => Err(EncodeFault::NoEncoding),
+    }
+}
+
+#[cfg(test)]
+mod tests;
