@@ -31,6 +31,8 @@ fn gives_back_words_of_each_class(rt: HostRuntime) {
     }
 }
 
+const NONE: Result<u32, EncodeFault> = Err(EncodeFault::NoEncoding);
+
 fn always() -> Cond {
     Cond::new(14)
 }
@@ -104,34 +106,33 @@ fn gives_words_at_the_ends_of_fields(rt: HostRuntime) {
 // Fields that have no room for their number, and fields that together are no instruction.
 #[test]
 fn gives_no_word_where_there_is_none(rt: HostRuntime) {
-    let none = Err(EncodeFault::NoEncoding);
     let turned = Operand2::Imm { turn: 16, imm8: 0 };
-    assert_eq!(rt; encode(&operation(AluOp::Mov, false, 0, 0, turned)), none);
+    assert_eq!(rt; encode(&operation(AluOp::Mov, false, 0, 0, turned)), NONE);
     let number = Operand2::Imm { turn: 0, imm8: 1 };
-    assert_eq!(rt; encode(&operation(AluOp::Cmp, false, 0, 0, number)), none);
-    assert_eq!(rt; encode(&operation(AluOp::Mov, false, 0, 1, number)), none);
-    assert_eq!(rt; encode(&operation(AluOp::Add, true, 15, 0, number)), none);
-    assert_eq!(rt; encode(&branch(0x80_0000)), none);
-    assert_eq!(rt; encode(&branch(-0x80_0001)), none);
+    assert_eq!(rt; encode(&operation(AluOp::Cmp, false, 0, 0, number)), NONE);
+    assert_eq!(rt; encode(&operation(AluOp::Mov, false, 0, 1, number)), NONE);
+    assert_eq!(rt; encode(&operation(AluOp::Add, true, 15, 0, number)), NONE);
+    assert_eq!(rt; encode(&branch(0x80_0000)), NONE);
+    assert_eq!(rt; encode(&branch(-0x80_0001)), NONE);
     let offset = Offset::Imm {
         add: true,
         imm: 256,
     };
-    assert_eq!(rt; encode(&ldrh(0, offset)), none);
-    assert_eq!(rt; encode(&ldrh(15, Offset::Imm { add: true, imm: 0 })), none);
+    assert_eq!(rt; encode(&ldrh(0, offset)), NONE);
+    assert_eq!(rt; encode(&ldrh(15, Offset::Imm { add: true, imm: 0 })), NONE);
     let call = Instr::Svc {
         cond: always(),
         imm: 0x100_0000,
     };
-    assert_eq!(rt; encode(&call), none);
+    assert_eq!(rt; encode(&call), NONE);
     let largest = Instr::Svc {
         cond: always(),
         imm: 0xffff_ffff,
     };
-    assert_eq!(rt; encode(&largest), none);
+    assert_eq!(rt; encode(&largest), NONE);
     let barrier = Instr::Barrier {
         kind: BarrierKind::Dmb,
         option: 16,
     };
-    assert_eq!(rt; encode(&barrier), none);
+    assert_eq!(rt; encode(&barrier), NONE);
 }
