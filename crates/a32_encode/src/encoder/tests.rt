@@ -70,6 +70,11 @@ fn ldrh(rt: u8, offset: Offset) -> Instr
     }
 }
 
+// The number 1.
+fn one() -> Operand2 {
+    Operand2::Imm { turn: 0, imm8: 1 }
+}
+
 fn branch(words: i32) -> Instr {
     Instr::Branch {
         cond: always(),
@@ -108,10 +113,9 @@ fn gives_words_at_the_ends_of_fields(rt: HostRuntime) {
 fn gives_no_word_where_there_is_none(rt: HostRuntime) {
     let turned = Operand2::Imm { turn: 16, imm8: 0 };
     assert_eq!(rt; encode(&operation(AluOp::Mov, false, 0, 0, turned)), NONE);
-    let number = Operand2::Imm { turn: 0, imm8: 1 };
-    assert_eq!(rt; encode(&operation(AluOp::Cmp, false, 0, 0, number)), NONE);
-    assert_eq!(rt; encode(&operation(AluOp::Mov, false, 0, 1, number)), NONE);
-    assert_eq!(rt; encode(&operation(AluOp::Add, true, 15, 0, number)), NONE);
+    assert_eq!(rt; encode(&operation(AluOp::Cmp, false, 0, 0, one())), NONE);
+    assert_eq!(rt; encode(&operation(AluOp::Mov, false, 0, 1, one())), NONE);
+    assert_eq!(rt; encode(&operation(AluOp::Add, true, 15, 0, one())), NONE);
     assert_eq!(rt; encode(&branch(0x80_0000)), NONE);
     assert_eq!(rt; encode(&branch(-0x80_0001)), NONE);
     let offset = Offset::Imm {
