@@ -1,5 +1,5 @@
 -- Words that are remembered with their instructions.
-use Rattle.std.proofs.Common.{◌≡◌, ℕ, ◌<◌, List, All, Ok, length, replicate, refl}
+use Rattle.std.proofs.Common.{◌≡◌, ℕ, List, All, Ok, replicate, refl}
 use Rattle.std.proofs.lemmas.List.Elements.{All-replicate, All-set}
 use lib.ListN.{set}
 use Rattle.a32_instr.specs.Table.{meaning, table, alu_op, alu_fits, alu_unpredictable, index_fits, half_fits}

@@ -2,3 +2,4 @@ pub mod Machine
 pub mod Inside
 pub mod Words
 pub mod Progress
+pub mod Classes

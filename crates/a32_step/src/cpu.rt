@@ -13,9 +13,7 @@ use crate::decoded::Decoded;
 use crate::phases::{Phase, Progress, Wanted};
 use crate::replies::Replies;
 use a32_instr::{DecodeFault, Flags, Instr, Reg, Stop};
-use blocks::Transfer;
 use llsc_base::Image;
-use load_store::{Access, HalfAccess};
 use std::marker::Model;
 
 mod blocks;
@@ -330,115 +328,25 @@ impl Cpu {
         ensures state { self.new ≡ moved_on instr.now self.old (acts instr.now image.now self.old.replies self.old.state) }
     {
         match *instr {
-            Instr::Alu {
-                op,
-                s,
-                rd,
-                rn,
-                operand,
-                ..
-            } => self.alu(op, s, rd, rn, operand),
-            Instr::Movw { rd, imm, .. } => self.move_wide(rd, imm),
-            Instr::Movt { rd, imm, .. } => self.move_top(rd, imm),
+            Instr::Alu { .. }
+            | Instr::Movw { .. }
+            | Instr::Movt { .. }
+            | Instr::Clz { .. }
+            | Instr::Extend { .. }
+            | Instr::Rev { .. } => self.process_data(instr),
+            Instr::Mul { .. } | Instr::Mla { .. } | Instr::Mls { .. } | Instr::Long { .. } => {
+                self.multiplication(instr)
+            }
+            Instr::Word { .. } => self.access_word(instr, image),
+            Instr::Half { .. } => self.access_half(instr, image),
+            Instr::Block { .. } => self.access_block(instr, image),
+            Instr::LoadEx { .. } | Instr::StoreEx { .. } | Instr::Clrex => {
+                self.synchronize(instr, image)
+            }
+            Instr::Branch { .. } | Instr::BranchReg { .. } | Instr::Svc { .. } => {
+                self.branch_or_call(instr)
+            }
             Instr::Nop { .. } | Instr::Yield { .. } | Instr::Barrier { .. } => self.advance(),
-            Instr::Mul { s, rd, rn, rm, .. } => self.multiply(s, rd, rn, rm),
-            Instr::Mla {
-                s,
-                rd,
-                rn,
-                rm,
-                ra,
-                ..
-            } => self.multiply_and_add(s, rd, rn, rm, ra),
-            Instr::Mls { rd, rn, rm, ra, .. } => self.multiply_and_subtract(rd, rn, rm, ra),
-            Instr::Long {
-                kind,
-                s,
-                lo,
-                hi,
-                rn,
-                rm,
-                ..
-            } => self.multiply_long(kind, s, lo, hi, rn, rm),
-            Instr::Clz { rd, rm, .. } => self.count_zeros(rd, rm),
-            Instr::Extend {
-                unsigned,
-                half,
-                rd,
-                rm,
-                turn,
-                ..
-            } => self.extend(unsigned, half, rd, rm, turn),
-            Instr::Rev { rd, rm, .. } => self.reverse(rd, rm),
-            Instr::Word {
-                load,
-                byte,
-                index,
-                rn,
-                rt,
-                ref offset,
-                ..
-            } => {
-                let moved = self.moved_address(rn, offset);
-                let access = Access {
-                    load,
-                    byte,
-                    index,
-                    rn,
-                    rt,
-                    moved,
-                };
-                self.word(instr, image, access)
-            }
-            Instr::Half {
-                kind,
-                index,
-                rn,
-                rt,
-                ref offset,
-                ..
-            } => {
-                let moved = self.moved_address(rn, offset);
-                let access = HalfAccess {
-                    kind,
-                    index,
-                    rn,
-                    rt,
-                    moved,
-                };
-                self.half(instr, image, access)
-            }
-            Instr::Block {
-                load,
-                before,
-                up,
-                wback,
-                rn,
-                list,
-                ..
-            } => {
-                let transfer = Transfer {
-                    load,
-                    before,
-                    up,
-                    wback,
-                    rn,
-                    list,
-                };
-                self.block(instr, image, transfer)
-            }
-            Instr::Branch { link, words, .. } => self.branch(link, words),
-            Instr::BranchReg { link, rm, .. } => self.branch_by_register(link, rm),
-            Instr::Svc { imm, .. } => self.call(imm),
-            Instr::LoadEx { size, rn, rt, .. } => self.load_exclusive(instr, image, size, rn, rt),
-            Instr::StoreEx {
-                size,
-                rn,
-                rd,
-                rt,
-                ..
-            } => { self.store_exclusive(instr, image, size, rn, rd, rt) }
-            Instr::Clrex => self.clear_exclusive(instr),
         }
     }
 }

@@ -2,7 +2,9 @@
 ghost use Rattle.std.specs.Prelude.{◌≡◌, ◌<◌, ◌≤◌, ◌-◌, ◌*◌, ◌%◌, ◌^◌, length, true, false};
 ghost use Rattle.a32_instr.specs.State.{jumps};
 ghost use Rattle.a32_instr.specs.Block.{registers_of, count_of, bytes_of, block, block_ask, block_back, block_loaded, with_block};
+ghost use Rattle.a32_instr.specs.Effect.{acts};
 ghost use Rattle.a32_step.specs.Progress.{progress_of};
+ghost use Rattle.a32_step.specs.Classes.{class_of, block_access};
 ghost use Rattle.a32_step.specs.Machine.{moved_on};
 
 use super::Cpu;
@@ -139,5 +141,36 @@ impl Cpu {
         }
         self.move_base(transfer, 4 * count);
         self.advance()
+    }
+}
+
+impl Cpu {
+    /// A load or a store of a block (DDI 0406C A5.5).
+    pub(super) fn access_block(&mut self, instr: &Instr, image: &Image) -> Progress
+        requires { class_of instr.now ≡ block_access }
+        ensures progress { result ≡ progress_of (acts instr.now image.now self.old.replies self.old.state) }
+        ensures state { self.new ≡ moved_on instr.now self.old (acts instr.now image.now self.old.replies self.old.state) }
+    {
+        let Instr::Block {
+            load,
+            before,
+            up,
+            wback,
+            rn,
+            list,
+            ..
+        } = *instr
+        else {
+            unreachable!()
+        };
+        let transfer = Transfer {
+            load,
+            before,
+            up,
+            wback,
+            rn,
+            list,
+        };
+        self.block(instr, image, transfer)
     }
 }

@@ -1,7 +1,10 @@
 //! Branches (DDI 0406C A5.5) and the supervisor call (A5.6).
 ghost use Rattle.std.specs.Prelude.{◌≡◌};
+ghost use Rattle.llsc_base.specs.Images.{Program};
 ghost use Rattle.a32_instr.specs.Branch.{branched, branches_by_register, call_of};
+ghost use Rattle.a32_instr.specs.Effect.{acts};
 ghost use Rattle.a32_step.specs.Progress.{progress_of};
+ghost use Rattle.a32_step.specs.Classes.{class_of, branch_or_call};
 ghost use Rattle.a32_step.specs.Machine.{between, moved_on};
 
 use super::Cpu;
@@ -59,5 +62,21 @@ impl Cpu {
         };
         self.phase = Phase::Calling(call);
         Progress::Held
+    }
+}
+
+impl Cpu {
+    /// A branch, or a supervisor call (DDI 0406C A5.5, A5.6).
+    pub(super) fn branch_or_call(&mut self, instr: &Instr) -> Progress
+        requires { class_of instr.now ≡ branch_or_call }
+        ensures progress { (program : Program) → result ≡ progress_of (acts instr.now program self.old.replies self.old.state) }
+        ensures state { (program : Program) → self.new ≡ moved_on instr.now self.old (acts instr.now program self.old.replies self.old.state) }
+    {
+        match *instr {
+            Instr::Branch { link, words, .. } => self.branch(link, words),
+            Instr::BranchReg { link, rm, .. } => self.branch_by_register(link, rm),
+            Instr::Svc { imm, .. } => self.call(imm),
+            _ => unreachable!(),
+        }
     }
 }

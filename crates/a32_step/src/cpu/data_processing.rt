@@ -1,7 +1,10 @@
 //! Data processing (DDI 0406C A5.2).
 ghost use Rattle.std.specs.Prelude.{◌≡◌, true};
+ghost use Rattle.llsc_base.specs.Images.{Program};
 ghost use Rattle.a32_instr.specs.DataProcessing.{operand_of, alu};
+ghost use Rattle.a32_instr.specs.Effect.{acts};
 ghost use Rattle.a32_step.specs.Progress.{progress_of};
+ghost use Rattle.a32_step.specs.Classes.{class_of, data_processing};
 ghost use Rattle.a32_step.specs.Machine.{moved_on};
 
 use super::Cpu;
@@ -62,5 +65,38 @@ impl Cpu {
         let second = self.second_operand(operand);
         let value = value_of(op, self.operand(rn), second, self.flags);
         self.write(self.flags, rd, value)
+    }
+}
+
+impl Cpu {
+    /// An instruction of data processing (DDI 0406C A4.4).
+    pub(super) fn process_data(&mut self, instr: &Instr) -> Progress
+        requires { class_of instr.now ≡ data_processing }
+        ensures progress { (program : Program) → result ≡ progress_of (acts instr.now program self.old.replies self.old.state) }
+        ensures state { (program : Program) → self.new ≡ moved_on instr.now self.old (acts instr.now program self.old.replies self.old.state) }
+    {
+        match *instr {
+            Instr::Alu {
+                op,
+                s,
+                rd,
+                rn,
+                operand,
+                ..
+            } => self.alu(op, s, rd, rn, operand),
+            Instr::Movw { rd, imm, .. } => self.move_wide(rd, imm),
+            Instr::Movt { rd, imm, .. } => self.move_top(rd, imm),
+            Instr::Clz { rd, rm, .. } => self.count_zeros(rd, rm),
+            Instr::Extend {
+                unsigned,
+                half,
+                rd,
+                rm,
+                turn,
+                ..
+            } => self.extend(unsigned, half, rd, rm, turn),
+            Instr::Rev { rd, rm, .. } => self.reverse(rd, rm),
+            _ => unreachable!(),
+        }
     }
 }

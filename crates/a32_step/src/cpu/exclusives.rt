@@ -3,7 +3,9 @@ ghost use Rattle.std.specs.Prelude.{◌≡◌, []};
 ghost use Rattle.llsc_base.specs.Images.{bar_of};
 ghost use Rattle.a32_instr.specs.State.{advanced, with_register};
 ghost use Rattle.a32_instr.specs.Exclusive.{next_register, with_loaded, stored_part, loads_exclusive, stores_exclusive, load_exclusive, store_exclusive, clear_exclusive};
+ghost use Rattle.a32_instr.specs.Effect.{acts};
 ghost use Rattle.a32_step.specs.Progress.{progress_of};
+ghost use Rattle.a32_step.specs.Classes.{class_of, synchronization};
 ghost use Rattle.a32_step.specs.Machine.{moved_on};
 
 use super::Cpu;
@@ -100,5 +102,27 @@ impl Cpu {
         }
         self.phase = Phase::Awaiting(*instr, Ask::Clear);
         Progress::Held
+    }
+}
+
+impl Cpu {
+    /// A synchronization primitive (DDI 0406C A4.6, A5.2.10).
+    pub(super) fn synchronize(&mut self, instr: &Instr, image: &Image) -> Progress
+        requires { class_of instr.now ≡ synchronization }
+        ensures progress { result ≡ progress_of (acts instr.now image.now self.old.replies self.old.state) }
+        ensures state { self.new ≡ moved_on instr.now self.old (acts instr.now image.now self.old.replies self.old.state) }
+    {
+        match *instr {
+            Instr::LoadEx { size, rn, rt, .. } => self.load_exclusive(instr, image, size, rn, rt),
+            Instr::StoreEx {
+                size,
+                rn,
+                rd,
+                rt,
+                ..
+            } => { self.store_exclusive(instr, image, size, rn, rd, rt) }
+            Instr::Clrex => self.clear_exclusive(instr),
+            _ => unreachable!(),
+        }
     }
 }

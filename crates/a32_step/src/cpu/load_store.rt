@@ -3,7 +3,9 @@ ghost use Rattle.std.specs.Prelude.{◌≡◌, ◌≢◌, []};
 ghost use Rattle.llsc_base.specs.Images.{bar_of};
 ghost use Rattle.a32_instr.specs.State.{jumps, writes};
 ghost use Rattle.a32_instr.specs.LoadStore.{loads, loads_half, stores, half_at, word_at, asks_unless, barred, distance_of, moved_address, written_back};
+ghost use Rattle.a32_instr.specs.Effect.{acts};
 ghost use Rattle.a32_step.specs.Progress.{progress_of};
+ghost use Rattle.a32_step.specs.Classes.{class_of, word_access, half_access};
 ghost use Rattle.a32_step.specs.Machine.{moved_on};
 
 use super::Cpu;
@@ -239,5 +241,65 @@ impl Cpu {
                 self.load_half(instr, image, access.kind, place, back, access.rt)
             }
         }
+    }
+}
+
+impl Cpu {
+    /// A load or a store of a word or a byte (DDI 0406C A5.3).
+    pub(super) fn access_word(&mut self, instr: &Instr, image: &Image) -> Progress
+        requires { class_of instr.now ≡ word_access }
+        ensures progress { result ≡ progress_of (acts instr.now image.now self.old.replies self.old.state) }
+        ensures state { self.new ≡ moved_on instr.now self.old (acts instr.now image.now self.old.replies self.old.state) }
+    {
+        let Instr::Word {
+            load,
+            byte,
+            index,
+            rn,
+            rt,
+            ref offset,
+            ..
+        } = *instr
+        else {
+            unreachable!()
+        };
+        let moved = self.moved_address(rn, offset);
+        let access = Access {
+            load,
+            byte,
+            index,
+            rn,
+            rt,
+            moved,
+        };
+        self.word(instr, image, access)
+    }
+
+    /// A load or a store of a halfword, or a load of a signed byte (DDI 0406C A5.2.8).
+    pub(super) fn access_half(&mut self, instr: &Instr, image: &Image) -> Progress
+        requires { class_of instr.now ≡ half_access }
+        ensures progress { result ≡ progress_of (acts instr.now image.now self.old.replies self.old.state) }
+        ensures state { self.new ≡ moved_on instr.now self.old (acts instr.now image.now self.old.replies self.old.state) }
+    {
+        let Instr::Half {
+            kind,
+            index,
+            rn,
+            rt,
+            ref offset,
+            ..
+        } = *instr
+        else {
+            unreachable!()
+        };
+        let moved = self.moved_address(rn, offset);
+        let access = HalfAccess {
+            kind,
+            index,
+            rn,
+            rt,
+            moved,
+        };
+        self.half(instr, image, access)
     }
 }

@@ -1,7 +1,10 @@
 //! Multiplications (DDI 0406C A5.2.5).
 ghost use Rattle.std.specs.Prelude.{◌≡◌, if◌then◌else◌};
+ghost use Rattle.llsc_base.specs.Images.{Program};
 ghost use Rattle.a32_instr.specs.Multiply.{product_flags, joined, multiplied, multiplies, multiplies_and_adds, multiplies_and_subtracts, after_long};
+ghost use Rattle.a32_instr.specs.Effect.{acts};
 ghost use Rattle.a32_step.specs.Progress.{progress_of};
+ghost use Rattle.a32_step.specs.Classes.{class_of, multiplication};
 ghost use Rattle.a32_step.specs.Machine.{moved_on, between};
 
 use super::Cpu;
@@ -104,5 +107,37 @@ impl Cpu {
         self.set(lo, (value & 0xffff_ffff) as u32);
         self.set(hi, (value >> 32) as u32);
         self.advance()
+    }
+}
+
+impl Cpu {
+    /// A multiplication (DDI 0406C A5.2.5).
+    pub(super) fn multiplication(&mut self, instr: &Instr) -> Progress
+        requires { class_of instr.now ≡ multiplication }
+        ensures progress { (program : Program) → result ≡ progress_of (acts instr.now program self.old.replies self.old.state) }
+        ensures state { (program : Program) → self.new ≡ moved_on instr.now self.old (acts instr.now program self.old.replies self.old.state) }
+    {
+        match *instr {
+            Instr::Mul { s, rd, rn, rm, .. } => self.multiply(s, rd, rn, rm),
+            Instr::Mla {
+                s,
+                rd,
+                rn,
+                rm,
+                ra,
+                ..
+            } => self.multiply_and_add(s, rd, rn, rm, ra),
+            Instr::Mls { rd, rn, rm, ra, .. } => self.multiply_and_subtract(rd, rn, rm, ra),
+            Instr::Long {
+                kind,
+                s,
+                lo,
+                hi,
+                rn,
+                rm,
+                ..
+            } => self.multiply_long(kind, s, lo, hi, rn, rm),
+            _ => unreachable!(),
+        }
     }
 }

@@ -1,5 +1,4 @@
-use Rattle.std.proofs.Common.{◌≡◌, Ok, ap, sym, ◌∙◌}
-use Rattle.a32_instr.specs.Table.{meaning, table}
+use Rattle.std.proofs.Common.{Ok, ap, sym, ◌∙◌}
 use Rattle.a32_instr.specs.declared.instructions.Instr.TheVariants.{Nop}
 use Rattle.a32_step.proofs.Remembered.{nop_means, all_the_same}
 use Rattle.a32_step.proofs.decoded.Decoded.new.Goals as goal
