@@ -6,3 +6,4 @@ pub mod Words
 pub mod Lists
 pub mod Blocks
 pub mod Remembered
+pub mod Standings

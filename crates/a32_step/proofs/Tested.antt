@@ -31,7 +31,8 @@ use Rattle.a32_instr.specs.Branch.{linked}
 use Rattle.a32_instr.specs.Effect.{acts, condition_of}
 use Rattle.a32_step.specs.declared.phases.Wanted.{Wanted}
 use Rattle.a32_step.specs.Words.{AreWords}
-use Rattle.a32_step.specs.Machine.{wanted_of, begins, ValueFits, IsTested, PassesTests}
+use Rattle.a32_step.specs.Phase.{Phase, Between, Inside, Awaiting, Calling, Stopped}
+use Rattle.a32_step.specs.Machine.{Machine, wanted_of, begins, instr_at, next_in, next_effect, IsReady, ValueFits, IsTested, PassesTests}
 
 -- of two effects that are tested, the chosen one is
 chosen : (program : Program) (replies : List ℕ) (b : Bool) (x y : Effect) → IsTested program replies (wanted_of x) → IsTested program replies (wanted_of y) → IsTested program replies (wanted_of (if b then x else y))
@@ -153,11 +154,18 @@ begins_tested program state (Ok instr) words =
     chosen program [] (passes (condition_of instr) state.flags) (acts instr program [] state) (completes (advanced state)) (acts_tested instr program [] state words) tt
 begins_tested program state (Err stop) words = tt
 
--- what is wanted by an instruction in hand
-pub act_tested : (instr : Instr) (program : Program) (replies : List ℕ) (state : State) (w : Wanted) → AreWords state.regs → w ≡ wanted_of (acts instr program replies state) → IsTested program replies w
-act_tested instr program replies state w words e = subst (λ (v : Wanted). IsTested program replies v) (sym e) (acts_tested instr program replies state words)
+tested_in : (program : Program) (machine : Machine) (phase : Phase) → AreWords machine.state.regs → (phase ≡ Between → machine.replies ≡ []) → IsReady phase
+    → IsTested program machine.replies (wanted_of (next_in program machine phase))
+tested_in program machine Between words none ready =
+    subst (λ (rs : List ℕ). IsTested program rs (wanted_of (begins program machine.state (instr_at program machine.state.pc)))) (sym (none refl))
+    (begins_tested program machine.state (instr_at program machine.state.pc) words)
+tested_in program machine (Inside instr) words none ready = acts_tested instr program machine.replies machine.state words
+tested_in program machine (Awaiting instr ask) words none ready = absurd ready
+tested_in program machine (Calling call) words none ready = absurd ready
+tested_in program machine (Stopped stop) words none ready = tt
 
--- what is wanted by an instruction that begins
-pub begin_tested : (program : Program) (replies : List ℕ) (state : State) (found : Result Instr Stop) (w : Wanted) → AreWords state.regs → replies ≡ [] → w ≡ wanted_of (begins program state found) → IsTested program replies w
-begin_tested program replies state found w words none e =
-    subst (λ (rs : List ℕ). IsTested program rs w) (sym none) (subst (λ (v : Wanted). IsTested program [] v) (sym e) (begins_tested program state found words))
+-- what is wanted by what a machine does next
+pub next_tested : (program : Program) (machine : Machine) (w : Wanted) → AreWords machine.state.regs → (machine.phase ≡ Between → machine.replies ≡ []) → IsReady machine.phase
+    → w ≡ wanted_of (next_effect program machine) → IsTested program machine.replies w
+next_tested program machine w words none ready e =
+    subst (λ (v : Wanted). IsTested program machine.replies v) (sym e) (tested_in program machine machine.phase words none ready)

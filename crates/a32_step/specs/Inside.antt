@@ -1,25 +1,30 @@
--- What the fields of a `Cpu` stand for, and what holds of them.
-use Rattle.std.specs.Prelude.{◌≡◌, ℕ, ◌%◌, ◌<◌, List, [], length}
-use Rattle.a32_step.specs.declared.phases.Phase.{Phase}
-use Rattle.a32_step.specs.declared.phases.Phase.TheVariants.{Between, Inside, Awaiting, Calling, Stopped}
+-- What the fields of an `Execution` stand for, and what holds of them.
+use Rattle.std.specs.Prelude.{◌≡◌, ◌%◌}
+use Rattle.a32_step.specs.declared.phases.Point.{Point}
+use Rattle.a32_step.specs.declared.phases.Point.TheVariants as point
+use Rattle.a32_step.specs.declared.phases.Hold.{Hold}
+use Rattle.a32_step.specs.declared.phases.Hold.TheVariants as hold
 use Rattle.a32_step.specs.Words.{AreWords}
-use Rattle.a32_step.specs.Machine.{Machine}
-use Rattle.a32_step.specs.declared.cpu.Cpu.TheInside as fields
+use Rattle.a32_step.specs.Standing.{Standing, Stage, Between, Inside, Awaiting, Calling, Stopped, HasRoom}
+use Rattle.a32_step.specs.declared.execution.Execution.TheInside as fields
 
-abbrev pub machine_of : fields.Inside → Machine
-machine_of cpu = record {
-  state = record { regs = cpu.regs; flags = cpu.flags; pc = cpu.pc };
-  phase = cpu.phase;
-  replies = cpu.replies;
+-- the stage of a thread that is held
+abbrev pub stage_held : Hold → Stage
+stage_held (hold.Access ask) = Awaiting ask
+stage_held (hold.Call call) = Calling call
+stage_held (hold.Stopped stop) = Stopped stop
+
+abbrev pub stage_at : Point → Hold → Stage
+stage_at point.Between held = Between
+stage_at point.Inside held = Inside
+stage_at point.Held held = stage_held held
+
+abbrev pub standing_of : fields.Inside → Standing
+standing_of execution = record {
+  state = record { regs = execution.regs; flags = execution.flags; pc = execution.pc };
+  stage = stage_at execution.point execution.hold;
+  replies = execution.replies;
 }
 
--- an instruction has had no reply before it begins, and room is left for one that is awaited
-abbrev pub HasRoom : Phase → List ℕ → Type 0
-HasRoom Between replies = replies ≡ []
-HasRoom (Inside instr) replies = Unit {0}
-HasRoom (Awaiting instr ask) replies = length replies < 16
-HasRoom (Calling call) replies = Unit {0}
-HasRoom (Stopped stop) replies = Unit {0}
-
 abbrev pub IsSound : fields.Inside → Type 0
-IsSound cpu = (cpu.pc % 4 ≡ 0) × AreWords cpu.regs × HasRoom cpu.phase cpu.replies
+IsSound execution = (execution.pc % 4 ≡ 0) × AreWords execution.regs × HasRoom (stage_at execution.point execution.hold) execution.replies

@@ -3,3 +3,6 @@ pub mod Inside
 pub mod Words
 pub mod Progress
 pub mod Classes
+pub mod Phase
+pub mod Standing
+pub mod Slots

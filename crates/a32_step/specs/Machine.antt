@@ -12,8 +12,7 @@ use Rattle.a32_instr.specs.declared.outside.Stop.TheVariants as stop
 use Rattle.a32_instr.specs.State.{State, Effect, asks, calls, completes, stops}
 use Rattle.a32_instr.specs.Table.{table, meaning}
 use Rattle.a32_instr.specs.Effect.{acts, effect_of}
-use Rattle.a32_step.specs.declared.phases.Phase.{Phase}
-use Rattle.a32_step.specs.declared.phases.Phase.TheVariants.{Between, Inside, Awaiting, Calling, Stopped}
+use Rattle.a32_step.specs.Phase.{Phase, Between, Inside, Awaiting, Calling, Stopped}
 use Rattle.a32_step.specs.declared.phases.Wanted.{Wanted}
 use Rattle.a32_step.specs.declared.phases.Wanted.TheVariants as wanted
 
@@ -106,6 +105,19 @@ IsReady (Inside instr) = Unit {0}
 IsReady (Awaiting instr ask) = ⊥
 IsReady (Calling call) = ⊥
 IsReady (Stopped stop) = Unit {0}
+
+-- one may go on
+abbrev pub IsInside : Phase → Type 0
+IsInside Between = ⊥
+IsInside (Inside instr) = Unit {0}
+IsInside (Awaiting instr ask) = ⊥
+IsInside (Calling call) = ⊥
+IsInside (Stopped stop) = ⊥
+
+-- a machine that is inside an instruction goes on as another one does
+abbrev pub HasBegun : Program → Machine → Machine → Type 0
+HasBegun program old new =
+    IsInside new.phase × (next_effect program new ≡ next_effect program old) × (after_next program new ≡ after_next program old)
 
 -- an access is awaited
 abbrev pub IsAwaiting : Phase → Type 0

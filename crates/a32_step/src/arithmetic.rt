@@ -11,11 +11,7 @@ use a32_instr::{AluOp, Computed, Flags, Shifted, Sum};
 pub fn as_signed(x: u32) -> i64
     ensures { result ≡ signed x }
 {
-    if x < 1 << 31 {
-        i64::from(x)
-    } else {
-        i64::from(x) - (1 << 32)
-    }
+    i64::from(x.cast_signed())
 }
 
 /// Whether the signed sum of two numbers and a carry is out of range.

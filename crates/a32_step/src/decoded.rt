@@ -1,5 +1,6 @@
 //! Words that were decoded before, so that the words of a loop are decoded once.
-ghost use Rattle.std.specs.Prelude.{◌≡◌, ◌<◌};
+ghost use Rattle.std.specs.Prelude.{◌≡◌, ◌<◌, IfOk, IfErr, Ok, Err, slice_get};
+ghost use Rattle.a32_step.specs.Slots.{instr_of, instr_for};
 ghost use Rattle.a32_instr.specs.Table.{meaning, table};
 
 use a32_decode::decode;
@@ -15,7 +16,7 @@ const NOP: u32 = 0xe320_f000;
 
 /// A word and its instruction.
 #[derive(Clone, Copy)]
-struct Slot {
+pub struct Slot {
     word: u32,
     instr: Instr,
 }
@@ -27,14 +28,15 @@ pub struct Decoded {
 }
 
 impl Model for Decoded {
-    ghost use Rattle.std.specs.Prelude.{◌≡◌, All, Ok};
+    ghost use Rattle.std.specs.Prelude.{◌≡◌, All, List, Ok, length};
     ghost use Rattle.a32_instr.specs.Table.{meaning, table};
+    ghost use Rattle.a32_step.specs.declared.decoded.Slot.{Slot};
 
-    ghost Value = { Unit {0} };
+    ghost Value = { List Slot };
 
-    ghost view = { λ d. tt };
+    ghost view = { λ d. d.slots };
 
-    ghost invariant = { λ d. All (λ slot. meaning table slot.word ≡ Ok slot.instr) d.slots };
+    ghost invariant = { λ d. (length d.slots ≡ 256) × All (λ slot. meaning table slot.word ≡ Ok slot.instr) d.slots };
 }
 
 impl fmt::Debug for Decoded {
@@ -57,28 +59,36 @@ impl Decoded {
         }
     }
 
-    /// The instruction of the word at an address, or why it is none.
+    /// The instruction in the slot of an address.
     #[inline]
-    pub fn instr(&mut self, addr: u32, word: u32) -> Result<Instr, DecodeFault>
-        ensures { result ≡ meaning table word }
+    pub fn at(&self, addr: u32) -> &Instr
+        ensures { result.now ≡ instr_for self.now addr }
+    {
+        &self.slots[(addr / 4) as usize % SLOTS].instr
+    }
+
+    /// Sees to it that the slot of an address has the instruction of this word, or says why the word is none.
+    #[inline]
+    pub fn remember(&mut self, addr: u32, word: u32) -> Result<(), DecodeFault>
+        ensures known { IfOk result (λ done. meaning table word ≡ Ok (instr_for self.new addr)) }
+        ensures refused { IfErr result (λ fault. meaning table word ≡ Err fault) }
     {
         let at = (addr / 4) as usize % SLOTS;
-        let slot = self.slots[at];
-        if slot.word == word {
-            return Ok(slot.instr);
+        if self.slots[at].word == word {
+            return Ok(());
         }
         self.decode(at, word)
     }
 
     /// The instruction of a word that isn't in its slot.
     #[tactic(auto, using(crate::proofs::Remembered::one_more))]
-    fn decode(&mut self, at: usize, word: u32) -> Result<Instr, DecodeFault>
+    fn decode(&mut self, at: usize, word: u32) -> Result<(), DecodeFault>
         requires { at < 256 }
-        ensures { result ≡ meaning table word }
+        ensures known { IfOk result (λ done. meaning table word ≡ Ok (instr_of (slice_get self.new at))) }
+        ensures refused { IfErr result (λ fault. meaning table word ≡ Err fault) }
     {
         let instr = decode(word)?;
         self.slots[at] = Slot { word, instr };
-        let slot = self.slots[at];
-        Ok(slot.instr)
+        Ok(())
     }
 }

@@ -11,6 +11,7 @@ mod arithmetic;
 mod conditions;
 mod cpu;
 mod decoded;
+mod execution;
 mod operands;
 mod parts;
 mod phases;
@@ -21,4 +22,4 @@ mod shifts;
 
 pub use a32_instr::{Ask, CallAsk, Flags, Stop};
 pub use cpu::Cpu;
-pub use phases::{Phase, Wanted};
+pub use phases::Wanted;

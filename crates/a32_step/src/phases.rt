@@ -1,17 +1,24 @@
-use a32_instr::{Ask, CallAsk, Instr, Stop};
+use a32_instr::{Ask, CallAsk, Stop};
 
-/// Where a thread stands in its instruction.
-#[derive(Clone, Copy, Debug, PartialEq, Eq)]
-pub enum Phase {
+/// The point that a thread has reached in its instruction.
+#[derive(Clone, Copy, Debug)]
+pub enum Point {
     /// Between two instructions.
     Between,
-    /// Inside an instruction, whose last access has been replied to.
-    Inside(Instr),
-    /// Waiting for the reply to an access of this instruction.
-    Awaiting(Instr, Ask),
-    /// Waiting for the answer of a guest call.
-    Calling(CallAsk),
-    /// Stopped for good.
+    /// Inside an instruction, which may go on.
+    Inside,
+    /// Held: it waits, or has stopped.
+    Held,
+}
+
+/// What holds a thread.
+#[derive(Clone, Copy, Debug)]
+pub enum Hold {
+    /// An access, whose reply it waits for.
+    Access(Ask),
+    /// A guest call, whose answer it waits for.
+    Call(CallAsk),
+    /// It has stopped for good.
     Stopped(Stop),
 }
 
@@ -33,6 +40,6 @@ pub enum Wanted {
 pub enum Progress {
     /// It is complete.
     Complete,
-    /// It isn't: the phase says what it waits for, or why the thread has stopped.
+    /// It isn't: it waits, or the thread has stopped.
     Held,
 }

@@ -51,13 +51,9 @@ fn cpu_with(regs: [u32; 15], flags: u32) -> Cpu
     ensures { IsReady result.phase }
 {
     Cpu {
-        regs,
-        flags: flags_of(flags),
-        pc: 0x1000,
-        phase: Phase::Between,
-        replies: Replies::new(),
-        near: 0,
+        execution: Execution::new(regs, flags_of(flags), 0x1000),
         decoded: Decoded::new(),
+        near: 0,
     }
 }
 

@@ -1,23 +1,24 @@
 //! Branches (DDI 0406C A5.5) and the supervisor call (A5.6).
 ghost use Rattle.std.specs.Prelude.{◌≡◌};
 ghost use Rattle.llsc_base.specs.Images.{Program};
+ghost use Rattle.a32_instr.specs.State.{calls};
 ghost use Rattle.a32_instr.specs.Branch.{branched, branches_by_register, call_of};
 ghost use Rattle.a32_instr.specs.Effect.{acts};
 ghost use Rattle.a32_step.specs.Progress.{progress_of};
 ghost use Rattle.a32_step.specs.Classes.{class_of, branch_or_call};
-ghost use Rattle.a32_step.specs.Machine.{between, moved_on};
+ghost use Rattle.a32_step.specs.Standing.{resting, moves};
 
-use super::Cpu;
+use super::Execution;
 use crate::operands::branch_target;
-use crate::phases::{Phase, Progress};
+use crate::phases::{Hold, Point, Progress};
 use a32_instr::{CallAsk, Instr, Reg, Stop};
 
-impl Cpu {
+impl Execution {
     /// B and BL (DDI 0406C A8.8.18, A8.8.25).
     #[tactic(auto, using(crate::proofs::Words::words_set))]
     pub(super) fn branch(&mut self, link: bool, words: i32) -> Progress
         ensures progress { result ≡ Progress.Complete }
-        ensures state { self.new ≡ between (branched link words self.old.state) }
+        ensures state { self.new ≡ resting (branched link words self.old.state) }
     {
         if link {
             self.regs[14] = self.pc.wrapping_add(4);
@@ -31,7 +32,7 @@ impl Cpu {
     #[tactic(auto, using(crate::proofs::Words::words_set))]
     pub(super) fn branch_by_register(&mut self, link: bool, rm: Reg) -> Progress
         ensures progress { result ≡ progress_of (branches_by_register link rm self.old.state) }
-        ensures state { (instr : Instr) → self.new ≡ moved_on instr self.old (branches_by_register link rm self.old.state) }
+        ensures state { self.new ≡ moves self.old (branches_by_register link rm self.old.state) }
     {
         let address = self.operand(rm);
         if address % 2 == 1 {
@@ -51,7 +52,7 @@ impl Cpu {
     /// SVC (DDI 0406C A8.8.228).
     pub(super) fn call(&mut self, imm: u32) -> Progress
         ensures progress { result ≡ Progress.Held }
-        ensures state { self.new ≡ record self.old { phase = Phase.Calling (call_of imm self.old.state) } }
+        ensures state { self.new ≡ moves self.old (calls (call_of imm self.old.state)) }
     {
         let call = CallAsk {
             imm,
@@ -60,17 +61,18 @@ impl Cpu {
             b: self.regs[1],
             c: self.regs[2],
         };
-        self.phase = Phase::Calling(call);
+        self.point = Point::Held;
+        self.hold = Hold::Call(call);
         Progress::Held
     }
 }
 
-impl Cpu {
+impl Execution {
     /// A branch, or a supervisor call (DDI 0406C A5.5, A5.6).
     pub(super) fn branch_or_call(&mut self, instr: &Instr) -> Progress
         requires { class_of instr.now ≡ branch_or_call }
         ensures progress { (program : Program) → result ≡ progress_of (acts instr.now program self.old.replies self.old.state) }
-        ensures state { (program : Program) → self.new ≡ moved_on instr.now self.old (acts instr.now program self.old.replies self.old.state) }
+        ensures state { (program : Program) → self.new ≡ moves self.old (acts instr.now program self.old.replies self.old.state) }
     {
         match *instr {
             Instr::Branch { link, words, .. } => self.branch(link, words),

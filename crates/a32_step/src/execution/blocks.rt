@@ -1,17 +1,17 @@
 //! Loads and stores of a block of registers (DDI 0406C A5.5).
-ghost use Rattle.std.specs.Prelude.{◌≡◌, ◌<◌, ◌≤◌, ◌-◌, ◌*◌, ◌%◌, ◌^◌, length, true, false};
+ghost use Rattle.std.specs.Prelude.{◌≡◌, ◌<◌, ◌≤◌, length};
 ghost use Rattle.a32_instr.specs.State.{jumps};
 ghost use Rattle.a32_instr.specs.Block.{registers_of, count_of, bytes_of, block, block_ask, block_back, block_loaded, with_block};
 ghost use Rattle.a32_instr.specs.Effect.{acts};
 ghost use Rattle.a32_step.specs.Progress.{progress_of};
 ghost use Rattle.a32_step.specs.Classes.{class_of, block_access};
-ghost use Rattle.a32_step.specs.Machine.{moved_on};
+ghost use Rattle.a32_step.specs.Standing.{moves};
 
-use super::Cpu;
+use super::Execution;
 use super::load_store::barred;
 use crate::operands::moved;
 use crate::parts::low_word;
-use crate::phases::{Phase, Progress};
+use crate::phases::Progress;
 use crate::registers::{count_of, is_listed, listed, lowest_address};
 use a32_instr::{Ask, Instr, Reg, Stop};
 use llsc_base::{Image, Place, Size};
@@ -27,7 +27,7 @@ pub(super) struct Transfer {
     pub list: u16,
 }
 
-impl Cpu {
+impl Execution {
     /// The base register moves past the block, where it is written back.
     fn move_base(&mut self, transfer: Transfer, bytes: u32)
         ensures { self.new ≡ record self.old { state = block_back transfer.wback transfer.up transfer.rn bytes self.old.state } }
@@ -81,7 +81,7 @@ impl Cpu {
         requires most { count ≤ 16 }
         requires all { count_of transfer.list ≤ length self.old.replies }
         ensures progress { result ≡ progress_of (block_loaded transfer.list self.old.replies (block_back transfer.wback transfer.up transfer.rn (bytes_of transfer.list) self.old.state)) }
-        ensures state { (instr : Instr) → self.new ≡ moved_on instr self.old (block_loaded transfer.list self.old.replies (block_back transfer.wback transfer.up transfer.rn (bytes_of transfer.list) self.old.state)) }
+        ensures state { self.new ≡ moves self.old (block_loaded transfer.list self.old.replies (block_back transfer.wback transfer.up transfer.rn (bytes_of transfer.list) self.old.state)) }
     {
         let list = transfer.list;
         if is_listed(list, 15) {
@@ -99,7 +99,7 @@ impl Cpu {
         requires most { count ≤ 16 }
         requires all { count_of transfer.list ≤ length self.old.replies }
         ensures progress { result ≡ progress_of (jumps (with_block transfer.list self.old.replies (block_back transfer.wback transfer.up transfer.rn (bytes_of transfer.list) self.old.state)) value) }
-        ensures state { (instr : Instr) → self.new ≡ moved_on instr self.old (jumps (with_block transfer.list self.old.replies (block_back transfer.wback transfer.up transfer.rn (bytes_of transfer.list) self.old.state)) value) }
+        ensures state { self.new ≡ moves self.old (jumps (with_block transfer.list self.old.replies (block_back transfer.wback transfer.up transfer.rn (bytes_of transfer.list) self.old.state)) value) }
     {
         if value % 2 == 1 {
             return self.stop(Stop::Thumb(self.pc));
@@ -116,9 +116,9 @@ impl Cpu {
     }
 
     /// LDM and STM (DDI 0406C A8.8.58 to A8.8.61, A8.8.199 to A8.8.202).
-    pub(super) fn block(&mut self, instr: &Instr, image: &Image, transfer: Transfer) -> Progress
+    pub(super) fn block(&mut self, image: &Image, transfer: Transfer) -> Progress
         ensures progress { result ≡ progress_of (block image.now transfer.load transfer.before transfer.up transfer.wback transfer.rn transfer.list self.old.replies self.old.state) }
-        ensures state { self.new ≡ moved_on instr.now self.old (block image.now transfer.load transfer.before transfer.up transfer.wback transfer.rn transfer.list self.old.replies self.old.state) }
+        ensures state { self.new ≡ moves self.old (block image.now transfer.load transfer.before transfer.up transfer.wback transfer.rn transfer.list self.old.replies self.old.state) }
     {
         let count = count_of(transfer.list);
         let lowest = lowest_address(
@@ -133,8 +133,7 @@ impl Cpu {
         let replies = self.replies.count();
         if replies < count as usize {
             let ask = self.block_ask(transfer, lowest, replies);
-            self.phase = Phase::Awaiting(*instr, ask);
-            return Progress::Held;
+            return self.wait(ask);
         }
         if transfer.load {
             return self.finish_block(transfer, count);
@@ -144,12 +143,12 @@ impl Cpu {
     }
 }
 
-impl Cpu {
+impl Execution {
     /// A load or a store of a block (DDI 0406C A5.5).
     pub(super) fn access_block(&mut self, instr: &Instr, image: &Image) -> Progress
         requires { class_of instr.now ≡ block_access }
         ensures progress { result ≡ progress_of (acts instr.now image.now self.old.replies self.old.state) }
-        ensures state { self.new ≡ moved_on instr.now self.old (acts instr.now image.now self.old.replies self.old.state) }
+        ensures state { self.new ≡ moves self.old (acts instr.now image.now self.old.replies self.old.state) }
     {
         let Instr::Block {
             load,
@@ -171,6 +170,6 @@ impl Cpu {
             rn,
             list,
         };
-        self.block(instr, image, transfer)
+        self.block(image, transfer)
     }
 }

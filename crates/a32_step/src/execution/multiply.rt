@@ -1,13 +1,13 @@
 //! Multiplications (DDI 0406C A5.2.5).
 ghost use Rattle.std.specs.Prelude.{◌≡◌, if◌then◌else◌};
 ghost use Rattle.llsc_base.specs.Images.{Program};
-ghost use Rattle.a32_instr.specs.Multiply.{product_flags, joined, multiplied, multiplies, multiplies_and_adds, multiplies_and_subtracts, after_long};
+ghost use Rattle.a32_instr.specs.Multiply.{joined, multiplied, multiplies, multiplies_and_adds, multiplies_and_subtracts, after_long};
 ghost use Rattle.a32_instr.specs.Effect.{acts};
 ghost use Rattle.a32_step.specs.Progress.{progress_of};
 ghost use Rattle.a32_step.specs.Classes.{class_of, multiplication};
-ghost use Rattle.a32_step.specs.Machine.{moved_on, between};
+ghost use Rattle.a32_step.specs.Standing.{moves, resting};
 
-use super::Cpu;
+use super::Execution;
 use crate::phases::Progress;
 use crate::products::{minus_product, product, product_plus, wide};
 use crate::shifts::is_negative;
@@ -26,7 +26,7 @@ fn flags_of_product(negative: bool, zero: bool, flags: Flags) -> Flags
     }
 }
 
-impl Cpu {
+impl Execution {
     /// The flags after a product, if the instruction sets them.
     fn after_product(&self, sets: bool, negative: bool, zero: bool) -> Flags
         ensures { result ≡ (if sets then record self.now.state.flags { n = negative; z = zero } else self.now.state.flags) }
@@ -41,7 +41,7 @@ impl Cpu {
     /// The instruction is complete with a product, and with its flags if it sets them.
     fn write_product(&mut self, sets: bool, rd: Reg, value: u32) -> Progress
         ensures progress { result ≡ progress_of (multiplied sets rd value self.old.state) }
-        ensures state { (instr : Instr) → self.new ≡ moved_on instr self.old (multiplied sets rd value self.old.state) }
+        ensures state { self.new ≡ moves self.old (multiplied sets rd value self.old.state) }
     {
         let flags = self.after_product(sets, is_negative(value), value == 0);
         self.write(flags, rd, value)
@@ -50,7 +50,7 @@ impl Cpu {
     /// MUL (DDI 0406C A8.8.114).
     pub(super) fn multiply(&mut self, sets: bool, rd: Reg, rn: Reg, rm: Reg) -> Progress
         ensures progress { result ≡ progress_of (multiplies sets rd rn rm self.old.state) }
-        ensures state { (instr : Instr) → self.new ≡ moved_on instr self.old (multiplies sets rd rn rm self.old.state) }
+        ensures state { self.new ≡ moves self.old (multiplies sets rd rn rm self.old.state) }
     {
         let value = product(self.operand(rn), self.operand(rm));
         self.write_product(sets, rd, value)
@@ -66,7 +66,7 @@ impl Cpu {
         ra: Reg,
     ) -> Progress
         ensures progress { result ≡ progress_of (multiplies_and_adds sets rd rn rm ra self.old.state) }
-        ensures state { (instr : Instr) → self.new ≡ moved_on instr self.old (multiplies_and_adds sets rd rn rm ra self.old.state) }
+        ensures state { self.new ≡ moves self.old (multiplies_and_adds sets rd rn rm ra self.old.state) }
     {
         let value = product_plus(self.operand(rn), self.operand(rm), self.operand(ra));
         self.write_product(sets, rd, value)
@@ -75,7 +75,7 @@ impl Cpu {
     /// MLS (DDI 0406C A8.8.101).
     pub(super) fn multiply_and_subtract(&mut self, rd: Reg, rn: Reg, rm: Reg, ra: Reg) -> Progress
         ensures progress { result ≡ progress_of (multiplies_and_subtracts rd rn rm ra self.old.state) }
-        ensures state { (instr : Instr) → self.new ≡ moved_on instr self.old (multiplies_and_subtracts rd rn rm ra self.old.state) }
+        ensures state { self.new ≡ moves self.old (multiplies_and_subtracts rd rn rm ra self.old.state) }
     {
         let value = minus_product(self.operand(ra), self.operand(rn), self.operand(rm));
         self.write(self.flags, rd, value)
@@ -99,7 +99,7 @@ impl Cpu {
         rm: Reg,
     ) -> Progress
         ensures progress { result ≡ Progress.Complete }
-        ensures state { self.new ≡ between (after_long kind sets lo hi rn rm self.old.state) }
+        ensures state { self.new ≡ resting (after_long kind sets lo hi rn rm self.old.state) }
     {
         let old = self.pair(hi, lo);
         let value = wide(kind, self.operand(rn), self.operand(rm), old);
@@ -110,12 +110,12 @@ impl Cpu {
     }
 }
 
-impl Cpu {
+impl Execution {
     /// A multiplication (DDI 0406C A5.2.5).
     pub(super) fn multiplication(&mut self, instr: &Instr) -> Progress
         requires { class_of instr.now ≡ multiplication }
         ensures progress { (program : Program) → result ≡ progress_of (acts instr.now program self.old.replies self.old.state) }
-        ensures state { (program : Program) → self.new ≡ moved_on instr.now self.old (acts instr.now program self.old.replies self.old.state) }
+        ensures state { (program : Program) → self.new ≡ moves self.old (acts instr.now program self.old.replies self.old.state) }
     {
         match *instr {
             Instr::Mul { s, rd, rn, rm, .. } => self.multiply(s, rd, rn, rm),

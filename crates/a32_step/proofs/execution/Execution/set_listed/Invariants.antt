@@ -2,7 +2,7 @@
 use Rattle.std.proofs.Common.{◌≡◌, ◌+◌, ◌-◌, ◌≤◌, drop, length}
 use Rattle.a32_instr.specs.Block.{registers_of, loaded}
 use Rattle.a32_step.proofs.Lists.{highest}
-use Rattle.a32_step.proofs.cpu.Cpu.set_listed.Given as goal
+use Rattle.a32_step.proofs.execution.Execution.set_listed.Given as goal
 
 abbrev pub invariant-loop-r : goal.invariant-loop-r
 invariant-loop-r l =

@@ -2,19 +2,19 @@
 ghost use Rattle.std.specs.Prelude.{◌≡◌};
 ghost use Rattle.a32_instr.specs.Moves.{moves_wide, moves_top, counts_zeros, reverses, extends};
 ghost use Rattle.a32_step.specs.Progress.{progress_of};
-ghost use Rattle.a32_step.specs.Machine.{moved_on};
+ghost use Rattle.a32_step.specs.Standing.{moves};
 
-use super::Cpu;
+use super::Execution;
 use crate::parts::{extend, reverse, with_upper_half};
 use crate::phases::Progress;
 use crate::shifts::rotate_right;
 use a32_instr::{Instr, Reg};
 
-impl Cpu {
+impl Execution {
     /// MOVW (DDI 0406C A8.8.102).
     pub(super) fn move_wide(&mut self, rd: Reg, imm: u16) -> Progress
         ensures progress { result ≡ progress_of (moves_wide rd imm self.old.state) }
-        ensures state { (instr : Instr) → self.new ≡ moved_on instr self.old (moves_wide rd imm self.old.state) }
+        ensures state { self.new ≡ moves self.old (moves_wide rd imm self.old.state) }
     {
         self.write(self.flags, rd, u32::from(imm))
     }
@@ -22,7 +22,7 @@ impl Cpu {
     /// MOVT (DDI 0406C A8.8.106).
     pub(super) fn move_top(&mut self, rd: Reg, imm: u16) -> Progress
         ensures progress { result ≡ progress_of (moves_top rd imm self.old.state) }
-        ensures state { (instr : Instr) → self.new ≡ moved_on instr self.old (moves_top rd imm self.old.state) }
+        ensures state { self.new ≡ moves self.old (moves_top rd imm self.old.state) }
     {
         let value = with_upper_half(self.operand(rd), imm);
         self.write(self.flags, rd, value)
@@ -31,7 +31,7 @@ impl Cpu {
     /// CLZ (DDI 0406C A8.8.33).
     pub(super) fn count_zeros(&mut self, rd: Reg, rm: Reg) -> Progress
         ensures progress { result ≡ progress_of (counts_zeros rd rm self.old.state) }
-        ensures state { (instr : Instr) → self.new ≡ moved_on instr self.old (counts_zeros rd rm self.old.state) }
+        ensures state { self.new ≡ moves self.old (counts_zeros rd rm self.old.state) }
     {
         let value = self.operand(rm).leading_zeros();
         self.write(self.flags, rd, value)
@@ -47,7 +47,7 @@ impl Cpu {
         turn: u8,
     ) -> Progress
         ensures progress { result ≡ progress_of (extends unsigned half rd rm turn self.old.state) }
-        ensures state { (instr : Instr) → self.new ≡ moved_on instr self.old (extends unsigned half rd rm turn self.old.state) }
+        ensures state { self.new ≡ moves self.old (extends unsigned half rd rm turn self.old.state) }
     {
         let turned = rotate_right(self.operand(rm), 8 * u32::from(turn));
         self.write(self.flags, rd, extend(unsigned, half, turned))
@@ -56,7 +56,7 @@ impl Cpu {
     /// REV (DDI 0406C A8.8.145).
     pub(super) fn reverse(&mut self, rd: Reg, rm: Reg) -> Progress
         ensures progress { result ≡ progress_of (reverses rd rm self.old.state) }
-        ensures state { (instr : Instr) → self.new ≡ moved_on instr self.old (reverses rd rm self.old.state) }
+        ensures state { self.new ≡ moves self.old (reverses rd rm self.old.state) }
     {
         let value = reverse(self.operand(rm));
         self.write(self.flags, rd, value)

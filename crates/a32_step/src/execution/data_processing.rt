@@ -5,16 +5,17 @@ ghost use Rattle.a32_instr.specs.DataProcessing.{operand_of, alu};
 ghost use Rattle.a32_instr.specs.Effect.{acts};
 ghost use Rattle.a32_step.specs.Progress.{progress_of};
 ghost use Rattle.a32_step.specs.Classes.{class_of, data_processing};
-ghost use Rattle.a32_step.specs.Machine.{moved_on};
+ghost use Rattle.a32_step.specs.Standing.{moves};
 
-use super::Cpu;
+use super::Execution;
 use crate::arithmetic::{compute, value_of};
 use crate::phases::Progress;
 use crate::shifts::{immediate, shift, shift_by_number};
 use a32_instr::{AluOp, Instr, Operand2, Reg, Shifted};
 
-impl Cpu {
+impl Execution {
     /// The second operand of a data-processing instruction.
+    #[inline(always)]
     fn second_operand(&self, operand: Operand2) -> Shifted
         ensures { result ≡ operand_of operand self.now.state }
     {
@@ -32,7 +33,7 @@ impl Cpu {
     /// Data processing that sets the flags.
     fn alu_with_flags(&mut self, op: AluOp, rd: Reg, rn: Reg, operand: Operand2) -> Progress
         ensures progress { result ≡ progress_of (alu op true rd rn operand self.old.state) }
-        ensures state { (instr : Instr) → self.new ≡ moved_on instr self.old (alu op true rd rn operand self.old.state) }
+        ensures state { self.new ≡ moves self.old (alu op true rd rn operand self.old.state) }
     {
         let second = self.second_operand(operand);
         let computed = compute(op, self.operand(rn), second, self.flags);
@@ -54,7 +55,7 @@ impl Cpu {
         operand: Operand2,
     ) -> Progress
         ensures progress { result ≡ progress_of (alu op sets rd rn operand self.old.state) }
-        ensures state { (instr : Instr) → self.new ≡ moved_on instr self.old (alu op sets rd rn operand self.old.state) }
+        ensures state { self.new ≡ moves self.old (alu op sets rd rn operand self.old.state) }
     {
         if sets {
             return self.alu_with_flags(op, rd, rn, operand);
@@ -68,12 +69,12 @@ impl Cpu {
     }
 }
 
-impl Cpu {
+impl Execution {
     /// An instruction of data processing (DDI 0406C A4.4).
     pub(super) fn process_data(&mut self, instr: &Instr) -> Progress
         requires { class_of instr.now ≡ data_processing }
         ensures progress { (program : Program) → result ≡ progress_of (acts instr.now program self.old.replies self.old.state) }
-        ensures state { (program : Program) → self.new ≡ moved_on instr.now self.old (acts instr.now program self.old.replies self.old.state) }
+        ensures state { (program : Program) → self.new ≡ moves self.old (acts instr.now program self.old.replies self.old.state) }
     {
         match *instr {
             Instr::Alu {

@@ -2,7 +2,7 @@ use Rattle.std.proofs.Common.{rules, ◌≡◌, ◌<◌, ◌≤◌, ◌+◌, ◌
 use Rattle.a32_instr.specs.State.{low32}
 use Rattle.a32_instr.specs.Block.{is_listed, loaded}
 use Rattle.a32_step.proofs.Lists.{highest, at_listed, loaded_next}
-use Rattle.a32_step.proofs.cpu.Cpu.set_listed.Goals as goal
+use Rattle.a32_step.proofs.execution.Execution.set_listed.Goals as goal
 
 -- one more register got its reply
 pub loop-r-preserved : goal.loop-r-preserved

@@ -1,15 +1,13 @@
 //! Synchronization primitives (DDI 0406C A3.4, A5.2.10): exclusives ask, and memory decides.
-ghost use Rattle.std.specs.Prelude.{◌≡◌, []};
-ghost use Rattle.llsc_base.specs.Images.{bar_of};
-ghost use Rattle.a32_instr.specs.State.{advanced, with_register};
-ghost use Rattle.a32_instr.specs.Exclusive.{next_register, with_loaded, stored_part, loads_exclusive, stores_exclusive, load_exclusive, store_exclusive, clear_exclusive};
+ghost use Rattle.std.specs.Prelude.{◌≡◌};
+ghost use Rattle.a32_instr.specs.Exclusive.{next_register, with_loaded, stored_part, load_exclusive, store_exclusive, clear_exclusive};
 ghost use Rattle.a32_instr.specs.Effect.{acts};
 ghost use Rattle.a32_step.specs.Progress.{progress_of};
 ghost use Rattle.a32_step.specs.Classes.{class_of, synchronization};
-ghost use Rattle.a32_step.specs.Machine.{moved_on};
+ghost use Rattle.a32_step.specs.Standing.{moves};
 
-use super::Cpu;
-use crate::phases::{Phase, Progress};
+use super::Execution;
+use crate::phases::Progress;
 use a32_instr::{Ask, Instr, Reg};
 use llsc_base::{Image, Place, Size};
 
@@ -20,7 +18,7 @@ fn next_register(rt: Reg) -> Reg
     Reg::new((rt.num() + 1) % 16)
 }
 
-impl Cpu {
+impl Execution {
     /// A loaded value goes to its register, or to two.
     fn set_loaded(&mut self, size: Size, rt: Reg, value: u64)
         ensures { self.new ≡ record self.old { state = with_loaded size rt value self.old.state } }
@@ -45,16 +43,9 @@ impl Cpu {
     }
 
     /// LDREX, LDREXB, LDREXH and LDREXD (DDI 0406C A8.8.75 to A8.8.78).
-    pub(super) fn load_exclusive(
-        &mut self,
-        instr: &Instr,
-        image: &Image,
-        size: Size,
-        rn: Reg,
-        rt: Reg,
-    ) -> Progress
+    pub(super) fn load_exclusive(&mut self, image: &Image, size: Size, rn: Reg, rt: Reg) -> Progress
         ensures progress { result ≡ progress_of (load_exclusive size rn rt image.now self.old.replies self.old.state) }
-        ensures state { self.new ≡ moved_on instr.now self.old (load_exclusive size rn rt image.now self.old.replies self.old.state) }
+        ensures state { self.new ≡ moves self.old (load_exclusive size rn rt image.now self.old.replies self.old.state) }
     {
         if let Some(reply) = self.replies.first() {
             self.set_loaded(size, rt, reply);
@@ -64,13 +55,12 @@ impl Cpu {
             addr: self.operand(rn),
             size,
         };
-        self.ask(instr, image, place, false, Ask::LoadEx(place))
+        self.ask(image, place, false, Ask::LoadEx(place))
     }
 
     /// STREX, STREXB, STREXH and STREXD (DDI 0406C A8.8.212 to A8.8.215).
     pub(super) fn store_exclusive(
         &mut self,
-        instr: &Instr,
         image: &Image,
         size: Size,
         rn: Reg,
@@ -78,7 +68,7 @@ impl Cpu {
         rt: Reg,
     ) -> Progress
         ensures progress { result ≡ progress_of (store_exclusive size rn rd rt image.now self.old.replies self.old.state) }
-        ensures state { self.new ≡ moved_on instr.now self.old (store_exclusive size rn rd rt image.now self.old.replies self.old.state) }
+        ensures state { self.new ≡ moves self.old (store_exclusive size rn rd rt image.now self.old.replies self.old.state) }
     {
         if let Some(reply) = self.replies.first() {
             self.set(rd, (reply & 0xffff_ffff) as u32);
@@ -89,39 +79,38 @@ impl Cpu {
             size,
         };
         let value = self.part_to_store(size, rt);
-        self.ask(instr, image, place, true, Ask::StoreEx(place, value))
+        self.ask(image, place, true, Ask::StoreEx(place, value))
     }
 
     /// CLREX (DDI 0406C A8.8.32).
-    pub(super) fn clear_exclusive(&mut self, instr: &Instr) -> Progress
+    pub(super) fn clear_exclusive(&mut self) -> Progress
         ensures progress { result ≡ progress_of (clear_exclusive self.old.replies self.old.state) }
-        ensures state { self.new ≡ moved_on instr.now self.old (clear_exclusive self.old.replies self.old.state) }
+        ensures state { self.new ≡ moves self.old (clear_exclusive self.old.replies self.old.state) }
     {
         if self.replies.first().is_some() {
             return self.advance();
         }
-        self.phase = Phase::Awaiting(*instr, Ask::Clear);
-        Progress::Held
+        self.wait(Ask::Clear)
     }
 }
 
-impl Cpu {
+impl Execution {
     /// A synchronization primitive (DDI 0406C A4.6, A5.2.10).
     pub(super) fn synchronize(&mut self, instr: &Instr, image: &Image) -> Progress
         requires { class_of instr.now ≡ synchronization }
         ensures progress { result ≡ progress_of (acts instr.now image.now self.old.replies self.old.state) }
-        ensures state { self.new ≡ moved_on instr.now self.old (acts instr.now image.now self.old.replies self.old.state) }
+        ensures state { self.new ≡ moves self.old (acts instr.now image.now self.old.replies self.old.state) }
     {
         match *instr {
-            Instr::LoadEx { size, rn, rt, .. } => self.load_exclusive(instr, image, size, rn, rt),
+            Instr::LoadEx { size, rn, rt, .. } => self.load_exclusive(image, size, rn, rt),
             Instr::StoreEx {
                 size,
                 rn,
                 rd,
                 rt,
                 ..
-            } => { self.store_exclusive(instr, image, size, rn, rd, rt) }
-            Instr::Clrex => self.clear_exclusive(instr),
+            } => { self.store_exclusive(image, size, rn, rd, rt) }
+            Instr::Clrex => self.clear_exclusive(),
             _ => unreachable!(),
         }
     }

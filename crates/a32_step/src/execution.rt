@@ -1,0 +1,295 @@
+//! The instruction at the PC of one guest thread as it is carried out.
+ghost use Rattle.std.specs.Prelude.{◌≡◌, ◌≢◌, ◌<◌, ◌≤◌, ◌%◌, ◌∷◌, ◌++◌, length, slice_index, []};
+ghost use Rattle.a32_instr.specs.State.{register, with_register, advanced, jumps, writes, answered, stops};
+ghost use Rattle.a32_instr.specs.Effect.{acts};
+ghost use Rattle.a32_step.specs.Progress.{progress_of};
+ghost use Rattle.a32_step.specs.Words.{AreWords};
+ghost use Rattle.a32_step.specs.Standing.{Between, Inside, Awaiting, Stopped, IsAwaited, resting, moves, wanted_at};
+ghost use Rattle.a32_step.specs.Inside.{stage_held};
+ghost use Rattle.a32_step.specs.Machine.{wanted_of};
+
+use crate::phases::{Hold, Point, Progress, Wanted};
+use crate::replies::Replies;
+use a32_instr::{Ask, Flags, Instr, Reg, Stop};
+use llsc_base::Image;
+use std::marker::Model;
+
+mod blocks;
+mod branches;
+mod data_processing;
+mod exclusives;
+mod load_store;
+mod moves;
+mod multiply;
+
+/// What is wanted by a thread that is held.
+#[inline]
+fn wanted_held(hold: Hold) -> Wanted
+    ensures { result ≡ wanted_at Progress.Held (stage_held hold) }
+{
+    match hold {
+        Hold::Access(ask) => Wanted::Access(ask),
+        Hold::Call(call) => Wanted::Call(call),
+        Hold::Stopped(stop) => Wanted::Stopped(stop),
+    }
+}
+
+/// What an instruction works on: r0 to r14, the flags, the PC, and how far it has come. Registers,
+/// flags and PC keep their values until it is complete.
+#[derive(Debug, Drop)]
+pub struct Execution {
+    regs: [u32; 15],
+    flags: Flags,
+    pc: u32,
+    point: Point,
+    /// What holds the thread, where the point says that it is held.
+    hold: Hold,
+    replies: Replies,
+}
+
+impl Model for Execution {
+    ghost use Rattle.a32_step.specs.Standing.{Standing};
+
+    ghost Value = { Standing };
+
+    ghost use Rattle.a32_step.specs.Inside.{standing_of, IsSound};
+
+    ghost view = { standing_of };
+
+    ghost invariant = { IsSound };
+}
+
+impl Execution {
+    /// Between two instructions, with these registers and flags.
+    pub fn new(regs: [u32; 15], flags: Flags, pc: u32) -> Execution
+        requires aligned { pc % 4 ≡ 0 }
+        requires words { AreWords regs }
+        ensures { result ≡ resting (record { regs = regs; flags = flags; pc = pc }) }
+    {
+        Execution {
+            regs,
+            flags,
+            pc,
+            point: Point::Between,
+            hold: Hold::Access(Ask::Clear),
+            replies: Replies::new(),
+        }
+    }
+
+    /// One of r0 to r14.
+    #[inline]
+    pub fn reg(&self, i: u32) -> u32
+        requires { i ≤ 14 }
+        ensures { result ≡ slice_index self.now.state.regs i }
+    {
+        self.regs[i as usize]
+    }
+
+    /// The address of the instruction in hand, or of the next one.
+    #[inline]
+    pub fn pc(&self) -> u32
+        ensures pc { result ≡ self.now.state.pc }
+        ensures aligned { result % 4 ≡ 0 }
+    {
+        self.pc
+    }
+
+    /// The condition flags.
+    #[inline]
+    pub fn flags(&self) -> Flags
+        ensures { result ≡ self.now.state.flags }
+    {
+        self.flags
+    }
+
+    /// The point that has been reached.
+    #[inline]
+    pub fn point(&self) -> Point
+        ensures between { result ≡ Point.Between → self.now.stage ≡ Between }
+        ensures begins { self.now.stage ≡ Between → self.now.replies ≡ [] }
+        ensures inside { result ≡ Point.Inside → self.now.stage ≡ Inside }
+        ensures held { result ≡ Point.Held → (self.now.stage ≢ Between) × (self.now.stage ≢ Inside) }
+        ensures words { AreWords self.now.state.regs }
+    {
+        self.point
+    }
+
+    /// What is wanted: nothing where the instruction is complete, and else what holds the thread.
+    #[inline]
+    pub fn wanted(&self, progress: Progress) -> Wanted
+        ensures { result ≡ wanted_at progress self.now.stage }
+    {
+        if progress == Progress::Complete {
+            return Wanted::Done;
+        }
+        match self.point {
+            Point::Between | Point::Inside => Wanted::Done,
+            Point::Held => wanted_held(self.hold),
+        }
+    }
+
+    /// The instruction begins, and has not done anything yet.
+    #[inline]
+    pub fn begin(&mut self)
+        ensures { self.new ≡ record self.old { stage = Inside } }
+    {
+        self.point = Point::Inside;
+    }
+
+    /// The reply to the access that is awaited.
+    #[inline]
+    #[tactic(auto, using(crate::proofs::Standings::room_of))]
+    pub fn reply(&mut self, reply: u64)
+        requires { IsAwaited self.old.stage }
+        ensures state { self.new ≡ record self.old { stage = Inside; replies = self.old.replies ++ reply ∷ [] } }
+        ensures room { length self.new.replies ≤ 16 }
+    {
+        self.replies.push(reply);
+        self.point = Point::Inside;
+    }
+
+    /// The answer of a guest call: it goes to r0, and the call is over.
+    #[tactic(auto, using(crate::proofs::Words::words_set))]
+    pub fn answer(&mut self, r0: u32)
+        ensures { self.new ≡ resting (answered self.old.state r0) }
+    {
+        self.regs[0] = r0;
+        self.pc = self.pc.wrapping_add(4);
+        self.finish();
+    }
+
+    /// A register as an operand.
+    fn operand(&self, r: Reg) -> u32
+        ensures { result ≡ register self.now.state r }
+    {
+        let num = r.num();
+        if num == 15 {
+            self.pc.wrapping_add(8)
+        } else {
+            self.regs[num as usize]
+        }
+    }
+
+    /// One of r0 to r14 set to a value.
+    #[tactic(auto, using(crate::proofs::Words::words_set, crate::proofs::Words::set_past))]
+    fn set(&mut self, r: Reg, value: u32)
+        ensures { self.new ≡ record self.old { state = with_register self.old.state r value } }
+    {
+        let num = r.num() as usize;
+        if num < self.regs.len() {
+            self.regs[num] = value;
+        }
+    }
+
+    /// The instruction is over.
+    #[inline]
+    fn finish(&mut self)
+        ensures { self.new ≡ resting self.old.state }
+    {
+        self.point = Point::Between;
+        self.replies.clear();
+    }
+
+    /// The instruction waits for the reply to an access.
+    #[inline]
+    fn wait(&mut self, ask: Ask) -> Progress
+        requires { length self.old.replies < 16 }
+        ensures progress { result ≡ Progress.Held }
+        ensures state { self.new ≡ record self.old { stage = Awaiting ask } }
+    {
+        self.point = Point::Held;
+        self.hold = Hold::Access(ask);
+        Progress::Held
+    }
+
+    /// The thread stops.
+    pub fn stop(&mut self, stop: Stop) -> Progress
+        ensures progress { result ≡ progress_of (stops stop) }
+        ensures state { self.new ≡ record self.old { stage = Stopped stop } }
+    {
+        self.point = Point::Held;
+        self.hold = Hold::Stopped(stop);
+        Progress::Held
+    }
+
+    /// The thread stops, and that is what is wanted.
+    pub fn stop_wanted(&mut self, stop: Stop) -> Wanted
+        ensures wanted { result ≡ wanted_of (stops stop) }
+        ensures state { self.new ≡ record self.old { stage = Stopped stop } }
+    {
+        self.stop(stop);
+        Wanted::Stopped(stop)
+    }
+
+    /// The instruction is complete, and wrote no PC.
+    pub fn advance(&mut self) -> Progress
+        ensures progress { result ≡ Progress.Complete }
+        ensures state { self.new ≡ resting (advanced self.old.state) }
+    {
+        self.pc = self.pc.wrapping_add(4);
+        self.finish();
+        Progress::Complete
+    }
+
+    /// The instruction is complete with a write to the PC, if the value is one that the PC may have.
+    fn jump(&mut self, flags: Flags, value: u32) -> Progress
+        ensures progress { result ≡ progress_of (jumps (record self.old.state { flags = flags }) value) }
+        ensures state { self.new ≡ moves self.old (jumps (record self.old.state { flags = flags }) value) }
+    {
+        if value % 2 == 1 {
+            return self.stop(Stop::Thumb(self.pc));
+        }
+        if value % 4 == 2 {
+            return self.stop(Stop::Unpredictable(self.pc));
+        }
+        self.flags = flags;
+        self.pc = value;
+        self.finish();
+        Progress::Complete
+    }
+
+    /// The instruction is complete with a value in a register, and with these flags.
+    #[tactic(auto, using(crate::proofs::Words::words_set))]
+    fn write(&mut self, flags: Flags, r: Reg, value: u32) -> Progress
+        ensures progress { result ≡ progress_of (writes (record self.old.state { flags = flags }) r value) }
+        ensures state { self.new ≡ moves self.old (writes (record self.old.state { flags = flags }) r value) }
+    {
+        let num = r.num();
+        if num == 15 {
+            return self.jump(flags, value);
+        }
+        self.flags = flags;
+        self.regs[num as usize] = value;
+        self.advance()
+    }
+}
+
+impl Execution {
+    /// What the instruction does, its condition passed.
+    pub fn act(&mut self, instr: &Instr, image: &Image) -> Progress
+        ensures progress { result ≡ progress_of (acts instr.now image.now self.old.replies self.old.state) }
+        ensures state { self.new ≡ moves self.old (acts instr.now image.now self.old.replies self.old.state) }
+    {
+        match *instr {
+            Instr::Alu { .. }
+            | Instr::Movw { .. }
+            | Instr::Movt { .. }
+            | Instr::Clz { .. }
+            | Instr::Extend { .. }
+            | Instr::Rev { .. } => self.process_data(instr),
+            Instr::Mul { .. } | Instr::Mla { .. } | Instr::Mls { .. } | Instr::Long { .. } => {
+                self.multiplication(instr)
+            }
+            Instr::Word { .. } => self.access_word(instr, image),
+            Instr::Half { .. } => self.access_half(instr, image),
+            Instr::Block { .. } => self.access_block(instr, image),
+            Instr::LoadEx { .. } | Instr::StoreEx { .. } | Instr::Clrex => {
+                self.synchronize(instr, image)
+            }
+            Instr::Branch { .. } | Instr::BranchReg { .. } | Instr::Svc { .. } => {
+                self.branch_or_call(instr)
+            }
+            Instr::Nop { .. } | Instr::Yield { .. } | Instr::Barrier { .. } => self.advance(),
+        }
+    }
+}

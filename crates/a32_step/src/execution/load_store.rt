@@ -1,0 +1,221 @@
+//! Loads and stores of one register (DDI 0406C A5.2.8, A5.3).
+ghost use Rattle.std.specs.Prelude.{◌≡◌, []};
+ghost use Rattle.llsc_base.specs.Images.{bar_of};
+ghost use Rattle.a32_instr.specs.State.{State, advanced, jumps, writes};
+ghost use Rattle.a32_instr.specs.LoadStore.{half_accesses, asks_unless, barred, distance_of, moved_address, written_back};
+ghost use Rattle.a32_instr.specs.Effect.{acts};
+ghost use Rattle.a32_step.specs.Progress.{progress_of};
+ghost use Rattle.a32_step.specs.Classes.{class_of, word_access, half_access};
+ghost use Rattle.a32_step.specs.Standing.{moves, resting};
+
+use super::Execution;
+use crate::operands::{
+    accessed_address, is_added, moved, part_stored, size_of_access, size_of_half,
+};
+use crate::parts::{loaded_half, low_word};
+use crate::phases::Progress;
+use crate::shifts::shift_by_number;
+use a32_instr::{Ask, HalfKind, Index, Instr, Offset, Reg, Stop};
+use llsc_base::{Bar, Image, Place};
+
+/// What becomes of the base register when a load or a store is complete.
+#[derive(Clone, Copy)]
+struct WriteBack {
+    index: Index,
+    rn: Reg,
+    moved: u32,
+}
+
+/// The stop of a thread whose access is barred.
+pub(super) fn barred(bar: Bar, addr: u32) -> Stop
+    ensures { result ≡ barred bar addr }
+{
+    match bar {
+        Bar::Alignment => Stop::Alignment(addr),
+        Bar::Outside => Stop::Outside(addr),
+        Bar::ReadOnly => Stop::ReadOnly(addr),
+    }
+}
+
+impl Execution {
+    /// An access that is asked for where nothing bars it.
+    pub(super) fn ask(&mut self, image: &Image, place: Place, store: bool, ask: Ask) -> Progress
+        requires { self.old.replies ≡ [] }
+        ensures progress { result ≡ progress_of (asks_unless (bar_of image.now place store) place.addr ask) }
+        ensures state { self.new ≡ moves self.old (asks_unless (bar_of image.now place store) place.addr ask) }
+    {
+        if let Some(bar) = image.test(place, store) {
+            return self.stop(barred(bar, place.addr));
+        }
+        self.wait(ask)
+    }
+
+    /// How far an offset moves.
+    fn distance(&self, offset: &Offset) -> u32
+        ensures { result ≡ distance_of offset.now self.now.state }
+    {
+        match *offset {
+            Offset::Imm { imm, .. } => u32::from(imm),
+            Offset::Shifted {
+                rm,
+                kind,
+                amount,
+                ..
+            } => shift_by_number(kind, self.operand(rm), amount, self.flags.c).value,
+        }
+    }
+
+    /// The moved address of a load or a store.
+    pub(super) fn moved_address(&self, rn: Reg, offset: &Offset) -> u32
+        ensures { result ≡ moved_address rn offset.now self.now.state }
+    {
+        moved(self.operand(rn), is_added(offset), self.distance(offset))
+    }
+
+    /// The moved address goes to the base register, where the index writes it back.
+    fn write_back(&mut self, index: Index, rn: Reg, moved: u32)
+        ensures { self.new ≡ record self.old { state = written_back index rn moved self.old.state } }
+    {
+        match index {
+            Index::Plain => {}
+            Index::Pre | Index::Post => self.set(rn, moved),
+        }
+    }
+
+    /// A load is complete: the base is written back, and then the value goes to its register, which may be the PC.
+    fn finish_load(&mut self, back: WriteBack, rt: Reg, value: u32) -> Progress
+        ensures progress { result ≡ progress_of (writes (written_back back.index back.rn back.moved self.old.state) rt value) }
+        ensures state { self.new ≡ moves self.old (writes (written_back back.index back.rn back.moved self.old.state) rt value) }
+    {
+        if rt.num() == 15 {
+            return self.load_pc(back, value);
+        }
+        self.write_back(back.index, back.rn, back.moved);
+        self.set(rt, value);
+        self.advance()
+    }
+
+    /// A load into the PC is complete, if the value is one that the PC may have.
+    fn load_pc(&mut self, back: WriteBack, value: u32) -> Progress
+        ensures progress { result ≡ progress_of (jumps (written_back back.index back.rn back.moved self.old.state) value) }
+        ensures state { self.new ≡ moves self.old (jumps (written_back back.index back.rn back.moved self.old.state) value) }
+    {
+        if value % 2 == 1 {
+            return self.stop(Stop::Thumb(self.pc));
+        }
+        if value % 4 == 2 {
+            return self.stop(Stop::Unpredictable(self.pc));
+        }
+        self.write_back(back.index, back.rn, back.moved);
+        self.pc = value;
+        self.finish();
+        Progress::Complete
+    }
+
+    /// A store is complete: the base is written back.
+    fn finish_store(&mut self, back: WriteBack) -> Progress
+        ensures progress { result ≡ Progress.Complete }
+        ensures state { self.new ≡ resting (advanced (written_back back.index back.rn back.moved self.old.state)) }
+    {
+        self.write_back(back.index, back.rn, back.moved);
+        self.advance()
+    }
+
+    /// What becomes of the base register; the moved address is worked out only where it is written back.
+    #[inline]
+    fn back(&self, index: Index, rn: Reg, offset: &Offset) -> WriteBack
+        ensures { written_back result.index result.rn result.moved self.now.state ≡ written_back index rn (moved_address rn offset.now self.now.state) self.now.state }
+    {
+        let moved = match index {
+            Index::Plain => 0,
+            Index::Pre | Index::Post => self.moved_address(rn, offset),
+        };
+        WriteBack { index, rn, moved }
+    }
+}
+
+impl Execution {
+    /// A load or a store of a word or a byte (DDI 0406C A5.3).
+    pub(super) fn access_word(&mut self, instr: &Instr, image: &Image) -> Progress
+        requires { class_of instr.now ≡ word_access }
+        ensures progress { result ≡ progress_of (acts instr.now image.now self.old.replies self.old.state) }
+        ensures state { self.new ≡ moves self.old (acts instr.now image.now self.old.replies self.old.state) }
+    {
+        let Instr::Word {
+            load,
+            byte,
+            index,
+            rn,
+            rt,
+            ref offset,
+            ..
+        } = *instr
+        else {
+            unreachable!()
+        };
+        if let Some(reply) = self.replies.first() {
+            let back = self.back(index, rn, offset);
+            if load {
+                return self.finish_load(back, rt, low_word(reply));
+            }
+            return self.finish_store(back);
+        }
+        let moved = self.moved_address(rn, offset);
+        let place = Place {
+            addr: accessed_address(index, self.operand(rn), moved),
+            size: size_of_access(byte),
+        };
+        if load {
+            return self.ask(image, place, false, Ask::Load(place));
+        }
+        let value = part_stored(byte, self.operand(rt));
+        self.ask(image, place, true, Ask::Store(place, value))
+    }
+}
+
+impl Execution {
+    /// A load or a store of a halfword, or a load of a signed byte (DDI 0406C A5.2.8).
+    pub(super) fn access_half(&mut self, instr: &Instr, image: &Image) -> Progress
+        requires { class_of instr.now ≡ half_access }
+        ensures progress { result ≡ progress_of (acts instr.now image.now self.old.replies self.old.state) }
+        ensures state { self.new ≡ moves self.old (acts instr.now image.now self.old.replies self.old.state) }
+    {
+        let Instr::Half {
+            kind,
+            index,
+            rn,
+            rt,
+            ref offset,
+            ..
+        } = *instr
+        else {
+            unreachable!()
+        };
+        if let Some(reply) = self.replies.first() {
+            let back = self.back(index, rn, offset);
+            if kind == HalfKind::Strh {
+                return self.finish_store(back);
+            }
+            return self.finish_load(back, rt, loaded_half(kind, reply));
+        }
+        let moved = self.moved_address(rn, offset);
+        let place = Place {
+            addr: accessed_address(index, self.operand(rn), moved),
+            size: size_of_half(kind),
+        };
+        self.ask_half(image, kind, place, rt)
+    }
+
+    /// LDRH, LDRSB, LDRSH and STRH ask for their place.
+    fn ask_half(&mut self, image: &Image, kind: HalfKind, place: Place, rt: Reg) -> Progress
+        requires { self.old.replies ≡ [] }
+        ensures progress { (back : State) → result ≡ progress_of (half_accesses kind image.now place back rt [] self.old.state) }
+        ensures state { (back : State) → self.new ≡ moves self.old (half_accesses kind image.now place back rt [] self.old.state) }
+    {
+        if kind == HalfKind::Strh {
+            let value = u64::from(self.operand(rt) & 0xffff);
+            return self.ask(image, place, true, Ask::Store(place, value));
+        }
+        self.ask(image, place, false, Ask::Load(place))
+    }
+}
