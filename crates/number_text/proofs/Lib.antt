@@ -1,0 +1,6 @@
+pub mod Horner
+pub mod PlainWords
+pub mod Decimals
+pub mod Lengths
+pub mod Values
+pub mod PlainTexts
