@@ -1,6 +1,7 @@
-ghost use Rattle.std.specs.Prelude.{◌≡◌, ◌<◌, ◌^◌, ℕ};
+ghost use Rattle.std.specs.Prelude.{◌≡◌, ◌<◌, ◌^◌, ℕ, Some, None};
 ghost use Rattle.std.specs.Result.{IfOk};
 ghost use Rattle.a32_instr.specs.Table.{table, meaning};
+ghost use Rattle.a32_encode.specs.Encoding.{encoding_of};
 
 use crate::same::same;
 use crate::words::candidate;
@@ -23,6 +24,8 @@ pub fn encode(i: &Instr) -> Result<u32, EncodeFault>
     ensures word { IfOk result (λ w. (w < 2 ^ 32) × (meaning table w ≡ Ok i.now)) }
     ensures only { IfOk result (λ w. (other : ℕ) → other < 2 ^ 32 → meaning table other ≡ Ok i.now → other ≡ w) }
     ensures none { result ≡ Err EncodeFault.NoEncoding → (other : ℕ) → other < 2 ^ 32 → meaning table other ≡ Ok i.now → ⊥ }
+    ensures encoding { IfOk result (λ w. encoding_of i.now ≡ Some w) }
+    ensures no_encoding { result ≡ Err EncodeFault.NoEncoding → encoding_of i.now ≡ None }
 {
     let sum = candidate(*i);
     if sum > 0xffff_ffff {

@@ -1,14 +1,19 @@
 //! The encoder of A32 instructions: an instruction's one word (DDI 0406C A5, A8.8).
 //!
 //! `encode` builds the only word that can be the instruction's, decodes it, and answers it where the
-//! decoder reads the same instruction. So the table of instruction words in `a32_instr`'s
-//! `specs/Table.antt` is all that its contract speaks of: a word that is given means the instruction,
-//! no other word does, and where none is given there is none. `specs/Word.antt` has the sums by which
-//! the code builds the word, and is no part of what is promised.
+//! decoder reads the same instruction. Its contract says by the table of instruction words in
+//! `a32_instr`'s `specs/Table.antt` that a word that is given means the instruction, that no other word
+//! does, and that where none is given there is none.
+//!
+//! `encoding_of` in `specs/Encoding.antt` is the same as a function, for definitions that need an
+//! instruction's word. The laws in [`laws`] say by the table what it is, and they are all that is
+//! promised of it: the sums in `specs/Word.antt` and the keys beside it only compute it, and are no part
+//! of what is promised.
 #![tactic(auto)]
 
 mod encoder;
 mod fields;
+pub mod laws;
 mod same;
 mod same_accesses;
 mod words;

@@ -1,8 +1,9 @@
-use Rattle.std.proofs.Common.{rules, ◌≡◌, ◌<◌, Bool, true, false, Result, Ok, Err, arith, sym}
+use Rattle.std.proofs.Common.{rules, ◌≡◌, ◌<◌, ◌^◌, Bool, true, false, Result, Ok, Err, arith, refl, sym}
 use Rattle.a32_instr.specs.Table.{table, meaning}
 use Rattle.a32_instr.specs.declared.instructions.Instr.{Instr}
 use Rattle.a32_instr.specs.declared.instructions.DecodeFault.{DecodeFault}
 use Rattle.a32_encode.proofs.Rows.{sum_is, sum_means}
+use Rattle.a32_encode.proofs.Encodings.{means_encoding, no_word_encoding}
 use Rattle.a32_encode.proofs.encoder.encode.Goals as goal
 
 -- no word is so large
@@ -38,3 +39,18 @@ pub returns-in_default-2-clause-none : goal.returns-in_default-2-clause-none
 returns-in_default-2-clause-none c = λ fault other small means.
     meant_none c.decode.result (meaning table c.candidate-sum.result) c.in_default.field-0 c.args.i.now c.decode.ensures c.in_default.is
     (sum_means c.candidate-sum.result c.args.i.now other c.candidate-sum.ensures small means)
+
+-- what holds of every word holds of the encoding
+pub returns-then-sum-gt4294967295-clause-no_encoding : goal.returns-then-sum-gt4294967295-clause-no_encoding
+returns-then-sum-gt4294967295-clause-no_encoding c = λ fault. no_word_encoding c.args.i.now (returns-then-sum-gt4294967295-clause-none c refl)
+
+pub returns-in-Ok-clause-encoding : goal.returns-in-Ok-clause-encoding
+returns-in-Ok-clause-encoding c =
+    let word : (c.candidate-sum.result < 2 ^ 32) × (meaning table c.candidate-sum.result ≡ Ok c.args.i.now) = search rules in
+    means_encoding c.args.i.now c.candidate-sum.result word.0 word.1
+
+pub returns-in_default-clause-no_encoding : goal.returns-in_default-clause-no_encoding
+returns-in_default-clause-no_encoding c = λ fault. no_word_encoding c.args.i.now (returns-in_default-clause-none c refl)
+
+pub returns-in_default-2-clause-no_encoding : goal.returns-in_default-2-clause-no_encoding
+returns-in_default-2-clause-no_encoding c = λ fault. no_word_encoding c.args.i.now (returns-in_default-2-clause-none c refl)
