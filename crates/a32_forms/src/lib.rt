@@ -1,0 +1,33 @@
+//! The text of operands: the words and marks of a line, the numbers and names in it, and the forms that
+//! operands may have. A form is a text of signs (`specs/Forms.antt` has their meaning), and one text serves
+//! both ways: `chosen` reads the first of several forms that operands have, and `write_form` shows a form
+//! with numbers in it.
+#![tactic(auto)]
+
+mod cuts;
+mod fields;
+mod form_texts;
+mod forms;
+mod laws;
+mod names;
+mod numbers;
+mod registers;
+mod shown_list;
+mod shown_names;
+mod text;
+mod worked;
+mod written;
+
+pub use cuts::{before_code, from_code};
+pub use fields::Chosen;
+pub use form_texts::form_in;
+pub use forms::chosen;
+pub use laws::{
+    shown_forms_are_chosen_again, shown_operands_are_read_again, shown_operands_have_their_parts,
+    words_are_read_again,
+};
+pub use names::{place, register_of, shift_of};
+pub use numbers::number_of;
+pub use text::{after_blanks, after_word, front_word, is_blank, is_name, is_wordy};
+pub use worked::{refused_operands, worked_operands, worked_parts};
+pub use written::write_form;

@@ -1,0 +1,45 @@
+//! The names of registers and of kinds of shift.
+ghost use Rattle.std.specs.Prelude.{◌≡◌, ◌<◌, ◌+◌, ◌^◌, length, IfSome};
+ghost use Rattle.a32_forms.specs.Names.{names_in, place_from, register_of, shift_of};
+
+use crate::cuts;
+
+/// The place of a word among names that stand between single spaces, counted from a number on.
+pub fn place(start: u64, names: &[u8], word: &[u8]) -> Option<u64>
+    requires { start + length names.now < 2 ^ 64 }
+    ensures place { result ≡ place_from start (names_in names.now) word.now }
+    ensures bound { IfSome result (λ place. place < start + length (names_in names.now)) }
+{
+    let mut rest = names;
+    let mut place = start;
+    loop {
+        if cuts::before_code(rest, b' ') == word {
+            return Some(place);
+        }
+        let Some((_, after)) = cuts::from_code(rest, b' ').split_first() else {
+            return None;
+        };
+        rest = after;
+        place += 1;
+    }
+}
+
+/// The number of a register by its name.
+pub fn register_of(word: &[u8]) -> Option<u64>
+    ensures number { result ≡ register_of word.now }
+    ensures bound { IfSome result (λ number. number < 16) }
+{
+    let numbered = b"r0 r1 r2 r3 r4 r5 r6 r7 r8 r9 r10 r11 r12 r13 r14 r15";
+    if let Some(number) = place(0, numbered, word) {
+        return Some(number);
+    }
+    place(13, b"sp lr pc", word)
+}
+
+/// The kind of shift by its name, in the order of the encodings.
+pub fn shift_of(word: &[u8]) -> Option<u64>
+    ensures kind { result ≡ shift_of word.now }
+    ensures bound { IfSome result (λ kind. kind < 4) }
+{
+    place(0, b"lsl lsr asr ror", word)
+}
