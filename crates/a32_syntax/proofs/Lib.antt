@@ -1,0 +1,12 @@
+pub mod MnemonicTexts
+pub mod WordsRead
+pub mod Turns
+pub mod Places
+pub mod Formed
+pub mod Meant
+pub mod Fits
+pub mod Texts
+pub mod TurnedNumbers
+pub mod ShownAgain
+pub mod WorkedDecimals
+pub mod ShownCodes

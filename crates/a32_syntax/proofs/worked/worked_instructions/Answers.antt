@@ -1,0 +1,38 @@
+use Rattle.std.proofs.Common.{refl}
+use Rattle.number_text.specs.Digits.{value_in}
+use Rattle.a32_instr.specs.Table.{alu_fits, alu_op, alu_unpredictable, barrier_kind, exclusive_size, half_fits, half_kind, half_unpredictable, block_unpredictable, index_fits, index_of, long_kind, meaning, no_pair, one_of_2_is_pc, one_of_3_is_pc, one_of_4_is_pc, shift_kind, signed24, status_clashes, word_unpredictable}
+use Rattle.a32_instr.specs.Shift.{turned}
+use Rattle.a32_forms.specs.Text.{parts}
+use Rattle.a32_forms.specs.Names.{place_from}
+use Rattle.a32_forms.specs.Registers.{mask_from}
+use Rattle.a32_forms.specs.Forms.{before_mark, chosen_from, from_mark, takes_at_word, takes_from, takes_sign}
+use Rattle.a32_syntax.specs.Mnemonics.{as_operation, read_among, with_flags}
+use Rattle.a32_syntax.specs.Meaning.{amount_of, branch_to, half_indexed, means, number_and_turn, plain_number, second_operand, turned_back, word_indexed}
+use Rattle.a32_syntax.proofs.worked.worked_instructions.Goals as goal
+
+pub returns : goal.returns
+unfolding meaning index_of half_kind exclusive_size barrier_kind alu_op shift_kind long_kind alu_fits alu_unpredictable one_of_2_is_pc one_of_3_is_pc one_of_4_is_pc no_pair status_clashes index_fits word_unpredictable half_fits half_unpredictable block_unpredictable signed24 value_in turned parts place_from mask_from before_mark from_mark chosen_from takes_from takes_sign takes_at_word with_flags as_operation read_among turned_back plain_number number_and_turn amount_of second_operand branch_to word_indexed half_indexed means
+returns c = record {
+  adds = (refl, refl);
+  turns = (refl, refl);
+  reverses = (refl, refl);
+  shifts_right = (refl, refl);
+  shifts_left = (refl, refl);
+  moves_wide = (refl, refl);
+  moves_top = (refl, refl);
+  multiplies = (refl, refl);
+  loads = (refl, refl);
+  stores = (refl, refl);
+  loads_half = (refl, refl);
+  loads_block = (refl, refl);
+  stores_block = (refl, refl);
+  branches = (refl, refl);
+  returns = (refl, refl);
+  counts = (refl, refl);
+  turns_round = (refl, refl);
+  extends = (refl, refl);
+  loads_exclusive = (refl, refl);
+  stores_exclusive = (refl, refl);
+  clears = (refl, refl);
+  waits = (refl, refl);
+}

@@ -1,0 +1,107 @@
+//! Second operands of data processing, and shifts.
+ghost use Rattle.std.specs.Prelude.{◌≡◌, ◌<◌, ◌≤◌, ◌^◌, IfOk, IfSome};
+ghost use Rattle.a32_instr.specs.Table.{shift_kind};
+ghost use Rattle.a32_syntax.specs.Meaning.{amount_of, least_turn, most_bits, number_and_turn, plain_number, turned_back};
+
+use crate::kinds::AsmKind;
+use a32_instr::{Operand2, ShiftKind};
+
+// A number turned back by a turn: left by twice as many bits.
+#[tactic(auto, unfolding(crate::specs::Meaning::turned_back, a32_instr::specs::Shift::turned))]
+fn turned_back(number: u64, turn: u32) -> u64
+    requires number { number < 2 ^ 32 }
+    requires turn { turn < 16 }
+    ensures { result ≡ turned_back number turn }
+{
+    let bits = (32 - 2 * turn) % 32;
+    let unit = 1 << bits;
+    number / unit + number % unit * (1 << (32 - bits))
+}
+
+/// The least turn by which eight bits become the number.
+pub fn least_turn(number: u64) -> Option<u8>
+    requires { number < 2 ^ 32 }
+    ensures turn { result ≡ least_turn number }
+    ensures bound { IfSome result (λ turn. turn < 16) }
+{
+    for turn in 0..16u8 {
+        if turned_back(number, u32::from(turn)) < 256 {
+            return Some(turn);
+        }
+    }
+    None
+}
+
+/// A number by the least turn that gives it.
+#[tactic(auto, unfolding(crate::specs::Meaning::plain_number))]
+pub fn plain_number(number: u64) -> Result<Operand2, AsmKind>
+    ensures { result ≡ plain_number number }
+{
+    if number > 0xffff_ffff {
+        return Err(AsmKind::Range);
+    }
+    let Some(turn) = least_turn(number) else {
+        return Err(AsmKind::Range);
+    };
+    Ok(Operand2::Imm {
+        turn,
+        imm8: turned_back(number, u32::from(turn)) as u8,
+    })
+}
+
+/// Eight bits and by how many bits they are turned, which is an even number.
+#[tactic(auto, unfolding(crate::specs::Meaning::number_and_turn))]
+pub fn number_and_turn(imm8: u64, bits: u64) -> Result<Operand2, AsmKind>
+    ensures { result ≡ number_and_turn imm8 bits }
+{
+    if bits % 2 == 1 {
+        return Err(AsmKind::Operand);
+    }
+    if imm8 > 255 || bits > 30 {
+        return Err(AsmKind::Range);
+    }
+    Ok(Operand2::Imm {
+        turn: (bits / 2) as u8,
+        imm8: imm8 as u8,
+    })
+}
+
+// The most bits by which a kind of shift shifts.
+fn most_bits(shift: ShiftKind) -> u64
+    ensures value { result ≡ most_bits shift }
+    ensures bound { result ≤ 32 }
+{
+    match shift {
+        ShiftKind::Lsl => 31,
+        ShiftKind::Lsr => 32,
+        ShiftKind::Asr => 32,
+        ShiftKind::Ror => 31,
+    }
+}
+
+/// The field of a shift's amount: at LSR and ASR 0 stands for 32 (DDI 0406C A8.4.3).
+#[tactic(auto, unfolding(crate::specs::Meaning::amount_of))]
+pub fn amount_of(shift: ShiftKind, bits: u64) -> Result<u8, AsmKind>
+    ensures { result ≡ amount_of shift bits }
+{
+    if bits == 0 {
+        return Err(AsmKind::Operand);
+    }
+    if bits > most_bits(shift) {
+        return Err(AsmKind::Range);
+    }
+    Ok((bits % 32) as u8)
+}
+
+/// A kind of shift by the number of its encoding (DDI 0406C A8.4.3, DecodeRegShift).
+#[tactic(auto, unfolding(a32_instr::specs::Table::shift_kind))]
+pub fn shift_kind(kind: u64) -> ShiftKind
+    ensures { result ≡ shift_kind kind }
+{
+    match kind {
+        0 => ShiftKind::Lsl,
+        1 => ShiftKind::Lsr,
+        2 => ShiftKind::Asr,
+        _ => ShiftKind::Ror,
+    }
+}

@@ -1,0 +1,301 @@
+//! What is shown of an instruction: its mnemonic, and one of the forms of its operands with numbers.
+ghost use Rattle.std.specs.Prelude.{◌≡◌, ◌<◌, ◌≤◌, ◌^◌, false, length};
+ghost use Rattle.a32_instr.specs.Branch.{target_of};
+ghost use Rattle.a32_syntax.specs.Shown.{always, flag, load_exclusive_numbers, showing, showing_of, store_exclusive_numbers};
+
+use crate::operations::{Mnemonic, Operation};
+use crate::shown_accesses::{access_numbers, half_form, word_form};
+use crate::shown_numbers::{Numbers, register};
+use crate::shown_operands::{show_alu_registers, show_operand};
+use a32_instr::{AluOp, Cond, Instr, Operand2, Reg};
+use llsc_base::Size;
+use std::marker::Model;
+
+/// What is shown of an instruction.
+#[derive(Drop)]
+pub struct Showing {
+    mnemonic: Mnemonic,
+    form: usize,
+    numbers: Numbers,
+}
+
+impl Model for Showing {
+    ghost use Rattle.a32_syntax.specs.Shown.{Showing as ShownForm};
+
+    ghost Value = { ShownForm };
+
+    ghost view = { λ s. record { mnemonic = s.mnemonic; form = s.form; numbers = s.numbers } };
+}
+
+impl Showing {
+    /// The mnemonic.
+    pub fn mnemonic(&self) -> Mnemonic
+        ensures { result ≡ self.now.mnemonic }
+    {
+        self.mnemonic
+    }
+
+    /// The place of the form among those of the mnemonic's operation.
+    pub fn form(&self) -> usize
+        ensures { result ≡ self.now.form }
+    {
+        self.form
+    }
+
+    /// The numbers at the form's signs.
+    pub fn numbers(&self) -> &[u64]
+        ensures { result.now ≡ self.now.numbers }
+    {
+        self.numbers.as_slice()
+    }
+}
+
+// A form of an operation with numbers.
+fn in_form(
+    operation: Operation,
+    set_flags: bool,
+    cond: Cond,
+    form: usize,
+    numbers: Numbers,
+) -> Showing
+    ensures { result ≡ showing operation set_flags cond form numbers }
+{
+    Showing {
+        mnemonic: Mnemonic {
+            operation,
+            set_flags,
+            cond,
+        },
+        form,
+        numbers,
+    }
+}
+
+// An operation that sets no flags, by its first form.
+fn plain(operation: Operation, cond: Cond, numbers: &[u64]) -> Showing
+    requires { length numbers.now ≤ 8 }
+    ensures { result ≡ showing operation false cond 0 numbers.now }
+{
+    in_form(operation, false, cond, 0, Numbers::of(numbers))
+}
+
+// The condition of an instruction that is always carried out.
+fn always() -> Cond
+    ensures { result ≡ always }
+{
+    Cond::new(14)
+}
+
+// Data processing.
+#[tactic(auto, unfolding(crate::specs::Shown::showing_of))]
+fn alu(cond: Cond, op: AluOp, s: bool, rd: Reg, rn: Reg, operand: &Operand2, here: u32) -> Showing
+    ensures { result ≡ showing_of (Instr.Alu cond op s rd rn operand.now) here }
+{
+    let mut numbers = Numbers::new();
+    show_alu_registers(op, rd, rn, &mut numbers);
+    let form = show_operand(operand, &mut numbers);
+    let set_flags = s && !op.is_compare();
+    in_form(Operation::Alu(op), set_flags, cond, form, numbers)
+}
+
+// An extend, with its turn where there is one.
+#[tactic(auto, unfolding(crate::specs::Shown::showing_of))]
+fn extend(cond: Cond, unsigned: bool, half: bool, rd: Reg, rm: Reg, turn: u8, here: u32) -> Showing
+    ensures { result ≡ showing_of (Instr.Extend cond unsigned half rd rm turn) here }
+{
+    let operation = Operation::Extend { unsigned, half };
+    if turn == 0 {
+        return plain(operation, cond, &[register(rd), register(rm)]);
+    }
+    let numbers = Numbers::of(&[register(rd), register(rm), 8 * u64::from(turn)]);
+    in_form(operation, false, cond, 1, numbers)
+}
+
+// The number of a mark that may be left out.
+fn flag(set: bool) -> u64
+    ensures { result ≡ flag set }
+{
+    u64::from(set)
+}
+
+// The address of a branch's target.
+#[tactic(auto, unfolding(a32_instr::specs::Branch::target_of))]
+fn target(here: u32, words: i32) -> u64
+    ensures { result ≡ target_of here words }
+{
+    (i64::from(here) + 8 + 4 * i64::from(words)).rem_euclid(0x1_0000_0000) as u64
+}
+
+// The numbers of a load-exclusive: a doubleword names both of its registers.
+fn load_exclusive(size: Size, rn: Reg, rt: Reg) -> Numbers
+    ensures { result ≡ load_exclusive_numbers size rn rt }
+{
+    let (rn, rt) = (register(rn), register(rt));
+    match size {
+        Size::B8 => Numbers::of(&[rt, rt + 1, rn]),
+        _ => Numbers::of(&[rt, rn]),
+    }
+}
+
+// The numbers of a store-exclusive.
+fn store_exclusive(size: Size, rn: Reg, rd: Reg, rt: Reg) -> Numbers
+    ensures { result ≡ store_exclusive_numbers size rn rd rt }
+{
+    let (rn, rd, rt) = (register(rn), register(rd), register(rt));
+    match size {
+        Size::B8 => Numbers::of(&[rd, rt, rt + 1, rn]),
+        _ => Numbers::of(&[rd, rt, rn]),
+    }
+}
+
+/// What is shown of an instruction at an address.
+#[tactic(auto, unfolding(crate::specs::Shown::showing_of))]
+pub fn showing_of(instruction: &Instr, here: u32) -> Showing
+    ensures { result ≡ showing_of instruction.now here }
+{
+    match *instruction {
+        Instr::Alu {
+            cond,
+            op,
+            s,
+            rd,
+            rn,
+            ref operand,
+        } => alu(cond, op, s, rd, rn, operand, here),
+        Instr::Movw { cond, rd, imm } => {
+            plain(Operation::Movw, cond, &[register(rd), u64::from(imm)])
+        }
+        Instr::Movt { cond, rd, imm } => {
+            plain(Operation::Movt, cond, &[register(rd), u64::from(imm)])
+        }
+        Instr::Nop { cond } => plain(Operation::Nop, cond, &[]),
+        Instr::Yield { cond } => plain(Operation::Yield, cond, &[]),
+        Instr::Mul {
+            cond,
+            s,
+            rd,
+            rn,
+            rm,
+        } => {
+            let numbers = Numbers::of(&[register(rd), register(rn), register(rm)]);
+            in_form(Operation::Mul, s, cond, 0, numbers)
+        }
+        Instr::Mla {
+            cond,
+            s,
+            rd,
+            rn,
+            rm,
+            ra,
+        } => {
+            let numbers = Numbers::of(&[register(rd), register(rn), register(rm), register(ra)]);
+            in_form(Operation::Mla, s, cond, 0, numbers)
+        }
+        Instr::Mls {
+            cond,
+            rd,
+            rn,
+            rm,
+            ra,
+        } => plain(
+            Operation::Mls,
+            cond,
+            &[register(rd), register(rn), register(rm), register(ra)],
+        ),
+        Instr::Long {
+            cond,
+            kind,
+            s,
+            lo,
+            hi,
+            rn,
+            rm,
+        } => {
+            let numbers = Numbers::of(&[register(lo), register(hi), register(rn), register(rm)]);
+            in_form(Operation::Long(kind), s, cond, 0, numbers)
+        }
+        Instr::Clz { cond, rd, rm } => plain(Operation::Clz, cond, &[register(rd), register(rm)]),
+        Instr::Rev { cond, rd, rm } => plain(Operation::Rev, cond, &[register(rd), register(rm)]),
+        Instr::Extend {
+            cond,
+            unsigned,
+            half,
+            rd,
+            rm,
+            turn,
+        } => extend(cond, unsigned, half, rd, rm, turn, here),
+        Instr::Word {
+            cond,
+            load,
+            byte,
+            index,
+            rn,
+            rt,
+            ref offset,
+        } => {
+            let numbers = access_numbers(index, offset, rt, rn);
+            in_form(
+                Operation::Word { load, byte },
+                false,
+                cond,
+                word_form(index, offset),
+                numbers,
+            )
+        }
+        Instr::Half {
+            cond,
+            kind,
+            index,
+            rn,
+            rt,
+            ref offset,
+        } => {
+            let numbers = access_numbers(index, offset, rt, rn);
+            in_form(
+                Operation::Half(kind),
+                false,
+                cond,
+                half_form(index, offset),
+                numbers,
+            )
+        }
+        Instr::Block {
+            cond,
+            load,
+            before,
+            up,
+            wback,
+            rn,
+            list,
+        } => plain(
+            Operation::Block { load, before, up },
+            cond,
+            &[register(rn), flag(wback), u64::from(list)],
+        ),
+        Instr::Branch { cond, link, words } => {
+            plain(Operation::Branch { link }, cond, &[target(here, words)])
+        }
+        Instr::BranchReg { cond, link, rm } => {
+            plain(Operation::BranchReg { link }, cond, &[register(rm)])
+        }
+        Instr::Svc { cond, imm } => plain(Operation::Svc, cond, &[u64::from(imm)]),
+        Instr::LoadEx { cond, size, rn, rt } => {
+            let numbers = load_exclusive(size, rn, rt);
+            in_form(Operation::LoadEx(size), false, cond, 0, numbers)
+        }
+        Instr::StoreEx {
+            cond,
+            size,
+            rn,
+            rd,
+            rt,
+        } => {
+            let numbers = store_exclusive(size, rn, rd, rt);
+            in_form(Operation::StoreEx(size), false, cond, 0, numbers)
+        }
+        Instr::Clrex => plain(Operation::Clrex, always(), &[]),
+        Instr::Barrier { kind, option } => {
+            plain(Operation::Barrier(kind), always(), &[u64::from(option)])
+        }
+    }
+}

@@ -1,0 +1,73 @@
+//! The numbers that stand at the signs of a form as it is shown.
+ghost use Rattle.std.specs.Prelude.{◌≡◌, ◌<◌, ◌≤◌, ◌++◌, ◌∷◌, [], length};
+
+use a32_instr::Reg;
+use std::marker::Model;
+
+/// How many numbers the signs of a form have at most.
+const MOST_NUMBERS: usize = 8;
+
+/// The numbers at the signs of a form, at most 8, held in place.
+#[derive(Drop)]
+pub struct Numbers {
+    items: [u64; MOST_NUMBERS],
+    count: usize,
+}
+
+impl Model for Numbers {
+    ghost use Rattle.std.specs.Prelude.{List, ℕ, ◌≤◌, take};
+
+    ghost Value = { List ℕ };
+
+    ghost view = { λ n. take n.count n.items };
+
+    ghost invariant = { λ n. n.count ≤ 8 };
+}
+
+impl Numbers {
+    /// No numbers.
+    pub fn new() -> Numbers
+        ensures { result ≡ [] }
+    {
+        Numbers {
+            items: [0; MOST_NUMBERS],
+            count: 0,
+        }
+    }
+
+    /// These numbers.
+    pub fn of(numbers: &[u64]) -> Numbers
+        requires { length numbers.now ≤ 8 }
+        ensures { result ≡ numbers.now }
+    {
+        let mut all = Numbers::new();
+        for number in numbers {
+            all.push(*number);
+        }
+        all
+    }
+
+    /// Adds a number behind the others.
+    pub fn push(&mut self, number: u64)
+        requires { length self.old < 8 }
+        ensures { self.new ≡ self.old ++ number ∷ [] }
+    {
+        self.items[self.count] = number;
+        self.count += 1;
+    }
+
+    /// The numbers in order, at most 8.
+    pub fn as_slice(&self) -> &[u64]
+        ensures numbers { result.now ≡ self.now }
+        ensures most { length result.now ≤ 8 }
+    {
+        &self.items[..self.count]
+    }
+}
+
+/// A register's number.
+pub fn register(reg: Reg) -> u64
+    ensures { result ≡ reg }
+{
+    u64::from(reg.num())
+}
