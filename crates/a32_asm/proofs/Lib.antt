@@ -1,0 +1,5 @@
+pub mod FirstLine
+pub mod LabelMaps
+pub mod LaidLines
+pub mod AddedLines
+pub mod ShownLines

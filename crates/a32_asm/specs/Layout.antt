@@ -1,0 +1,117 @@
+-- Where each line of a text stands, and the addresses of its labels.
+use Rattle.std.specs.Prelude.{ℕ, ◌+◌, ◌*◌, ◌/◌, ◌%◌, ◌^◌, ◌&&◌, not, if◌then◌else◌, Bool, true, false, List, [], ◌∷◌, ◌++◌, length, Option, Some, None, codes}
+use Rattle.std.specs.List.{find}
+use Rattle.std.specs.Option.{option_map}
+use Rattle.std.specs.Str.{bytes_eq}
+use Rattle.a32_forms.specs.Text.{parts}
+use Rattle.a32_forms.specs.Forms.{Chosen, chosen, number_at}
+use Rattle.a32_asm.specs.declared.layout.Spot.{Spot}
+use Rattle.a32_asm.specs.declared.labels.Place.{Place}
+use Rattle.a32_asm.specs.declared.heads.Head.{Head}
+use Rattle.a32_asm.specs.declared.heads.Head.TheVariants.{Nothing, Text, Data, Word, Byte, Space, Instruction, Unreadable}
+use Rattle.a32_asm.specs.Lines.{before_comment, is_ascii, label_of, statement_of, head_of, operands_of}
+
+-- a text begins in its code
+abbrev pub start : Spot
+start = record { in_data = false; words = 0; bytes = 0; spaced = false; space = 0 }
+
+-- What may stand at a spot: instructions in the code; bytes and words of data before any space; space in the data.
+abbrev pub may_stand : Head → Spot → Bool
+may_stand Nothing spot = true
+may_stand Text spot = true
+may_stand Data spot = true
+may_stand Word spot = not (spot.in_data && spot.spaced)
+may_stand Byte spot = spot.in_data && not spot.spaced
+may_stand Space spot = spot.in_data
+may_stand Instruction spot = not spot.in_data
+may_stand Unreadable spot = false
+
+-- a line of the form of lines, whose statement may stand at its spot
+abbrev pub stands : Spot → List ℕ → Bool
+stands spot line = is_ascii (before_comment line) && may_stand (head_of (statement_of line)) spot
+
+-- Counts are taken modulo 2 to the 64: the limits are passed long before.
+abbrev pub counted : ℕ → ℕ
+counted count = count % 2 ^ 64
+
+-- the number of a `.space`
+abbrev pub space_of : Option Chosen → ℕ
+space_of None = 0
+space_of (Some found) = number_at found 0
+
+-- the spot behind a statement
+abbrev pub behind : Head → List ℕ → Spot → Spot
+behind Nothing operands spot = spot
+behind Text operands spot = record spot { in_data = false }
+behind Data operands spot = record spot { in_data = true }
+behind Word operands spot =
+    if spot.in_data then record spot { bytes = counted (spot.bytes + 4) } else record spot { words = counted (spot.words + 1) }
+behind Byte operands spot = record spot { bytes = counted (spot.bytes + 1) }
+behind Space operands spot = record spot { spaced = true; space = counted (spot.space + space_of (chosen (codes "n") (parts operands))) }
+behind Instruction operands spot = record spot { words = counted (spot.words + 1) }
+behind Unreadable operands spot = spot
+
+-- the spot behind a line; one that can't stand there takes no place
+unfoldable pub next_spot : Spot → List ℕ → Spot
+next_spot spot line =
+    if stands spot line then behind (head_of (statement_of line)) (operands_of (statement_of line)) spot else spot
+
+-- A label names a place: the spot of its line, and how many bytes of text are before that line.
+pub record Label : Type 0 where
+  pub name : List ℕ
+  pub place : Place
+
+abbrev pub place : Spot → ℕ → Place
+place spot read = record { spot = spot; read = read }
+
+abbrev pub labels_here : Place → Option (List ℕ) → List Label
+labels_here place None = []
+labels_here place (Some name) = record { name = name; place = place } ∷ []
+
+-- the label of a line at its spot, if it has one
+abbrev pub labels_of : Spot → ℕ → List ℕ → List Label
+labels_of spot read line = labels_here (place spot read) (label_of line)
+
+-- the bytes of a line, with the newline that ends it, which the last line doesn't have
+abbrev pub bytes_of : List ℕ → List (List ℕ) → ℕ
+bytes_of line [] = length line
+bytes_of line (next ∷ lines) = length line + 1
+
+-- the labels of lines, from a spot and so many bytes of text on
+unfoldable pub labels_from : Spot → ℕ → List (List ℕ) → List Label
+labels_from spot read [] = []
+labels_from spot read (line ∷ lines) =
+    labels_of spot read line ++ labels_from (next_spot spot line) (read + bytes_of line lines) lines
+
+-- the spot behind lines
+unfoldable pub end_from : Spot → List (List ℕ) → Spot
+end_from spot [] = spot
+end_from spot (line ∷ lines) = end_from (next_spot spot line) lines
+
+-- the code begins at 0x1000, and the data at the least multiple of 4096 behind so many words of code
+abbrev pub code_start : ℕ
+code_start = 0x1000
+
+abbrev pub data_start : ℕ → ℕ
+data_start words = (code_start + 4 * words + 4095) / 4096 * 4096
+
+-- the place of the first label of a name
+abbrev pub place_in : List Label → List ℕ → Option Place
+place_in labels name = option_map (λ label. label.place) (find (λ label. bytes_eq name label.name) labels)
+
+-- the address of a spot, modulo 2 to the 32, where the code has so many words: the space stands behind the other data
+abbrev pub address_at : ℕ → Spot → ℕ
+address_at words spot =
+    (if spot.in_data then data_start words + (spot.bytes + spot.space) else code_start + 4 * spot.words) % 2 ^ 32
+
+-- What the lines of a text say of one another: the places of its labels, and how many words its code has.
+pub record Layout : Type 0 where
+  pub places : List ℕ → Option Place
+  pub words : ℕ
+
+abbrev pub layout_of : List (List ℕ) → Layout
+layout_of lines = record { places = place_in (labels_from start 0 lines); words = (end_from start lines).words }
+
+-- the address of a label
+abbrev pub address_of : Layout → List ℕ → Option ℕ
+address_of layout name = option_map (λ place. address_at layout.words place.spot) (layout.places name)

@@ -1,0 +1,7 @@
+pub mod Lines
+pub mod Layout
+pub mod Statements
+pub mod Assembled
+pub mod Shown
+pub mod Rest
+pub mod Labels

@@ -1,0 +1,80 @@
+ghost use Rattle.std.specs.Prelude.{◌≡◌, ◌⊎◌, Ok, Err, IfOk, IfErr};
+ghost use Rattle.a32_asm.specs.Assembled.{first, unit_from, unit_of};
+ghost use Rattle.a32_asm.specs.Lines.{lines_of};
+ghost use Rattle.a32_asm.specs.Rest.{bytes_left, layout_seen};
+
+use crate::drafts::Draft;
+use crate::layout::{START, TextLayout, lay_out, next_spot};
+use crate::lines::{first_line, read_line};
+use crate::outcomes::{first_fault, is_repeated, is_too_long, line_piece};
+use a32_syntax::AsmKind;
+use elf32::Unit;
+use std::alloc::Global;
+
+/// Why a text is no program: the first line that has a fault, counted from 1, and the first of its faults.
+/// Want of memory has line 0.
+#[derive(Clone, Copy, Debug, PartialEq, Eq)]
+pub struct AsmFault {
+    pub line: u32,
+    pub kind: AsmKind,
+}
+
+/// Want of memory.
+const OUT_OF_MEMORY: AsmFault = AsmFault {
+    line: 0,
+    kind: AsmKind::Memory,
+};
+
+/// Makes the program of the lines of a text, whose layout is known.
+fn assemble_lines(alloc: Global, text: &[u8], layout: &TextLayout) -> Result<Unit, AsmFault>
+    ensures unit { IfOk result (λ unit. unit_from (layout_seen layout.now) first (lines_of text.now) ≡ Ok unit) }
+    ensures fault { IfErr result (λ fault. (fault ≡ record { line = 0; kind = AsmKind.Memory }) ⊎ (unit_from (layout_seen layout.now) first (lines_of text.now) ≡ Err fault)) }
+{
+    let mut draft = Draft::new(alloc);
+    let mut spot = START;
+    let mut number = 1;
+    let mut left = Some(text);
+    while let Some(rest) = left {
+        let (line, after) = first_line(rest);
+        let line = read_line(line);
+        let behind = next_spot(spot, &line);
+        let repeated = is_repeated(layout, text.len() - rest.len(), line.label);
+        let too_long = is_too_long(behind, text.len() - length_of(after));
+        let added = match first_fault(repeated, too_long, line_piece(layout, spot, &line)) {
+            Ok(added) => added,
+            Err(kind) => return Err(AsmFault { line: number, kind }),
+        };
+        let Ok(()) = draft.add(added) else {
+            return Err(OUT_OF_MEMORY);
+        };
+        spot = behind;
+        number += 1;
+        left = after;
+    }
+    Ok(draft.finish(spot.space as u32))
+}
+
+/// How many bytes are left of a text.
+fn length_of(left: Option<&[u8]>) -> usize
+    ensures { result ≡ bytes_left left.entry }
+{
+    match left {
+        Some(text) => text.len(),
+        None => 0,
+    }
+}
+
+/// The program of a text, or its first fault. Want of memory is the one answer that the text doesn't fix.
+pub fn assemble(alloc: Global, text: &str) -> Result<Unit, AsmFault>
+    ensures unit { IfOk result (λ unit. unit_of text.now ≡ Ok unit) }
+    ensures fault { IfErr result (λ fault. (fault ≡ record { line = 0; kind = AsmKind.Memory }) ⊎ (unit_of text.now ≡ Err fault)) }
+{
+    let text = text.as_bytes();
+    let Ok(layout) = lay_out(alloc, text) else {
+        return Err(OUT_OF_MEMORY);
+    };
+    assemble_lines(alloc, text, &layout)
+}
+
+#[cfg(test)]
+mod tests;

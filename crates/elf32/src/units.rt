@@ -1,0 +1,95 @@
+ghost use Rattle.std.specs.Prelude.{◌≡◌};
+
+use std::marker::Model;
+
+/// The code words of a program, in order.
+#[derive(Drop)]
+pub struct Words {
+    items: Vec<u32>,
+}
+
+impl Model for Words {
+    ghost use Rattle.std.specs.Prelude.{List, ℕ};
+
+    ghost Value = { List ℕ };
+
+    ghost view = { λ w. w.items.items };
+}
+
+impl Words {
+    /// The words of a vector.
+    pub fn new(items: Vec<u32>) -> Words
+        ensures { result ≡ items.items }
+    {
+        Words { items }
+    }
+
+    /// The words.
+    pub fn as_slice(&self) -> &[u32]
+        ensures { result.now ≡ self.now }
+    {
+        self.items.as_slice()
+    }
+}
+
+/// The data bytes of a program, in order.
+#[derive(Drop)]
+pub struct Bytes {
+    items: Vec<u8>,
+}
+
+impl Model for Bytes {
+    ghost use Rattle.std.specs.Prelude.{List, ℕ};
+
+    ghost Value = { List ℕ };
+
+    ghost view = { λ b. b.items.items };
+}
+
+impl Bytes {
+    /// The bytes of a vector.
+    pub fn new(items: Vec<u8>) -> Bytes
+        ensures { result ≡ items.items }
+    {
+        Bytes { items }
+    }
+
+    /// The bytes.
+    pub fn as_slice(&self) -> &[u8]
+        ensures { result.now ≡ self.now }
+    {
+        self.items.as_slice()
+    }
+}
+
+/// A program as an assembler makes it: its code from address 0x1000 on, its data from the first multiple of
+/// 4096 behind the code on, and behind the data so many bytes of zeros.
+#[derive(Drop)]
+pub struct Unit {
+    pub words: Words,
+    pub bytes: Bytes,
+    pub space: u32,
+}
+
+#[cfg(test)]
+mod tests {
+    use super::*;
+    use std::test::Fail;
+
+    #[test]
+    fn keeps_its_parts(rt: HostRuntime) -> Result<(), Fail> {
+        let mut words = Vec::new(rt.alloc());
+        words.push(0xe320_f000)?;
+        let mut bytes = Vec::new(rt.alloc());
+        bytes.push(7)?;
+        let unit = Unit {
+            words: Words::new(words),
+            bytes: Bytes::new(bytes),
+            space: 4,
+        };
+        assert_eq!(rt; unit.words.as_slice()[0], 0xe320_f000);
+        assert_eq!(rt; unit.bytes.as_slice()[0], 7);
+        assert_eq!(rt; unit.space, 4);
+        Ok(())
+    }
+}
