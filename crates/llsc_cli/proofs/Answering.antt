@@ -1,129 +1,83 @@
--- From what the parts of an answer give to the answer.
-use Rattle.std.proofs.Common.{◌≡◌, ℕ, ◌<◌, ◌≤◌, ◌⊎◌, inl, inr, List, [], length, Option, Some, None, refl, sym, ◌∙◌, ap, subst, arith, codes, nat_lt, true, false}
+-- From what the parts of an answer give to how a call ends.
+use Rattle.std.proofs.Common.{◌≡◌, ℕ, ◌<◌, ◌⊎◌, inl, inr, List, [], length, Option, Some, None, refl, sym, ◌∙◌, ap, subst, arith, codes, nat_lt, true}
 use Rattle.std.proofs.lemmas.Bool.Decides.{nat_tests}
 use Rattle.std.specs.Option.{option_map}
-use Rattle.llsc_base.specs.Sizes.{Numbers, size_fault, size_fault_name}
-use Rattle.llsc_base.specs.declared.sizes.SizeFault.{SizeFault}
-use Rattle.llsc_base.specs.Images.{Program}
+use Rattle.llsc_base.specs.Sizes.{Numbers}
 use Rattle.llsc_base.specs.declared.flat.FlatFault.{FlatFault}
 use Rattle.llsc_base.specs.declared.flat.FlatFault.TheVariants as flat
-use Rattle.llsc_base.specs.Flat.{flat_fault, flat_fault_name, flat_image, flat_byte}
-use Rattle.llsc_base.proofs.Values.{length-values_below}
-use Rattle.llsc_cli.specs.declared.threads.Ran.{Ran}
+use Rattle.llsc_base.specs.Flat.{flat_fault, flat_fault_name}
 use Rattle.llsc_cli.specs.Host.{AreBytes, Adds, AddsFront}
-use Rattle.llsc_cli.specs.Report.{report_of}
-use Rattle.llsc_cli.specs.Solo.{IsSoloEnd}
-use Rattle.llsc_cli.specs.Answer.{solo_size, most_bytes, refusal_text, refusal_of, status_of, AnswersBy, Answers, AnswersSized, AnswersSolo, IsDone}
-use Rattle.llsc_cli.specs.Reads.{CutAfter, IsAnswered, IsCutFile, IsAnsweredSolo, IsCutSolo}
+use Rattle.llsc_cli.specs.Refusals.{Answer, refused, read_text, refusal_text, solo_size, most_bytes, too_long, size_refusal, flat_refusal, flat_refusal_on, Refuses}
+use Rattle.llsc_cli.specs.Answer.{Is, IsDone}
+use Rattle.llsc_cli.specs.Reads.{CutAfter, IsCutFile, Ends, Gives}
 use Rattle.llsc_cli.specs.declared.host.ReadFault.{ReadFault}
 use Rattle.llsc_cli.specs.declared.host.ReadFault.TheVariants as read
 
--- a flat image is as long as the machine's memory
-pub flat_sized : (file : List ℕ) (size : Numbers) (image : Program) → image ≡ flat_image file size → length image.bytes ≡ size.mem
-flat_sized file size image is = ap (λ i. length i.bytes) is ∙ length-values_below size.mem (flat_byte file)
+-- a status of an answer that was given whole, where it is one of these
+pub done_four : (status : ℕ) → (status ≡ 3) ⊎ ((status ≡ 4) ⊎ ((status ≡ 5) ⊎ (status ≡ 6))) → IsDone status → status ≡ 4
+done_four status ended done = grind arith
 
--- what is wrong with a file of at most so many bytes
-refusal_is : (size : Numbers) (file : List ℕ) (fault : Option FlatFault) → length file ≤ most_bytes → flat_fault file size ≡ fault → refusal_of size file ≡ option_map flat_fault_name fault
-refusal_is size file fault short is =
-    let test : nat_lt most_bytes (length file) ≡ false = grind (arith, nat_tests) in
-    rw test (ap (λ f. option_map flat_fault_name f) is)
+-- Ends.
 
--- the answer for a file that is run
-pub answers_run : (size : Numbers) (budget : ℕ) (file : List ℕ) (image : Program) (status : ℕ) (ran : Ran)
-    → length file ≤ most_bytes → flat_fault file size ≡ None → image ≡ flat_image file size
-    → IsSoloEnd image size budget ran → status ≡ status_of ran.end.stop → Answers size budget file status (report_of budget ran)
-answers_run size budget file image status ran short clean whole ends ended =
-    let answer : AnswersBy size budget file None status (report_of budget ran) = (ran, subst (λ i. IsSoloEnd i size budget ran) whole ends, ended, refl) in
-    subst (λ r. AnswersBy size budget file r status (report_of budget ran)) (sym (refusal_is size file None short clean)) answer
+-- an end that is answered so is also answered otherwise, where the answers are among those
+pub ends_as : {A B : List ℕ → ℕ → List ℕ → Type 0} {X Y : Type 0} (held old new : Option (List ℕ)) (status : ℕ)
+    → ((file : List ℕ) (s : ℕ) (text : List ℕ) → A file s text → B file s text) → (X → Y) → Ends A held X old new status → Ends B held Y old new status
+ends_as {A} {B} {X} {Y} held old new status also more ends = record {
+  ended = ends.ended;
+  done = λ done. let a = ends.done done in (a.0, a.1, (a.2.0, (also a.0 status a.1 a.2.1.0, a.2.1.1)));
+  read = λ three. let r = ends.read three in (more r.0, r.1);
+  cut = λ five. cut_as (ends.cut five);
+  memory = ends.memory;
+}
+  where
+    cut_as : IsCutFile A held X old new → IsCutFile B held Y old new
+    cut_as (inl cut) = inl (cut.0, cut.1, cut.2, (cut.3.0, (also cut.0 cut.1 cut.2 cut.3.1.0, cut.3.1.1)))
+    cut_as (inr failed) = inr (more failed.0, failed.1)
 
--- the answer for a file that is refused
-pub answers_refused : (size : Numbers) (budget : ℕ) (file : List ℕ) (fault : FlatFault)
-    → length file ≤ most_bytes → flat_fault file size ≡ Some fault → Answers size budget file 4 (refusal_text (flat_fault_name fault))
-answers_refused size budget file fault short wrong =
-    let refused : AnswersBy size budget file (Some (flat_fault_name fault)) 4 (refusal_text (flat_fault_name fault)) = (refl, refl) in
-    subst (λ r. AnswersBy size budget file r 4 (refusal_text (flat_fault_name fault))) (sym (refusal_is size file (Some fault) short wrong)) refused
+-- an answer of a file that the host may hold
+pub ends_done : {A : List ℕ → ℕ → List ℕ → Type 0} {X : Type 0} (held old new : Option (List ℕ)) (status : ℕ) (file : List ℕ)
+    → AreBytes held file → IsDone status ⊎ ((status ≡ 5) ⊎ (status ≡ 6))
+    → (IsDone status → (text : List ℕ) × (A file status text × Adds old new text))
+    → (status ≡ 5 → (s : ℕ) × (text : List ℕ) × (A file s text × AddsFront old new text))
+    → (status ≡ 6 → new ≡ old) → Ends A held X old new status
+ends_done held old new status file bytes ended done cut memory = record {
+  ended = grind arith;
+  done = λ d. let a = done d in (file, a.0, (bytes, a.1));
+  read = λ three. absurd (grind arith);
+  cut = λ five. let a = cut five in inl (file, a.0, a.1, (bytes, a.2));
+  memory = memory;
+}
 
--- the answer for a file that is too long
-pub answers_too_long : (size : Numbers) (budget : ℕ) (file : List ℕ) → most_bytes < length file → Answers size budget file 4 (refusal_text (codes "FileTooLong"))
-answers_too_long size budget file long =
-    let test : nat_lt most_bytes (length file) ≡ true = grind (arith, nat_tests) in
-    let refused : AnswersBy size budget file (Some (codes "FileTooLong")) 4 (refusal_text (codes "FileTooLong")) = (refl, refl) in
-    let is : refusal_of size file ≡ Some (codes "FileTooLong") = rw test refl in
-    subst (λ r. AnswersBy size budget file r 4 (refusal_text (codes "FileTooLong"))) (sym is) refused
+-- a file of more bytes than that is refused for its length
+refuses_long : (most : ℕ) (file : List ℕ) → most < length file → Refuses (too_long most) file 4 (refusal_text (codes "FileTooLong"))
+refuses_long most file long =
+    let test : nat_lt most (length file) ≡ true = grind (arith, nat_tests) in
+    (codes "FileTooLong", (rw test refl, (refl, refl)))
 
--- a fault that was said is no want of memory
-pub fault_stands : {F : Type 0} (status : ℕ) (fault : FlatFault) → F ⊎ (fault ≡ flat.Memory) → (fault ≡ flat.Memory → status ≡ 6) → status < 6 → F
-fault_stands status fault (inl stands) alone said = stands
-fault_stands status fault (inr memory) alone said = let six : status ≡ 6 = alone memory in absurd (omega arith)
-
--- a run that is done has status 0 or 1
-pub done_by_run : {X : Type 0} (status : ℕ) → (status ≡ 0) ⊎ ((status ≡ 1) ⊎ ((status ≡ 5) ⊎ (status ≡ 6)))
-    → ((status ≡ 0) ⊎ (status ≡ 1) → X) → IsDone status → X
-done_by_run status ended f (inl zero) = f (inl zero)
-done_by_run status ended f (inr (inl one)) = f (inr one)
-done_by_run status (inl zero) f (inr (inr four)) = absurd (omega arith)
-done_by_run status (inr (inl one)) f (inr (inr four)) = f (inr one)
-done_by_run status (inr (inr (inl five))) f (inr (inr four)) = absurd (omega arith)
-done_by_run status (inr (inr (inr six))) f (inr (inr four)) = absurd (omega arith)
-
--- a refusal that is done has status 4
-pub done_by_refusal : {X : Type 0} (status : ℕ) → (status ≡ 4) ⊎ ((status ≡ 5) ⊎ (status ≡ 6))
-    → (status ≡ 4 → X) → IsDone status → X
-done_by_refusal status (inl four) f done = f four
-done_by_refusal status (inr (inl five)) f (inl zero) = absurd (omega arith)
-done_by_refusal status (inr (inl five)) f (inr (inl one)) = absurd (omega arith)
-done_by_refusal status (inr (inl five)) f (inr (inr four)) = f four
-done_by_refusal status (inr (inr six)) f (inl zero) = absurd (omega arith)
-done_by_refusal status (inr (inr six)) f (inr (inl one)) = absurd (omega arith)
-done_by_refusal status (inr (inr six)) f (inr (inr four)) = f four
-
--- a refused read that is done has status 4
-pub done_by_read : {X : Type 0} (status : ℕ) → (status ≡ 3) ⊎ ((status ≡ 4) ⊎ ((status ≡ 5) ⊎ (status ≡ 6)))
-    → (status ≡ 4 → X) → IsDone status → X
-done_by_read status (inr (inl four)) f done = f four
-done_by_read status ended f (inr (inr four)) = f four
-done_by_read status (inl three) f (inl zero) = absurd (omega arith)
-done_by_read status (inl three) f (inr (inl one)) = absurd (omega arith)
-done_by_read status (inr (inr (inl five))) f (inl zero) = absurd (omega arith)
-done_by_read status (inr (inr (inl five))) f (inr (inl one)) = absurd (omega arith)
-done_by_read status (inr (inr (inr six))) f (inl zero) = absurd (omega arith)
-done_by_read status (inr (inr (inr six))) f (inr (inl one)) = absurd (omega arith)
-
--- the answer for a file that the host found too long
-pub too_long_answered : (size : Numbers) (budget : ℕ) (held old new : Option (List ℕ)) (status : ℕ) → status ≡ 4
-    → (file : List ℕ) × AreBytes held file × (most_bytes < length file) → Adds old new (refusal_text (codes "FileTooLong"))
-    → IsAnswered size budget held status old new
-too_long_answered size budget held old new status four long said = (
-  long.0,
-  refusal_text (codes "FileTooLong"),
-  (long.1, (subst (λ s. Answers size budget long.0 s (refusal_text (codes "FileTooLong"))) (sym four) (answers_too_long size budget long.0 long.2), said)),
-)
-
--- a text for a read that gave no file was cut off
-pub cut_read : {X : Type 0} (size : Numbers) (budget : ℕ) (fault : ReadFault) (held old new : Option (List ℕ))
-    → (fault ≡ read.Failed → X) → (fault ≡ read.FileTooLong → (file : List ℕ) × AreBytes held file × (most_bytes < length file))
-    → CutAfter fault old new → IsCutFile size budget held X old new
-cut_read size budget read.Failed held old new failed long cut = inr (failed refl, cut)
-cut_read size budget read.FileTooLong held old new failed long cut =
-    let file = long refl in
-    inl (file.0, 4, refusal_text (codes "FileTooLong"), (file.1, (answers_too_long size budget file.0 file.2, cut)))
-cut_read size budget read.Memory held old new failed long cut = absurd cut
-
--- Answers that tell the machine first.
-
--- the answer of a machine that there is
-sized : (fault : Option SizeFault) (size : Numbers) (budget : ℕ) (file : List ℕ) (status : ℕ) (text : List ℕ) → fault ≡ None
-    → Answers size budget file status text → AnswersSized fault size budget file status text
-sized None size budget file status text none answers = answers
-sized (Some fault) size budget file status text none answers = cc
-
--- the answer of a machine that there isn't
-unsized : (found : Option SizeFault) (fault : SizeFault) (size : Numbers) (budget : ℕ) (file : List ℕ) → found ≡ Some fault
-    → AnswersSized found size budget file 4 (refusal_text (size_fault_name fault))
-unsized None fault size budget file is = cc
-unsized (Some other) fault size budget file is =
-    let same : other ≡ fault = cc in
-    (refl, ap (λ f. refusal_text (size_fault_name f)) (sym same))
+-- a read that gave no file
+pub ends_unread : {X : Type 0} (most : ℕ) (fault : ReadFault) (held old new : Option (List ℕ)) (status : ℕ)
+    → (fault ≡ read.Failed → X) → (fault ≡ read.FileTooLong → (file : List ℕ) × AreBytes held file × (most < length file))
+    → (status ≡ 3) ⊎ ((status ≡ 4) ⊎ ((status ≡ 5) ⊎ (status ≡ 6)))
+    → (status ≡ 3 → fault ≡ read.Failed) → (status ≡ 4 → fault ≡ read.FileTooLong)
+    → (status ≡ 3 → Adds old new read_text) → (status ≡ 4 → Adds old new (refusal_text (codes "FileTooLong")))
+    → (status ≡ 5 → CutAfter fault old new) → (status ≡ 6 → new ≡ old)
+    → Ends (Refuses (too_long most)) held X old new status
+ends_unread {X} most fault held old new status failed long ended three four said said_long cut memory = record {
+  ended = grind arith;
+  done = λ done.
+      let is : status ≡ 4 = done_four status ended done in
+      let file = long (four is) in
+      (file.0, refusal_text (codes "FileTooLong"), (file.1, (subst (λ s. Refuses (too_long most) file.0 s (refusal_text (codes "FileTooLong"))) (sym is) (refuses_long most file.0 file.2), said_long is)));
+  read = λ is. (failed (three is), said is);
+  cut = λ five. cut_short fault failed long (cut five);
+  memory = memory;
+}
+  where
+    cut_short : (f : ReadFault) → (f ≡ read.Failed → X) → (f ≡ read.FileTooLong → (file : List ℕ) × AreBytes held file × (most < length file))
+        → CutAfter f old new → IsCutFile (Refuses (too_long most)) held X old new
+    cut_short read.Failed x l c = inr (x refl, c)
+    cut_short read.FileTooLong x l c = let file = l refl in inl (file.0, 4, refusal_text (codes "FileTooLong"), (file.1, (refuses_long most file.0 file.2, c)))
+    cut_short read.Memory x l c = absurd c
 
 -- bytes that a file may hold
 held_bytes : Option (List ℕ) → List ℕ
@@ -135,84 +89,105 @@ unfolding held_bytes
 are_held None = tt
 are_held (Some file) = refl
 
--- an answer of a machine that there is, for a request
-pub answered_sized : (mem budget : ℕ) (size : Numbers) (held : Option (List ℕ)) (status : ℕ) (old new : Option (List ℕ))
-    → size_fault (solo_size mem) ≡ None → size ≡ solo_size mem → IsAnswered size budget held status old new → IsAnsweredSolo mem budget held status old new
-answered_sized mem budget size held status old new none same answered = (
-  answered.0,
-  answered.1,
-  (
-    answered.2.0,
-    (
-      sized (size_fault (solo_size mem)) (solo_size mem) budget answered.0 status answered.1 none
-          (subst (λ s. Answers s budget answered.0 status answered.1) same answered.2.1.0),
-      answered.2.1.1,
-    ),
-  ),
-)
+-- a file that is refused by its name
+pub ends_refused : {X : Type 0} (against : List ℕ → Option (List ℕ)) (file name : List ℕ) (held old new : Option (List ℕ)) (status : ℕ)
+    → AreBytes held file → against file ≡ Some name
+    → (status ≡ 4) ⊎ ((status ≡ 5) ⊎ (status ≡ 6))
+    → (status ≡ 4 → Adds old new (refusal_text name)) → (status ≡ 5 → AddsFront old new (refusal_text name)) → (status ≡ 6 → new ≡ old)
+    → Ends (Refuses against) held X old new status
+ends_refused against file name held old new status bytes is ended said cut memory =
+    ends_done held old new status file bytes (grind arith)
+    (λ done. let four : status ≡ 4 = done_four status (grind arith) done in (refusal_text name, ((name, (is, (four, refl))), said four)))
+    (λ five. (4, refusal_text name, ((name, (is, (refl, refl))), cut five)))
+    memory
 
-pub cut_sized : {X Y : Type 0} (mem budget : ℕ) (size : Numbers) (held old new : Option (List ℕ))
-    → size_fault (solo_size mem) ≡ None → size ≡ solo_size mem → (X → Y) → IsCutFile size budget held X old new → IsCutSolo mem budget held Y old new
-cut_sized mem budget size held old new none same more (inl cut) = inl (
-  cut.0,
-  cut.1,
-  cut.2,
-  (
-    cut.3.0,
-    (
-      sized (size_fault (solo_size mem)) (solo_size mem) budget cut.0 cut.1 cut.2 none
-          (subst (λ s. Answers s budget cut.0 cut.1 cut.2) same cut.3.1.0),
-      cut.3.1.1,
-    ),
-  ),
-)
-cut_sized mem budget size held old new none same more (inr failed) = inr (more failed.0, failed.1)
+-- want of memory
+pub ends_wanting : {A : List ℕ → ℕ → List ℕ → Type 0} {X : Type 0} (held old new : Option (List ℕ)) (status : ℕ) → status ≡ 6 → new ≡ old → Ends A held X old new status
+ends_wanting held old new status six same = record {
+  ended = grind arith;
+  done = λ done. absurd (grind arith);
+  read = λ three. absurd (grind arith);
+  cut = λ five. absurd (grind arith);
+  memory = λ memory. same;
+}
 
--- the refusal of a machine that there isn't
-pub answered_unsized : (mem budget : ℕ) (fault : SizeFault) (held : Option (List ℕ)) (status : ℕ) (old new : Option (List ℕ))
-    → size_fault (solo_size mem) ≡ Some fault → status ≡ 4 → Adds old new (refusal_text (size_fault_name fault)) → IsAnsweredSolo mem budget held status old new
-answered_unsized mem budget fault held status old new is four said = (
-  held_bytes held,
-  refusal_text (size_fault_name fault),
-  (
-    are_held held,
-    (
-      subst (λ s. AnswersSolo mem budget (held_bytes held) s (refusal_text (size_fault_name fault))) (sym four)
-          (unsized (size_fault (solo_size mem)) fault (solo_size mem) budget (held_bytes held) is),
-      said,
-    ),
-  ),
-)
+-- an end for bytes that the file may hold
+pub ends_held : {A B : List ℕ → ℕ → List ℕ → Type 0} {X : Type 0} (held old new : Option (List ℕ)) (status : ℕ) (file : List ℕ)
+    → AreBytes held file → ((s : ℕ) (text : List ℕ) → A file s text → B file s text) → Ends A (Some file) ⊥ old new status → Ends B held X old new status
+ends_held {A} {B} {X} held old new status file bytes also ends = record {
+  ended = ends.ended;
+  done = λ done. let a = ends.done done in (file, a.1, (bytes, (also status a.1 (subst (λ f. A f status a.1) a.2.0 a.2.1.0), a.2.1.1)));
+  read = λ three. absurd (ends.read three).0;
+  cut = λ five. cut_held (ends.cut five);
+  memory = ends.memory;
+}
+  where
+    cut_held : IsCutFile A (Some file) ⊥ old new → IsCutFile B held X old new
+    cut_held (inl cut) = inl (file, cut.1, cut.2, (bytes, (also cut.1 cut.2 (subst (λ f. A f cut.1 cut.2) cut.3.0 cut.3.1.0), cut.3.1.1)))
+    cut_held (inr failed) = absurd failed.0
 
-pub cut_unsized : {Y : Type 0} (mem budget : ℕ) (fault : SizeFault) (held old new : Option (List ℕ))
-    → size_fault (solo_size mem) ≡ Some fault → AddsFront old new (refusal_text (size_fault_name fault)) → IsCutSolo mem budget held Y old new
-cut_unsized mem budget fault held old new is cut = inl (
-  held_bytes held,
-  4,
-  refusal_text (size_fault_name fault),
-  (are_held held, (unsized (size_fault (solo_size mem)) fault (solo_size mem) budget (held_bytes held) is, cut)),
-)
+-- What gives an answer.
 
--- the answer for the bytes that a file is told to have
-told_answered : (mem budget : ℕ) (file : List ℕ) (held : Option (List ℕ)) (status : ℕ) (old new : Option (List ℕ)) → held ≡ Some file → IsAnsweredSolo mem budget held status old new
-    → (text : List ℕ) × (AnswersSolo mem budget file status text × Adds old new text)
-told_answered mem budget file None status old new told answered = cc
-told_answered mem budget file (Some bytes) status old new told answered =
-    let same : answered.0 ≡ file = cc (answered.2.0, told) in
-    (answered.1, (subst (λ f. AnswersSolo mem budget f status answered.1) same answered.2.1.0, answered.2.1.1))
+-- a refusal by its name
+pub gives_refused : (name other : List ℕ) (old new : Option (List ℕ)) (status : ℕ) → name ≡ other
+    → (status ≡ 4) ⊎ ((status ≡ 5) ⊎ (status ≡ 6))
+    → (status ≡ 4 → Adds old new (refusal_text name)) → (status ≡ 5 → AddsFront old new (refusal_text name)) → (status ≡ 6 → new ≡ old)
+    → Gives (refused other) old new status
+gives_refused name other old new status same ended said cut memory =
+    subst (λ n. Gives (refused n) old new status) same (record { ended = ended; done = said; cut = cut; memory = memory })
 
--- where the host has no failure, the answer is given whole, or memory is wanting
-pub completes_told : {R W : Type 0} (mem budget : ℕ) (status : ℕ) (file : List ℕ) (held old new : Option (List ℕ)) → held ≡ Some file
-    → IsDone status ⊎ ((status ≡ 3) ⊎ ((status ≡ 5) ⊎ (status ≡ 6)))
-    → (IsDone status → IsAnsweredSolo mem budget held status old new) → (status ≡ 3 → R) → (status ≡ 5 → W) → (R → ⊥) → (W → ⊥)
-    → (status ≡ 6) ⊎ ((text : List ℕ) × (AnswersSolo mem budget file status text × Adds old new text))
-completes_told mem budget status file held old new told (inl done) answered read write no_read no_write =
-    inr (told_answered mem budget file held status old new told (answered done))
-completes_told mem budget status file held old new told (inr (inl three)) answered read write no_read no_write = absurd (no_read (read three))
-completes_told mem budget status file held old new told (inr (inr (inl five))) answered read write no_read no_write = absurd (no_write (write five))
-completes_told mem budget status file held old new told (inr (inr (inr six))) answered read write no_read no_write = inl six
+-- want of memory
+pub gives_wanting : (answer : Answer) (old new : Option (List ℕ)) (status : ℕ) → (answer.status ≡ 6 → ⊥) → status ≡ 6 → new ≡ old → Gives answer old new status
+gives_wanting answer old new status other six same = record {
+  ended = inr (inr six);
+  done = λ is. absurd (other (sym is ∙ six));
+  cut = λ five. absurd (grind arith);
+  memory = λ memory. same;
+}
 
--- a failed read of the request's file is ruled out
-pub no_failed_read : {Rises Sized Text : Type 0} (lost name asked : List ℕ) → name ≡ asked → (Rises → ⊥) ⊎ (lost ≡ name → ⊥) → Rises × (lost ≡ asked) × Sized × Text → ⊥
-no_failed_read lost name asked same (inl none) failed = none failed.0
-no_failed_read lost name asked same (inr other) failed = other (failed.1 ∙ sym same)
+-- an answer of a file that the host may hold
+pub ends_given : {X : Type 0} (answer : List ℕ → Answer) (held old new : Option (List ℕ)) (status : ℕ) (file : List ℕ)
+    → AreBytes held file → IsDone (answer file).status → Gives (answer file) old new status
+    → Ends (λ f s t. Is (answer f) s t) held X old new status
+ends_given answer held old new status file bytes done gives =
+    ends_done held old new status file bytes (grind arith)
+    (λ d. let is : status ≡ (answer file).status = grind arith in ((answer file).text, ((is, refl), gives.done is)))
+    (λ five. ((answer file).status, (answer file).text, ((refl, refl), gives.cut five)))
+    gives.memory
+
+-- What stands against a flat file.
+
+-- a machine that can't be, whatever the file
+pub ends_unsized : {X : Type 0} (mem : ℕ) (name : List ℕ) (held old new : Option (List ℕ)) (status : ℕ)
+    → size_refusal mem ≡ Some name
+    → (status ≡ 4) ⊎ ((status ≡ 5) ⊎ (status ≡ 6))
+    → (status ≡ 4 → Adds old new (refusal_text name)) → (status ≡ 5 → AddsFront old new (refusal_text name)) → (status ≡ 6 → new ≡ old)
+    → Ends (Refuses (flat_refusal mem)) held X old new status
+ends_unsized mem name held old new status is = ends_refused (flat_refusal mem) (held_bytes held) name held old new status (are_held held) (rw is refl)
+
+-- a file that is too long
+pub refuses_sized : (mem : ℕ) → size_refusal mem ≡ None → (file : List ℕ) (status : ℕ) (text : List ℕ)
+    → Refuses (too_long most_bytes) file status text → Refuses (flat_refusal mem) file status text
+refuses_sized mem none file status text refused = (refused.0, (rw (none, refused.1.0) refl, refused.1.1))
+
+-- a file that isn't, which has a fault or has none
+pub flat_refusal_is : (mem : ℕ) (size : Numbers) (file : List ℕ) (fault : Option (List ℕ)) → size_refusal mem ≡ None → size ≡ solo_size mem → too_long most_bytes file ≡ None
+    → flat_refusal_on size file ≡ fault → flat_refusal mem file ≡ fault
+flat_refusal_is mem size file fault none same short is = rw (none, short) (subst (λ s. flat_refusal_on s file ≡ fault) same is)
+
+-- a flat file that has a fault, or for whose image memory is wanting
+pub ends_flat : {X : Type 0} (size : Numbers) (file : List ℕ) (fault : FlatFault) (old new : Option (List ℕ)) (status : ℕ)
+    → (flat_fault file size ≡ Some fault) ⊎ (fault ≡ flat.Memory) → (fault ≡ flat.Memory → status ≡ 6)
+    → (status ≡ 4) ⊎ ((status ≡ 5) ⊎ (status ≡ 6))
+    → (status ≡ 4 → Adds old new (refusal_text (flat_fault_name fault))) → (status ≡ 5 → AddsFront old new (refusal_text (flat_fault_name fault)))
+    → (status ≡ 6 → new ≡ old)
+    → Ends (Refuses (flat_refusal_on size)) (Some file) X old new status
+ends_flat size file fault old new status (inl is) alone ended said cut memory =
+    ends_refused (flat_refusal_on size) file (flat_fault_name fault) (Some file) old new status refl (ap (λ f. option_map flat_fault_name f) is) ended said cut memory
+ends_flat size file fault old new status (inr wanting) alone ended said cut memory = ends_wanting (Some file) old new status (alone wanting) (memory (alone wanting))
+
+-- a flat file on a machine that can be, which is not too long, by what stands against it
+pub refuses_short : (mem : ℕ) (size : Numbers) (file : List ℕ) → size_refusal mem ≡ None → size ≡ solo_size mem → too_long most_bytes file ≡ None
+    → (status : ℕ) (text : List ℕ) → Refuses (flat_refusal_on size) file status text → Refuses (flat_refusal mem) file status text
+refuses_short mem size file none same short status text refused =
+    (refused.0, (flat_refusal_is mem size file (Some refused.0) none same short refused.1.0, refused.1.1))

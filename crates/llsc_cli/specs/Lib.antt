@@ -8,5 +8,7 @@ pub mod Working
 pub mod Calls
 pub mod Report
 pub mod ReportText
+pub mod Refusals
+pub mod Assembly
 pub mod Answer
 pub mod Reads

@@ -1,13 +1,23 @@
 -- What the words of a call ask for.
-use Rattle.std.specs.Prelude.{ℕ, ◌+◌, ◌-◌, ◌*◌, ◌^◌, ◌≤◌, Bool, true, false, ◌==◌, ◌&&◌, ◌||◌, not, nat_le, nat_lt, List, [], ◌∷◌, length, slice_index, slice_index_or, Option, Some, None, if◌then◌else◌, codes}
-use Rattle.std.specs.Option.{is_some, option_map, unwrap_or}
+use Rattle.std.specs.Prelude.{ℕ, ◌≤◌, Bool, true, false, ◌==◌, ◌&&◌, nat_le, List, [], ◌∷◌, slice_index, slice_index_or, Option, Some, None, if◌then◌else◌, codes}
+use Rattle.std.specs.Option.{is_none, is_some, option_and_then, option_map, unwrap_or}
 use Rattle.std.specs.Str.{bytes_eq}
-use Rattle.llsc_cli.specs.declared.words.SoloRequest.{SoloRequest}
+use Rattle.number_text.specs.Decimal.{plain_number}
+use Rattle.llsc_cli.specs.declared.words.Request.{Request as Call}
+use Rattle.llsc_cli.specs.declared.words.Request.TheVariants as call
+use Rattle.llsc_cli.specs.declared.words.Given.{Given as Read}
 use Rattle.llsc_cli.specs.declared.words.Options.{Options}
 
--- what a call asks for: to run the file of that name as one thread, with so many bytes of memory and so many steps
+-- what a call asks for: to run the file of that name as one thread, with so many bytes of memory and so many steps; or
+-- to assemble it
 pub data Request : Type 0 where
   Solo : (file : List ℕ) (mem budget : ℕ) → Request
+  Assemble : (file : List ℕ) → Request
+
+-- the name of a request's file
+abbrev pub file_of : Request → List ℕ
+file_of (Solo file mem budget) = file
+file_of (Assemble file) = file
 
 -- the bytes of memory where none are given
 abbrev pub default_mem : ℕ
@@ -16,31 +26,6 @@ default_mem = 1048576
 -- the steps that a thread has where no budget is given
 abbrev pub default_budget : ℕ
 default_budget = 100000000
-
--- Numbers.
-
--- a decimal digit
-abbrev pub is_digit : ℕ → Bool
-is_digit code = nat_le 48 code && nat_le code 57
-
--- a number with one more digit behind it: None where that is no digit, or where the number isn't below 2 to the 64
-abbrev pub with_digit : ℕ → ℕ → Option ℕ
-with_digit number code =
-    if is_digit code && nat_lt (10 * number + (code - 48)) (2 ^ 64) then Some (10 * number + (code - 48)) else None
-
--- a number with these digits behind it
-unfoldable pub number_from : Option ℕ → List ℕ → Option ℕ
-number_from None codes = None
-number_from (Some number) [] = Some number
-number_from (Some number) (code ∷ codes) = number_from (with_digit number code) codes
-
--- no digit, or a zero before others
-abbrev pub is_malformed : List ℕ → Bool
-is_malformed digits = (length digits == 0) || ((slice_index digits 0 == 48) && nat_lt 1 (length digits))
-
--- a number is decimal digits without a sign, and no zero before others
-abbrev pub number_of : List ℕ → Option ℕ
-number_of digits = if is_malformed digits then None else number_from (Some 0) digits
 
 -- a budget is 1 to 1,000,000,000,000 steps
 abbrev pub is_budget : ℕ → Bool
@@ -67,43 +52,69 @@ with_mem given number = if is_some given.mem then None else option_map (λ n. re
 abbrev pub with_budget : Options → Option ℕ → Option Options
 with_budget given number = if is_some given.budget then None else option_map (λ n. record given { budget = Some n }) number
 
--- an option that has a value, and its value
+-- an option that has a value, and its value: a number
 abbrev pub with_value : Options → List ℕ → List ℕ → Option Options
 with_value given word value =
-    if bytes_eq word (codes "--mem") then with_mem given (number_of value) else
-    if bytes_eq word (codes "--budget") then with_budget given (number_of value) else
+    if bytes_eq word (codes "--mem") then with_mem given (plain_number value) else
+    if bytes_eq word (codes "--budget") then with_budget given (plain_number value) else
     None
 
--- the request for a file with these options
-abbrev pub for_file : Options → List ℕ → Option Request
-for_file given file =
-    if given.flat && not (is_option file) && is_budget (unwrap_or given.budget default_budget)
-    then Some (Solo file (unwrap_or given.mem default_mem) (unwrap_or given.budget default_budget))
-    else None
+-- options, and the file behind them
+pub record Given : Type 0 where
+  pub options : Options
+  pub file : List ℕ
+
+abbrev pub with_file : Options → List ℕ → Option Given
+with_file options file = if is_option file then None else Some (record { options = options; file = file })
 
 -- the words behind the earlier ones, which gave these options: further options, and then the file
-unfoldable pub solo_of : Option Options → List (List ℕ) → Option Request
-solo_of None words = None
-solo_of (Some given) [] = None
-solo_of (Some given) (file ∷ []) = for_file given file
-solo_of (Some given) (word ∷ value ∷ words) =
+unfoldable pub given_of : Option Options → List (List ℕ) → Option Given
+given_of None words = None
+given_of (Some options) [] = None
+given_of (Some options) (file ∷ []) = with_file options file
+given_of (Some options) (word ∷ value ∷ words) =
     if bytes_eq word (codes "--flat")
-    then solo_of (with_flat given) (value ∷ words)
-    else solo_of (with_value given word value) words
+    then given_of (with_flat options) (value ∷ words)
+    else given_of (with_value options word value) words
 
 -- no option so far
 abbrev pub no_options : Options
 no_options = record { flat = false; mem = None; budget = None }
 
+-- Each command has options of its own, and asks for nothing where others are given, or `--flat` is not.
+
+abbrev pub solo_for : Given → Option Request
+solo_for given =
+    if given.options.flat && is_budget (unwrap_or given.options.budget default_budget)
+    then Some (Solo given.file (unwrap_or given.options.mem default_mem) (unwrap_or given.options.budget default_budget))
+    else None
+
+abbrev pub assemble_for : Given → Option Request
+assemble_for given =
+    if given.options.flat && is_none given.options.mem && is_none given.options.budget then Some (Assemble given.file) else None
+
+-- what a command asks for with its options and its file
+abbrev pub request_for : List ℕ → Given → Option Request
+request_for command given =
+    if bytes_eq command (codes "solo") then solo_for given else
+    if bytes_eq command (codes "asm") then assemble_for given else
+    None
+
 -- what the words ask for, None where they are refused
 abbrev pub request_of : List (List ℕ) → Option Request
 request_of [] = None
-request_of (command ∷ words) = if bytes_eq command (codes "solo") then solo_of (Some no_options) words else None
+request_of (command ∷ words) = option_and_then (request_for command) (given_of (Some no_options) words)
 
--- the request that borrows from its words, as what it asks for
-abbrev pub asked : SoloRequest → Request
-asked request = Solo request.file.now request.mem request.budget
+-- What borrows from the words, as what it is.
+
+abbrev pub given : Read → Given
+given read = record { options = read.options; file = read.file.now }
+
+abbrev pub asked : Call → Request
+asked (call.Solo file mem budget) = Solo file.now mem budget
+asked (call.Assemble file) = Assemble file.now
 
 -- a request's budget is in its range
-abbrev pub HasBudget : SoloRequest → Type 0
-HasBudget request = request.budget ≤ 1000000000000
+abbrev pub HasBudget : Call → Type 0
+HasBudget (call.Solo file mem budget) = budget ≤ 1000000000000
+HasBudget (call.Assemble file) = Unit {0}

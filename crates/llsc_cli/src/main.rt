@@ -2,6 +2,9 @@
 #![tactic(auto)]
 
 mod call;
+mod commands;
+mod ended;
+mod files;
 mod host;
 mod laws;
 mod memory_host;

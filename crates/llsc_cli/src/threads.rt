@@ -50,7 +50,6 @@ pub struct Thread {
 
 impl Thread {
     /// The reply of memory to an access, which is counted.
-    #[inline(always)]
     #[tactic(auto, using(crate::proofs::Served::on_marked, crate::proofs::Served::off_unmarked))]
     fn serve(&mut self, ask: Ask) -> u64
         requires one { length self.old.memory.marks ≡ 1 }

@@ -1,7 +1,9 @@
 //! The words of a call, and what they ask for.
 ghost use Rattle.std.specs.Prelude.{◌≡◌, ◌≤◌, ◌<◌, length, map, string_bytes, Some, None, IfSome};
 ghost use Rattle.std.specs.Option.{option_map};
-ghost use Rattle.llsc_cli.specs.Request.{asked, for_file, is_budget, is_malformed, number_from, number_of, request_of, solo_of, text_at, with_flat, with_mem, with_budget, with_value, with_digit, no_options, HasBudget};
+ghost use Rattle.llsc_cli.specs.Request.{asked, assemble_for, given, given_of, is_budget, request_for, request_of, solo_for, text_at, with_file, with_flat, with_mem, with_budget, with_value, no_options, HasBudget};
+
+use number_text::plain_number;
 
 /// The bytes of memory where none are given.
 const MEM: u64 = 1_048_576;
@@ -12,13 +14,20 @@ const BUDGET: u64 = 100_000_000;
 /// The greatest budget.
 const MOST_STEPS: u64 = 1_000_000_000_000;
 
-/// A call for a run of one thread: the name of its file, a flat image, the bytes of memory, and the most
-/// steps.
+/// What a call asks for.
 #[derive(Clone, Copy)]
-pub struct SoloRequest<'a> {
-    pub file: &'a str,
-    pub mem: u64,
-    pub budget: u64,
+pub enum Request<'a> {
+    /// To run the file of that name, a flat image, as one thread, with so many bytes of memory and so many
+    /// steps at most.
+    Solo {
+        file: &'a str,
+        mem: u64,
+        budget: u64,
+    },
+    /// To assemble the file of that name as a flat image.
+    Assemble {
+        file: &'a str,
+    },
 }
 
 /// The options that some words give.
@@ -66,33 +75,81 @@ impl Options {
         })
     }
 
-    /// An option that has a value, with its value.
+    /// An option that has a value, with its value: a number.
     fn with_value(self, word: &str, value: &str) -> Option<Options>
         ensures { result ≡ with_value self word.now value.now }
     {
         if word == "--mem" {
-            return self.with_mem(number_of(value));
+            return self.with_mem(plain_number(value.as_bytes()));
         }
         if word == "--budget" {
-            return self.with_budget(number_of(value));
+            return self.with_budget(plain_number(value.as_bytes()));
         }
         None
     }
 
-    /// The request for a file with these options.
-    fn for_file(self, file: &str) -> Option<SoloRequest<'_>>
-        ensures request { option_map asked result ≡ for_file self file.now }
-        ensures budget { IfSome result HasBudget }
+    /// These options, with the file behind them.
+    fn with_file(self, file: &str) -> Option<Given<'_>>
+        ensures { option_map given result ≡ with_file self file.now }
     {
-        let budget = self.budget.unwrap_or(BUDGET);
-        if !self.flat || file.starts_with('-') || !is_budget(budget) {
+        if file.starts_with('-') {
             return None;
         }
-        Some(SoloRequest {
+        Some(Given {
+            options: self,
             file,
-            mem: self.mem.unwrap_or(MEM),
+        })
+    }
+}
+
+/// Options, and the file behind them.
+#[derive(Clone, Copy)]
+pub struct Given<'a> {
+    options: Options,
+    file: &'a str,
+}
+
+impl<'a> Given<'a> {
+    /// What `solo` asks for: it has each option, and a budget in its range.
+    fn solo(self) -> Option<Request<'a>>
+        ensures request { option_map asked result ≡ solo_for (given self.entry) }
+        ensures budget { IfSome result HasBudget }
+    {
+        let budget = self.options.budget.unwrap_or(BUDGET);
+        if !self.options.flat || !is_budget(budget) {
+            return None;
+        }
+        Some(Request::Solo {
+            file: self.file,
+            mem: self.options.mem.unwrap_or(MEM),
             budget,
         })
+    }
+
+    /// What `asm` asks for: it has `--flat` alone.
+    fn assemble(self) -> Option<Request<'a>>
+        ensures request { option_map asked result ≡ assemble_for (given self.entry) }
+        ensures budget { IfSome result HasBudget }
+    {
+        let Options { flat, mem, budget } = self.options;
+        if !flat || mem.is_some() || budget.is_some() {
+            return None;
+        }
+        Some(Request::Assemble { file: self.file })
+    }
+
+    /// What a command asks for with these.
+    fn request(self, command: &str) -> Option<Request<'a>>
+        ensures request { option_map asked result ≡ request_for command.now (given self.entry) }
+        ensures budget { IfSome result HasBudget }
+    {
+        if command == "solo" {
+            return self.solo();
+        }
+        if command == "asm" {
+            return self.assemble();
+        }
+        None
     }
 }
 
@@ -103,53 +160,6 @@ fn is_budget(budget: u64) -> bool
     1 <= budget && budget <= MOST_STEPS
 }
 
-/// A number behind more digits: 10 times it and the digit, `None` where the byte is no digit or the
-/// number leaves 64 bits.
-fn with_digit(number: u64, byte: u8) -> Option<u64>
-    ensures { result ≡ with_digit number byte }
-{
-    if !byte.is_ascii_digit() {
-        return None;
-    }
-    number.checked_mul(10)?.checked_add(u64::from(byte - b'0'))
-}
-
-/// Whether there is no digit, or a zero before others.
-fn is_malformed(digits: &[u8]) -> bool
-    ensures { result ≡ is_malformed digits.now }
-{
-    match digits {
-        [] => true,
-        [first, ..] => *first == b'0' && digits.len() > 1,
-    }
-}
-
-/// The number that digits spell.
-#[tactic(auto, using(crate::proofs::Numbers::digit_next, crate::proofs::Numbers::digit_wrong, crate::proofs::Numbers::digits_end))]
-fn number_from(digits: &[u8]) -> Option<u64>
-    ensures { result ≡ number_from (Some 0) digits.now }
-{
-    let mut number = 0u64;
-    for &byte in digits {
-        let Some(next) = with_digit(number, byte) else {
-            return None;
-        };
-        number = next;
-    }
-    Some(number)
-}
-
-/// The number that a word is: decimal digits without a sign, and no zero before others.
-fn number_of(word: &str) -> Option<u64>
-    ensures { result ≡ number_of word.now }
-{
-    let digits = word.as_bytes();
-    if is_malformed(digits) {
-        return None;
-    }
-    number_from(digits)
-}
-
 /// One of the words.
 fn word_at(words: &[String], at: usize) -> &str
     requires { at < length words.now }
@@ -158,13 +168,12 @@ fn word_at(words: &[String], at: usize) -> &str
     words[at].as_str()
 }
 
-/// What the words behind `solo` ask for: options in any order, and then the file.
+/// What the words behind a command give: options in any order, and then the file.
 #[tactic(auto, using(crate::proofs::OptionWords::flag_next, crate::proofs::OptionWords::flag_twice, crate::proofs::OptionWords::value_next, crate::proofs::OptionWords::value_wrong, crate::proofs::OptionWords::file_last, crate::proofs::OptionWords::no_file))]
-fn solo_of(words: &[String]) -> Option<SoloRequest<'_>>
-    ensures request { option_map asked result ≡ solo_of (Some no_options) (map string_bytes words.now) }
-    ensures budget { IfSome result HasBudget }
+fn given_of(words: &[String]) -> Option<Given<'_>>
+    ensures { option_map given result ≡ given_of (Some no_options) (map string_bytes words.now) }
 {
-    let mut given = Options {
+    let mut options = Options {
         flat: false,
         mem: None,
         budget: None,
@@ -173,33 +182,36 @@ fn solo_of(words: &[String]) -> Option<SoloRequest<'_>>
     while at + 1 < words.len() {
         let word = word_at(words, at);
         if word == "--flat" {
-            let Some(next) = given.with_flat() else {
+            let Some(next) = options.with_flat() else {
                 return None;
             };
-            given = next;
+            options = next;
             at += 1;
             continue;
         }
-        let Some(next) = given.with_value(word, word_at(words, at + 1)) else {
+        let Some(next) = options.with_value(word, word_at(words, at + 1)) else {
             return None;
         };
-        given = next;
+        options = next;
         at += 2;
     }
     if at == words.len() {
         return None;
     }
-    given.for_file(word_at(words, at))
+    options.with_file(word_at(words, at))
 }
 
 /// What the words ask for, `None` where they are refused. The words do not include the program's
 /// name.
-pub fn parse(words: &[String]) -> Option<SoloRequest<'_>>
+pub fn parse(words: &[String]) -> Option<Request<'_>>
     ensures request { option_map asked result ≡ request_of (map string_bytes words.now) }
     ensures budget { IfSome result HasBudget }
 {
-    match words {
-        [command, rest @ ..] if command.as_str() == "solo" => solo_of(rest),
-        _ => None,
-    }
+    let [command, rest @ ..] = words else {
+        return None;
+    };
+    let Some(given) = given_of(rest) else {
+        return None;
+    };
+    given.request(command.as_str())
 }

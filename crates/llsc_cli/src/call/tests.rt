@@ -4,6 +4,7 @@ use crate::memory_host::MemoryHost;
 use std::alloc::AllocError;
 use std::test::Fail;
 
+mod assembles;
 mod prints;
 
 // A program that leaves with code 0 in three steps.

@@ -1,0 +1,108 @@
+//! `asm`: a program from its text, as a flat image.
+ghost use Rattle.std.specs.Prelude.{◌≡◌, ◌≢◌, None, IfOk, string_bytes};
+ghost use Rattle.a32_asm.specs.Assembled.{most_text};
+ghost use Rattle.llsc_cli.specs.Host.{Rose};
+ghost use Rattle.llsc_cli.specs.Refusals.{refused, too_long};
+ghost use Rattle.llsc_cli.specs.Assembly.{asm_answer, code_bytes, fault_name, unit_answer};
+ghost use Rattle.llsc_cli.specs.Answer.{AnswersAsm};
+ghost use Rattle.llsc_cli.specs.Reads.{Ends, Gives};
+
+use crate::ended::{Ended, out_of_memory, refuse, say};
+use crate::files::read;
+use crate::host::Host;
+use a32_asm::{AsmFault, AsmKind, assemble};
+use elf32::Unit;
+use std::alloc::{AllocError, Global};
+use std::str;
+
+/// The most bytes of a text.
+const MOST_TEXT: usize = 4_194_304;
+
+/// The words of the code, each from its low byte on.
+fn code_bytes(alloc: Global, words: &[u32]) -> Result<Vec<u8>, AllocError>
+    ensures { IfOk result (λ bytes. bytes.items ≡ code_bytes words.now) }
+{
+    let mut bytes = Vec::new(alloc);
+    for word in words {
+        bytes.extend_from_slice(&word.to_le_bytes())?;
+    }
+    Ok(bytes)
+}
+
+/// Writes the code of a program that has no data.
+fn write_unit<H: Host>(alloc: Global, host: &mut H, unit: &Unit) -> Ended
+    ensures gives { Gives (unit_answer unit.now) (H.written host.old) (H.written host.new) result.status }
+    ensures write { result.status ≡ 5 → Rose (H.write_faults host.old) (H.write_faults host.new) }
+    ensures write_answered { result.status ≢ 5 → H.write_faults host.new ≡ H.write_faults host.old }
+    ensures files { H.file host.new ≡ H.file host.old }
+    ensures read_faults { H.read_faults host.new ≡ H.read_faults host.old }
+    ensures lost { H.lost host.new ≡ H.lost host.old }
+{
+    if unit.bytes.as_slice().len() > 0 || unit.space > 0 {
+        return refuse(alloc, host, "FlatData");
+    }
+    match code_bytes(alloc, unit.words.as_slice()) {
+        Ok(bytes) => say(host, bytes.as_slice(), 0),
+        Err(_) => out_of_memory(),
+    }
+}
+
+/// The name of a fault: its line and its kind.
+fn name_of(alloc: Global, fault: AsmFault) -> Result<String, AllocError>
+    ensures { IfOk result (λ name. string_bytes name ≡ fault_name fault) }
+{
+    format!(in alloc; "line {} {}", fault.line, fault.kind.name())
+}
+
+/// Says which line of a text has a fault, and which.
+fn refuse_text<H: Host>(alloc: Global, host: &mut H, fault: AsmFault) -> Ended
+    ensures gives { Gives (refused (fault_name fault)) (H.written host.old) (H.written host.new) result.status }
+    ensures memory_alone { fault.kind ≡ AsmKind.Memory → result.status ≡ 6 }
+    ensures write { result.status ≡ 5 → Rose (H.write_faults host.old) (H.write_faults host.new) }
+    ensures write_answered { result.status ≢ 5 → H.write_faults host.new ≡ H.write_faults host.old }
+    ensures files { H.file host.new ≡ H.file host.old }
+    ensures read_faults { H.read_faults host.new ≡ H.read_faults host.old }
+    ensures lost { H.lost host.new ≡ H.lost host.old }
+{
+    if fault.kind == AsmKind::Memory {
+        return out_of_memory();
+    }
+    match name_of(alloc, fault) {
+        Ok(name) => refuse(alloc, host, name.as_str()),
+        Err(_) => out_of_memory(),
+    }
+}
+
+/// Answers for the bytes of a text's file.
+fn respond<H: Host>(alloc: Global, host: &mut H, file: &[u8]) -> Ended
+    requires { too_long most_text file.now ≡ None }
+    ensures gives { Gives (asm_answer file.now) (H.written host.old) (H.written host.new) result.status }
+    ensures write { result.status ≡ 5 → Rose (H.write_faults host.old) (H.write_faults host.new) }
+    ensures write_answered { result.status ≢ 5 → H.write_faults host.new ≡ H.write_faults host.old }
+    ensures files { H.file host.new ≡ H.file host.old }
+    ensures read_faults { H.read_faults host.new ≡ H.read_faults host.old }
+    ensures lost { H.lost host.new ≡ H.lost host.old }
+{
+    let Ok(text) = str::from_utf8(file) else {
+        return refuse(alloc, host, "NotText");
+    };
+    match assemble(alloc, text) {
+        Ok(unit) => write_unit(alloc, host, &unit),
+        Err(fault) => refuse_text(alloc, host, fault),
+    }
+}
+
+/// Assembles the file of a name.
+pub fn answer<H: Host>(alloc: Global, host: &mut H, file: &str) -> Ended
+    ensures ends { Ends AnswersAsm (H.file host.old file.now)
+        (Rose (H.read_faults host.old) (H.read_faults host.new) × (H.lost host.new ≡ file.now))
+        (H.written host.old) (H.written host.new) result.status }
+    ensures write { result.status ≡ 5 → Rose (H.write_faults host.old) (H.write_faults host.new) }
+    ensures write_answered { result.status ≢ 5 → H.write_faults host.new ≡ H.write_faults host.old }
+    ensures read_answered { result.status ≢ 3 → result.status ≢ 5 → H.read_faults host.new ≡ H.read_faults host.old }
+{
+    match read(alloc, host, file, MOST_TEXT) {
+        Ok(bytes) => respond(alloc, host, bytes.as_slice()),
+        Err(ended) => ended,
+    }
+}

@@ -1,0 +1,81 @@
+//! `solo`: a run of one thread.
+ghost use Rattle.std.specs.Prelude.{◌≡◌, ◌≢◌, ◌≤◌, ◌⊎◌, None, length};
+ghost use Rattle.llsc_cli.specs.Host.{Adds, AddsFront, Rose};
+ghost use Rattle.llsc_cli.specs.Report.{report_of};
+ghost use Rattle.llsc_cli.specs.Solo.{IsSoloEnd};
+ghost use Rattle.llsc_cli.specs.Refusals.{size_refusal};
+ghost use Rattle.llsc_cli.specs.Answer.{status_of, AnswersSolo};
+ghost use Rattle.llsc_cli.specs.Reads.{Ends};
+
+use crate::ended::{Ended, out_of_memory};
+use crate::files::load;
+use crate::host::Host;
+use crate::report::Report;
+use crate::threads::{Ran, solo};
+use a32_step::Stop;
+use llsc_base::{Image, MachineSize};
+use std::alloc::Global;
+
+/// 0 where the thread left by an exit call with code 0, else 1.
+fn status(stop: Stop) -> u8
+    ensures value { result ≡ status_of stop }
+    ensures bound { (result ≡ 0) ⊎ (result ≡ 1) }
+{
+    match stop {
+        Stop::Exit(0) => 0,
+        _ => 1,
+    }
+}
+
+/// Runs an image and writes the report.
+fn run<H: Host>(
+    alloc: Global,
+    host: &mut H,
+    size: &MachineSize,
+    budget: u64,
+    image: &Image,
+) -> Ended
+    requires one_thread { size.now.threads ≡ 1 }
+    requires budget { budget ≤ 1000000000000 }
+    requires whole { length image.now.bytes ≡ size.now.mem }
+    ensures ended { (result.status ≡ 0) ⊎ ((result.status ≡ 1) ⊎ ((result.status ≡ 5) ⊎ (result.status ≡ 6))) }
+    ensures done { (result.status ≡ 0) ⊎ (result.status ≡ 1) → (ran : Ran) × (IsSoloEnd image.now size.now budget ran
+        × ((result.status ≡ status_of ran.end.stop) × Adds (H.written host.old) (H.written host.new) (report_of budget ran))) }
+    ensures cut { result.status ≡ 5 → Rose (H.write_faults host.old) (H.write_faults host.new) × (ran : Ran) × (IsSoloEnd image.now size.now budget ran
+        × AddsFront (H.written host.old) (H.written host.new) (report_of budget ran)) }
+    ensures memory { result.status ≡ 6 → H.written host.new ≡ H.written host.old }
+    ensures write_answered { result.status ≢ 5 → H.write_faults host.new ≡ H.write_faults host.old }
+    ensures files { H.file host.new ≡ H.file host.old }
+    ensures read_faults { H.read_faults host.new ≡ H.read_faults host.old }
+    ensures lost { H.lost host.new ≡ H.lost host.old }
+{
+    let Ok(ran) = solo(alloc, image, size, budget) else {
+        return out_of_memory();
+    };
+    let stop = ran.end.stop;
+    let Ok(report) = Report::new(alloc, budget, ran) else {
+        return out_of_memory();
+    };
+    match report.write(host) {
+        Ok(()) => Ended {
+            status: status(stop),
+        },
+        Err(_) => Ended { status: 5 },
+    }
+}
+
+/// Runs the flat file of a name on a machine of one thread with so much memory.
+pub fn answer<H: Host>(alloc: Global, host: &mut H, file: &str, mem: u64, budget: u64) -> Ended
+    requires { budget ≤ 1000000000000 }
+    ensures ends { Ends (AnswersSolo mem budget) (H.file host.old file.now)
+        (Rose (H.read_faults host.old) (H.read_faults host.new) × (H.lost host.new ≡ file.now) × (size_refusal mem ≡ None))
+        (H.written host.old) (H.written host.new) result.status }
+    ensures write { result.status ≡ 5 → Rose (H.write_faults host.old) (H.write_faults host.new) }
+    ensures write_answered { result.status ≢ 5 → H.write_faults host.new ≡ H.write_faults host.old }
+    ensures read_answered { result.status ≢ 3 → result.status ≢ 5 → H.read_faults host.new ≡ H.read_faults host.old }
+{
+    match load(alloc, host, mem, file) {
+        Ok(loaded) => run(alloc, host, &loaded.size, budget, &loaded.image),
+        Err(ended) => ended,
+    }
+}

@@ -1,0 +1,57 @@
+//! How a call ends, and the texts of one write.
+ghost use Rattle.std.specs.Prelude.{◌≡◌, ◌≢◌, ◌<◌, ◌⊎◌};
+ghost use Rattle.llsc_cli.specs.Host.{Adds, AddsFront, Rose};
+ghost use Rattle.llsc_cli.specs.Refusals.{refusal_text};
+
+use crate::host::Host;
+use std::alloc::Global;
+
+/// How a call ended.
+#[derive(Clone, Copy, Debug, PartialEq, Eq)]
+pub struct Ended {
+    /// 0: the answer is written whole, and a thread left with code 0; 1: a thread stopped otherwise; 2: the
+    /// words are refused; 3: the file could not be read; 4: the file is refused; 5: a write failed; 6: want of
+    /// memory.
+    pub status: u8,
+}
+
+/// Want of memory.
+pub fn out_of_memory() -> Ended
+    ensures { result.status ≡ 6 }
+{
+    Ended { status: 6 }
+}
+
+/// Writes a text by one write, and ends with the status, or with 5 where the write failed.
+pub fn say<H: Host>(host: &mut H, text: &[u8], status: u8) -> Ended
+    requires { status < 5 }
+    ensures ended { (result.status ≡ status) ⊎ (result.status ≡ 5) }
+    ensures said { result.status ≡ status → Adds (H.written host.old) (H.written host.new) text.now }
+    ensures cut { result.status ≡ 5 → Rose (H.write_faults host.old) (H.write_faults host.new) × AddsFront (H.written host.old) (H.written host.new) text.now }
+    ensures write_answered { result.status ≢ 5 → H.write_faults host.new ≡ H.write_faults host.old }
+    ensures files { H.file host.new ≡ H.file host.old }
+    ensures read_faults { H.read_faults host.new ≡ H.read_faults host.old }
+    ensures lost { H.lost host.new ≡ H.lost host.old }
+{
+    match host.write(text) {
+        Ok(()) => Ended { status },
+        Err(_) => Ended { status: 5 },
+    }
+}
+
+/// Says that a file is refused, with the name of what is wrong.
+pub fn refuse<H: Host>(alloc: Global, host: &mut H, name: &str) -> Ended
+    ensures ended { (result.status ≡ 4) ⊎ ((result.status ≡ 5) ⊎ (result.status ≡ 6)) }
+    ensures said { result.status ≡ 4 → Adds (H.written host.old) (H.written host.new) (refusal_text name.now) }
+    ensures cut { result.status ≡ 5 → Rose (H.write_faults host.old) (H.write_faults host.new) × AddsFront (H.written host.old) (H.written host.new) (refusal_text name.now) }
+    ensures memory { result.status ≡ 6 → H.written host.new ≡ H.written host.old }
+    ensures write_answered { result.status ≢ 5 → H.write_faults host.new ≡ H.write_faults host.old }
+    ensures files { H.file host.new ≡ H.file host.old }
+    ensures read_faults { H.read_faults host.new ≡ H.read_faults host.old }
+    ensures lost { H.lost host.new ≡ H.lost host.old }
+{
+    match format!(in alloc; "llsc: {name}\n") {
+        Ok(text) => say(host, text.as_bytes(), 4),
+        Err(_) => out_of_memory(),
+    }
+}

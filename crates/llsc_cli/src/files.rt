@@ -1,0 +1,153 @@
+//! The file of a call: had, or refused.
+ghost use Rattle.std.specs.Prelude.{◌≡◌, ◌≢◌, codes, ◌<◌, ◌≤◌, ◌⊎◌, List, ℕ, None, Some, IfOk, OnOk, IfErr, OnErr, length};
+ghost use Rattle.llsc_base.specs.Flat.{flat_fault_name, flat_image};
+ghost use Rattle.llsc_cli.specs.Host.{Adds, AddsFront, AreBytes, Rose};
+ghost use Rattle.llsc_cli.specs.Refusals.{read_text, refusal_text, too_long, most_bytes, solo_size, size_refusal, flat_refusal, flat_refusal_on, Refuses};
+ghost use Rattle.llsc_cli.specs.Reads.{CutAfter, Ends};
+
+use crate::ended::{Ended, out_of_memory, refuse, say};
+use crate::host::{Host, ReadFault};
+use llsc_base::{FlatFault, Image, MachineSize};
+use std::alloc::Global;
+
+/// The most bytes of a program file.
+const MOST_BYTES: usize = 33_554_432;
+
+/// The classes of rows of a machine of one thread, and the most writes of one.
+const CLASSES: u64 = 4096;
+
+const MOST_WRITES: u64 = 1 << 62;
+
+/// Answers for a file that was not had.
+fn refuse_read<H: Host>(host: &mut H, fault: ReadFault) -> Ended
+    ensures ended { (result.status ≡ 3) ⊎ ((result.status ≡ 4) ⊎ ((result.status ≡ 5) ⊎ (result.status ≡ 6))) }
+    ensures failed { result.status ≡ 3 → fault ≡ ReadFault.Failed }
+    ensures too_long { result.status ≡ 4 → fault ≡ ReadFault.FileTooLong }
+    ensures memory_alone { result.status ≡ 6 → fault ≡ ReadFault.Memory }
+    ensures said_failed { result.status ≡ 3 → Adds (H.written host.old) (H.written host.new) read_text }
+    ensures said_too_long { result.status ≡ 4 → Adds (H.written host.old) (H.written host.new) (refusal_text (codes "FileTooLong")) }
+    ensures cut { result.status ≡ 5 → Rose (H.write_faults host.old) (H.write_faults host.new) × CutAfter fault (H.written host.old) (H.written host.new) }
+    ensures memory { result.status ≡ 6 → H.written host.new ≡ H.written host.old }
+    ensures write_answered { result.status ≢ 5 → H.write_faults host.new ≡ H.write_faults host.old }
+    ensures files { H.file host.new ≡ H.file host.old }
+    ensures read_faults { H.read_faults host.new ≡ H.read_faults host.old }
+    ensures lost { H.lost host.new ≡ H.lost host.old }
+{
+    match fault {
+        ReadFault::Failed => say(host, b"llsc: read failed\n", 3),
+        ReadFault::FileTooLong => say(host, b"llsc: FileTooLong\n", 4),
+        ReadFault::Memory => out_of_memory(),
+    }
+}
+
+/// The bytes of the file of a name, `most` at most.
+///
+/// # Errors
+///
+/// How the call ended, which then has no more to answer.
+pub fn read<H: Host>(alloc: Global, host: &mut H, name: &str, most: usize) -> Result<Vec<u8>, Ended>
+    ensures had { IfOk result (λ file. AreBytes (H.file host.old name.now) file.items × (too_long most file.items ≡ None)) }
+    ensures within { IfOk result (λ file. length file.items ≤ most) }
+    ensures silent { OnOk result (H.written host.new ≡ H.written host.old) }
+    ensures unfailed { OnOk result ((H.read_faults host.new ≡ H.read_faults host.old) × (H.write_faults host.new ≡ H.write_faults host.old)) }
+    ensures ends { IfErr result (λ ended. Ends (Refuses (too_long most)) (H.file host.old name.now)
+        (Rose (H.read_faults host.old) (H.read_faults host.new) × (H.lost host.new ≡ name.now)) (H.written host.old) (H.written host.new) ended.status) }
+    ensures write { IfErr result (λ ended. ended.status ≡ 5 → Rose (H.write_faults host.old) (H.write_faults host.new)) }
+    ensures write_answered { IfErr result (λ ended. ended.status ≢ 5 → H.write_faults host.new ≡ H.write_faults host.old) }
+    ensures read_answered { IfErr result (λ ended. ended.status ≢ 3 → ended.status ≢ 5 → H.read_faults host.new ≡ H.read_faults host.old) }
+{
+    let Ok(owned) = String::from_str(alloc, name) else {
+        return Err(out_of_memory());
+    };
+    match host.read_file(alloc, owned, most) {
+        Ok(file) => Ok(file),
+        Err(fault) => Err(refuse_read(host, fault)),
+    }
+}
+
+/// Says that a flat file is refused.
+fn refuse_flat<H: Host>(alloc: Global, host: &mut H, fault: FlatFault) -> Ended
+    ensures ended { (result.status ≡ 4) ⊎ ((result.status ≡ 5) ⊎ (result.status ≡ 6)) }
+    ensures memory_alone { fault ≡ FlatFault.Memory → result.status ≡ 6 }
+    ensures said { result.status ≡ 4 → Adds (H.written host.old) (H.written host.new) (refusal_text (flat_fault_name fault)) }
+    ensures cut { result.status ≡ 5 → Rose (H.write_faults host.old) (H.write_faults host.new) × AddsFront (H.written host.old) (H.written host.new) (refusal_text (flat_fault_name fault)) }
+    ensures memory { result.status ≡ 6 → H.written host.new ≡ H.written host.old }
+    ensures write_answered { result.status ≢ 5 → H.write_faults host.new ≡ H.write_faults host.old }
+    ensures files { H.file host.new ≡ H.file host.old }
+    ensures read_faults { H.read_faults host.new ≡ H.read_faults host.old }
+    ensures lost { H.lost host.new ≡ H.lost host.old }
+{
+    if fault == FlatFault::Memory {
+        return out_of_memory();
+    }
+    refuse(alloc, host, fault.name())
+}
+
+/// The image of a flat file on a machine.
+///
+/// # Errors
+///
+/// How the call ended, which then has no more to answer.
+#[tactic(auto, using(crate::proofs::FlatImages::flat_sized))]
+fn image_of<H: Host>(
+    alloc: Global,
+    host: &mut H,
+    size: &MachineSize,
+    file: &[u8],
+) -> Result<Image, Ended>
+    ensures sound { IfOk result (λ image. flat_refusal_on size.now file.now ≡ None) }
+    ensures image { IfOk result (λ image. image ≡ flat_image file.now size.now) }
+    ensures whole { IfOk result (λ image. length image.bytes ≡ size.now.mem) }
+    ensures silent { OnOk result (H.written host.new ≡ H.written host.old) }
+    ensures written { OnOk result (H.write_faults host.new ≡ H.write_faults host.old) }
+    ensures ends { IfErr result (λ ended. Ends (Refuses (flat_refusal_on size.now)) (Some file.now) ⊥ (H.written host.old) (H.written host.new) ended.status) }
+    ensures write { IfErr result (λ ended. ended.status ≡ 5 → Rose (H.write_faults host.old) (H.write_faults host.new)) }
+    ensures write_answered { IfErr result (λ ended. ended.status ≢ 5 → H.write_faults host.new ≡ H.write_faults host.old) }
+    ensures files { H.file host.new ≡ H.file host.old }
+    ensures read_faults { H.read_faults host.new ≡ H.read_faults host.old }
+    ensures lost { H.lost host.new ≡ H.lost host.old }
+{
+    match Image::flat(alloc, file, size) {
+        Ok(image) => Ok(image),
+        Err(fault) => Err(refuse_flat(alloc, host, fault)),
+    }
+}
+
+/// A machine of one thread, and the image of its program.
+#[derive(Drop)]
+pub struct Loaded {
+    pub size: MachineSize,
+    pub image: Image,
+}
+
+/// The machine of one thread with so much memory, and the image of a flat file on it.
+///
+/// # Errors
+///
+/// How the call ended, which then has no more to answer.
+pub fn load<H: Host>(alloc: Global, host: &mut H, mem: u64, name: &str) -> Result<Loaded, Ended>
+    ensures size { IfOk result (λ loaded. loaded.size ≡ solo_size mem) }
+    ensures image { IfOk result (λ loaded. (file : List ℕ) × (AreBytes (H.file host.old name.now) file
+        × ((flat_refusal mem file ≡ None) × (loaded.image ≡ flat_image file (solo_size mem))))) }
+    ensures whole { IfOk result (λ loaded. length loaded.image.bytes ≡ loaded.size.mem) }
+    ensures silent { OnOk result (H.written host.new ≡ H.written host.old) }
+    ensures unfailed { OnOk result ((H.read_faults host.new ≡ H.read_faults host.old) × (H.write_faults host.new ≡ H.write_faults host.old)) }
+    ensures ends { IfErr result (λ ended. Ends (Refuses (flat_refusal mem)) (H.file host.old name.now)
+        (Rose (H.read_faults host.old) (H.read_faults host.new) × (H.lost host.new ≡ name.now) × (size_refusal mem ≡ None)) (H.written host.old) (H.written host.new) ended.status) }
+    ensures write { IfErr result (λ ended. ended.status ≡ 5 → Rose (H.write_faults host.old) (H.write_faults host.new)) }
+    ensures write_answered { IfErr result (λ ended. ended.status ≢ 5 → H.write_faults host.new ≡ H.write_faults host.old) }
+    ensures read_answered { IfErr result (λ ended. ended.status ≢ 3 → ended.status ≢ 5 → H.read_faults host.new ≡ H.read_faults host.old) }
+{
+    let size = match MachineSize::new(mem, 1, CLASSES, MOST_WRITES) {
+        Ok(size) => size,
+        Err(fault) => return Err(refuse(alloc, host, fault.name())),
+    };
+    let file = match read(alloc, host, name, MOST_BYTES) {
+        Ok(file) => file,
+        Err(ended) => return Err(ended),
+    };
+    match image_of(alloc, host, &size, file.as_slice()) {
+        Ok(image) => Ok(Loaded { size, image }),
+        Err(ended) => Err(ended),
+    }
+}
