@@ -29,3 +29,7 @@ front_more old mid new a b whole front =
 pub owed : {A B : Type 0} {P : Type 0} → (r : Result A B) → P → OnErr r P
 owed (Ok x) p = tt
 owed (Err e) p = p
+
+pub owed_more : {A B P Q : Type 0} → (r : Result A B) → (P → Q) → OnErr r P → OnErr r Q
+owed_more (Ok x) more p = tt
+owed_more (Err e) more p = more p

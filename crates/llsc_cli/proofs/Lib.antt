@@ -3,12 +3,14 @@ pub mod Answering
 pub mod AsmAnswers
 pub mod CodeBytes
 pub mod Counts
+pub mod DisAnswers
 pub mod FlatImages
 pub mod Fronts
 pub mod Loading
 pub mod Logs
 pub mod Loops
 pub mod Served
+pub mod Paging
 pub mod SoloAnswers
 pub mod SoloEnds
 pub mod Streams

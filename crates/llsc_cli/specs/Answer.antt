@@ -8,8 +8,9 @@ use Rattle.llsc_cli.specs.declared.threads.Ran.{Ran}
 use Rattle.llsc_cli.specs.Solo.{IsSoloEnd}
 use Rattle.llsc_cli.specs.Report.{report_of}
 use Rattle.llsc_cli.specs.Host.{Rose, AreBytes, AddsFront}
-use Rattle.llsc_cli.specs.Request.{Request, Solo, Assemble, file_of}
+use Rattle.llsc_cli.specs.Request.{Request, Solo, Assemble, Disassemble, file_of}
 use Rattle.llsc_cli.specs.Assembly.{asm_answer}
+use Rattle.llsc_cli.specs.Disassembly.{dis_answer}
 use Rattle.llsc_cli.specs.Refusals.{Answer, words_text, read_text, refusal_text, solo_size, size_refusal, flat_refusal}
 
 -- 0 where the thread left by an exit call with code 0, else 1
@@ -34,15 +35,20 @@ Is answer status text = (status ≡ answer.status) × (text ≡ answer.text)
 abbrev pub AnswersAsm : List ℕ → ℕ → List ℕ → Type 0
 AnswersAsm file status text = Is (asm_answer file) status text
 
+abbrev pub AnswersDis : ℕ → List ℕ → ℕ → List ℕ → Type 0
+AnswersDis mem file status text = Is (dis_answer mem file) status text
+
 -- the status and the text for a request and the bytes of its file
 abbrev pub Answers : Request → List ℕ → ℕ → List ℕ → Type 0
 Answers (Solo name mem budget) file status text = AnswersSolo mem budget file status text
 Answers (Assemble name) file status text = AnswersAsm file status text
+Answers (Disassemble name mem) file status text = AnswersDis mem file status text
 
 -- nothing stands against a request before its file is read
 abbrev pub IsRead : Request → Type 0
 IsRead (Solo name mem budget) = size_refusal mem ≡ None
 IsRead (Assemble name) = Unit {0}
+IsRead (Disassemble name mem) = size_refusal mem ≡ None
 
 -- the statuses of an answer that was given whole
 abbrev pub IsDone : ℕ → Type 0

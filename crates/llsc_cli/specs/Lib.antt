@@ -10,5 +10,6 @@ pub mod Report
 pub mod ReportText
 pub mod Refusals
 pub mod Assembly
+pub mod Disassembly
 pub mod Answer
 pub mod Reads

@@ -1,34 +1,23 @@
 -- The report of a run of one thread.
-use Rattle.std.specs.Prelude.{ℕ, ◌+◌, ◌/◌, ◌%◌, nat_lt, if◌then◌else◌, List, [], ◌∷◌, ◌++◌, length, codes}
+use Rattle.std.specs.Prelude.{ℕ, List, ◌++◌, length, codes}
 use Rattle.std.specs.Fmt.{decimal}
+use Rattle.number_text.specs.Hexadecimal.{word_text}
 use Rattle.a32_instr.specs.declared.outside.Stop.{Stop}
 use Rattle.a32_instr.specs.declared.outside.Stop.TheVariants.{Exit, Undefined, Unpredictable, Alignment, Outside, ReadOnly, Thumb, Budget, TagLimit}
 use Rattle.llsc_cli.specs.declared.threads.ThreadEnd.{ThreadEnd}
 use Rattle.llsc_cli.specs.declared.threads.Ran.{Ran}
 
--- a hexadecimal digit in lower case
-abbrev pub hex_digit : ℕ → ℕ
-hex_digit value = if nat_lt value 10 then 48 + value else 87 + value
-
--- a number below 65,536 as four of them
-unfoldable pub half_text : ℕ → List ℕ
-half_text half = hex_digit (half / 4096) ∷ hex_digit (half / 256 % 16) ∷ hex_digit (half / 16 % 16) ∷ hex_digit (half % 16) ∷ []
-
--- an address as eight of them
-unfoldable pub address_text : ℕ → List ℕ
-address_text addr = half_text (addr / 65536) ++ half_text (addr % 65536)
-
 -- a stop by its name and its number: a code, an address, or for the budget the budget itself
 abbrev pub stop_text : ℕ → Stop → List ℕ
 stop_text budget (Exit code) = codes "exit " ++ decimal code
-stop_text budget (Undefined pc) = codes "undefined " ++ address_text pc
-stop_text budget (Unpredictable pc) = codes "unpredictable " ++ address_text pc
-stop_text budget (Alignment addr) = codes "alignment " ++ address_text addr
-stop_text budget (Outside addr) = codes "outside " ++ address_text addr
-stop_text budget (ReadOnly addr) = codes "readonly " ++ address_text addr
-stop_text budget (Thumb pc) = codes "thumb " ++ address_text pc
+stop_text budget (Undefined pc) = codes "undefined " ++ word_text pc
+stop_text budget (Unpredictable pc) = codes "unpredictable " ++ word_text pc
+stop_text budget (Alignment addr) = codes "alignment " ++ word_text addr
+stop_text budget (Outside addr) = codes "outside " ++ word_text addr
+stop_text budget (ReadOnly addr) = codes "readonly " ++ word_text addr
+stop_text budget (Thumb pc) = codes "thumb " ++ word_text pc
 stop_text budget Budget = codes "budget " ++ decimal budget
-stop_text budget (TagLimit addr) = codes "taglimit " ++ address_text addr
+stop_text budget (TagLimit addr) = codes "taglimit " ++ word_text addr
 
 -- the line of a thread, whose output has so many bytes
 abbrev pub head_line : ℕ → ℕ → ThreadEnd → ℕ → List ℕ

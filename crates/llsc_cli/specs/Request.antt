@@ -8,16 +8,18 @@ use Rattle.llsc_cli.specs.declared.words.Request.TheVariants as call
 use Rattle.llsc_cli.specs.declared.words.Given.{Given as Read}
 use Rattle.llsc_cli.specs.declared.words.Options.{Options}
 
--- what a call asks for: to run the file of that name as one thread, with so many bytes of memory and so many steps; or
--- to assemble it
+-- what a call asks for: to run the file of that name as one thread, with so many bytes of memory and so many steps; to
+-- assemble it; or to disassemble it, in so many bytes of memory
 pub data Request : Type 0 where
   Solo : (file : List ℕ) (mem budget : ℕ) → Request
   Assemble : (file : List ℕ) → Request
+  Disassemble : (file : List ℕ) (mem : ℕ) → Request
 
 -- the name of a request's file
 abbrev pub file_of : Request → List ℕ
 file_of (Solo file mem budget) = file
 file_of (Assemble file) = file
+file_of (Disassemble file mem) = file
 
 -- the bytes of memory where none are given
 abbrev pub default_mem : ℕ
@@ -93,11 +95,16 @@ abbrev pub assemble_for : Given → Option Request
 assemble_for given =
     if given.options.flat && is_none given.options.mem && is_none given.options.budget then Some (Assemble given.file) else None
 
+abbrev pub disassemble_for : Given → Option Request
+disassemble_for given =
+    if given.options.flat && is_none given.options.budget then Some (Disassemble given.file (unwrap_or given.options.mem default_mem)) else None
+
 -- what a command asks for with its options and its file
 abbrev pub request_for : List ℕ → Given → Option Request
 request_for command given =
     if bytes_eq command (codes "solo") then solo_for given else
     if bytes_eq command (codes "asm") then assemble_for given else
+    if bytes_eq command (codes "dis") then disassemble_for given else
     None
 
 -- what the words ask for, None where they are refused
@@ -113,8 +120,9 @@ given read = record { options = read.options; file = read.file.now }
 abbrev pub asked : Call → Request
 asked (call.Solo file mem budget) = Solo file.now mem budget
 asked (call.Assemble file) = Assemble file.now
+asked (call.Disassemble file mem) = Disassemble file.now mem
 
 -- a request's budget is in its range
 abbrev pub HasBudget : Call → Type 0
 HasBudget (call.Solo file mem budget) = budget ≤ 1000000000000
-HasBudget (call.Assemble file) = Unit {0}
+HasBudget _ = Unit {0}

@@ -6,6 +6,7 @@ ghost use Rattle.llsc_cli.specs.Answer.{Answers, IsRead};
 ghost use Rattle.llsc_cli.specs.Reads.{Ends};
 
 mod asm;
+mod dis;
 mod solo;
 
 use crate::ended::Ended;
@@ -26,5 +27,6 @@ pub fn answer<H: Host>(alloc: Global, host: &mut H, request: Request<'_>) -> End
     match request {
         Request::Solo { file, mem, budget } => solo::answer(alloc, host, file, mem, budget),
         Request::Assemble { file } => asm::answer(alloc, host, file),
+        Request::Disassemble { file, mem } => dis::answer(alloc, host, file, mem),
     }
 }

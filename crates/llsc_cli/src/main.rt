@@ -8,6 +8,7 @@ mod files;
 mod host;
 mod laws;
 mod memory_host;
+mod pages;
 mod real_host;
 mod report;
 mod threads;

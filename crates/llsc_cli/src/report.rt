@@ -1,7 +1,8 @@
 //! The report of a run: a line of the thread, its output, and a line of its counts.
 ghost use Rattle.std.specs.Prelude.{◌≡◌, ◌<◌, [], ◌∷◌, ◌++◌, codes, IfOk, OnOk, OnErr, string_bytes};
+ghost use Rattle.number_text.specs.Hexadecimal.{hex_digit};
 ghost use Rattle.llsc_cli.specs.Host.{Adds, AddsFront, Rose};
-ghost use Rattle.llsc_cli.specs.Report.{hex_digit, head_line, last_line, report_of};
+ghost use Rattle.llsc_cli.specs.Report.{head_line, last_line, report_of};
 ghost use Rattle.llsc_cli.specs.ReportText.{text_of};
 
 use crate::host::{Failed, Host};
@@ -43,11 +44,11 @@ struct Half(u16);
 
 impl fmt::Display for Half {
     ghost use Rattle.std.specs.Prelude.{Some};
-    ghost use Rattle.llsc_cli.specs.Report.{half_text};
+    ghost use Rattle.number_text.specs.Hexadecimal.{half_text};
 
     ghost output = { λ h. Some (half_text h.0) };
 
-    #[tactic(auto, unfolding(crate::specs::Report::half_text))]
+    #[tactic(auto, unfolding(number_text::specs::Hexadecimal::half_text))]
     fn fmt<W: fmt::Write>(&self, f: &mut fmt::Formatter<W>) -> fmt::Result {
         let n = u32::from(self.0);
         f.write_str(digit(n / 4096))?;
@@ -63,11 +64,11 @@ struct Address(u32);
 
 impl fmt::Display for Address {
     ghost use Rattle.std.specs.Prelude.{Some};
-    ghost use Rattle.llsc_cli.specs.Report.{address_text};
+    ghost use Rattle.number_text.specs.Hexadecimal.{word_text};
 
-    ghost output = { λ a. Some (address_text a.0) };
+    ghost output = { λ a. Some (word_text a.0) };
 
-    #[tactic(auto, unfolding(crate::specs::Report::address_text))]
+    #[tactic(auto, unfolding(number_text::specs::Hexadecimal::word_text))]
     fn fmt<W: fmt::Write>(&self, f: &mut fmt::Formatter<W>) -> fmt::Result {
         let high = Half((self.0 / 65_536) as u16);
         let low = Half((self.0 % 65_536) as u16);

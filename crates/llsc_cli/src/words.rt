@@ -1,7 +1,7 @@
 //! The words of a call, and what they ask for.
 ghost use Rattle.std.specs.Prelude.{◌≡◌, ◌≤◌, ◌<◌, length, map, string_bytes, Some, None, IfSome};
 ghost use Rattle.std.specs.Option.{option_map};
-ghost use Rattle.llsc_cli.specs.Request.{asked, assemble_for, given, given_of, is_budget, request_for, request_of, solo_for, text_at, with_file, with_flat, with_mem, with_budget, with_value, no_options, HasBudget};
+ghost use Rattle.llsc_cli.specs.Request.{asked, assemble_for, disassemble_for, given, given_of, is_budget, request_for, request_of, solo_for, text_at, with_file, with_flat, with_mem, with_budget, with_value, no_options, HasBudget};
 
 use number_text::plain_number;
 
@@ -27,6 +27,11 @@ pub enum Request<'a> {
     /// To assemble the file of that name as a flat image.
     Assemble {
         file: &'a str,
+    },
+    /// To disassemble the file of that name, a flat image, in so many bytes of memory.
+    Disassemble {
+        file: &'a str,
+        mem: u64,
     },
 }
 
@@ -138,6 +143,20 @@ impl<'a> Given<'a> {
         Some(Request::Assemble { file: self.file })
     }
 
+    /// What `dis` asks for: it has `--flat`, and no budget.
+    fn disassemble(self) -> Option<Request<'a>>
+        ensures request { option_map asked result ≡ disassemble_for (given self.entry) }
+        ensures budget { IfSome result HasBudget }
+    {
+        if !self.options.flat || self.options.budget.is_some() {
+            return None;
+        }
+        Some(Request::Disassemble {
+            file: self.file,
+            mem: self.options.mem.unwrap_or(MEM),
+        })
+    }
+
     /// What a command asks for with these.
     fn request(self, command: &str) -> Option<Request<'a>>
         ensures request { option_map asked result ≡ request_for command.now (given self.entry) }
@@ -148,6 +167,9 @@ impl<'a> Given<'a> {
         }
         if command == "asm" {
             return self.assemble();
+        }
+        if command == "dis" {
+            return self.disassemble();
         }
         None
     }

@@ -5,6 +5,7 @@ use std::alloc::AllocError;
 use std::test::Fail;
 
 mod assembles;
+mod disassembles;
 mod prints;
 
 // A program that leaves with code 0 in three steps.

@@ -1,0 +1,20 @@
+use Rattle.std.proofs.Common.{subst}
+use Rattle.llsc_cli.specs.Disassembly.{dis_answer}
+use Rattle.llsc_cli.specs.Reads.{Gives}
+use Rattle.llsc_cli.proofs.Answering.{ends_as, ends_given}
+use Rattle.llsc_cli.proofs.DisAnswers.{dis_refused, dis_shown, dis_done}
+use Rattle.llsc_cli.proofs.commands.dis.answer.Goals as goal
+
+pub returns-in-Ok-clause-ends : goal.returns-in-Ok-clause-ends
+returns-in-Ok-clause-ends g c =
+    let loaded = c.in-Ok.ensures in
+    let gives = rw loaded.silent at c.show.ensures.gives in
+    ends_given (dis_answer c.args.mem) (g.H.Host.file c.args.host.now c.args.file.now) (g.H.Host.written c.args.host.now) (g.H.Host.written c.show.new.host) c.show.result.status
+    loaded.image.0 loaded.image.1.0 (dis_done c.args.mem loaded.image.0)
+    (subst (λ a. Gives a (g.H.Host.written c.args.host.now) (g.H.Host.written c.show.new.host) c.show.result.status)
+    (dis_shown c.args.mem loaded.image.0 c.in-Ok.loaded.image loaded.image.1.1.0 loaded.image.1.1.1) gives)
+
+pub returns-in-Err-clause-ends : goal.returns-in-Err-clause-ends
+returns-in-Err-clause-ends g c =
+    ends_as (g.H.Host.file c.args.host.now c.args.file.now) (g.H.Host.written c.args.host.now) (g.H.Host.written c.load.new.host) c.in-Err.ended.status
+    (dis_refused c.args.mem) (λ failed. failed) c.in-Err.ensures.ends
