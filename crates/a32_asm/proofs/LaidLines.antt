@@ -12,7 +12,7 @@ use Rattle.a32_asm.specs.declared.lines.Line.{Line}
 use Rattle.a32_asm.specs.Lines.{lines_of, label_of, is_ascii, before_comment, head_of, statement_of}
 use Rattle.a32_asm.specs.Layout.{layout_of, Label, place, start, place_in, labels_here, labels_of, labels_from, next_spot, end_from, bytes_of}
 use Rattle.a32_asm.specs.Labels.{place_named, or_place}
-use Rattle.a32_asm.specs.Rest.{lines_left, bytes_left, spot_behind, layout_seen}
+use Rattle.a32_asm.specs.Seen.{lines_left, bytes_left, spot_behind, layout_seen}
 
 -- ---- the first label of a name
 

@@ -3,5 +3,5 @@ pub mod Layout
 pub mod Statements
 pub mod Assembled
 pub mod Shown
-pub mod Rest
+pub mod Seen
 pub mod Labels

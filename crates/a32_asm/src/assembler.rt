@@ -1,7 +1,7 @@
 ghost use Rattle.std.specs.Prelude.{◌≡◌, ◌⊎◌, Ok, Err, IfOk, IfErr};
 ghost use Rattle.a32_asm.specs.Assembled.{first, unit_from, unit_of};
 ghost use Rattle.a32_asm.specs.Lines.{lines_of};
-ghost use Rattle.a32_asm.specs.Rest.{bytes_left, layout_seen};
+ghost use Rattle.a32_asm.specs.Seen.{bytes_left, layout_seen};
 
 use crate::drafts::Draft;
 use crate::layout::{START, TextLayout, lay_out, next_spot};

@@ -1,7 +1,7 @@
 //! A program while its text is read.
 ghost use Rattle.std.specs.Prelude.{◌≡◌, ◌++◌, [], OnOk};
 ghost use Rattle.a32_asm.specs.Statements.{bytes_of_word};
-ghost use Rattle.a32_asm.specs.Rest.{added_piece};
+ghost use Rattle.a32_asm.specs.Seen.{added_piece};
 
 use crate::pieces::Added;
 use elf32::{Bytes, Unit, Words};

@@ -4,7 +4,7 @@ ghost use Rattle.a32_forms.specs.Text.{parts};
 ghost use Rattle.a32_forms.specs.Forms.{chosen};
 ghost use Rattle.a32_asm.specs.Lines.{lines_of};
 ghost use Rattle.a32_asm.specs.Layout.{may_stand, space_of, behind, address_at, address_of, layout_of};
-ghost use Rattle.a32_asm.specs.Rest.{spot_behind, layout_seen, lines_left};
+ghost use Rattle.a32_asm.specs.Seen.{spot_behind, layout_seen, lines_left};
 
 use crate::heads::Head;
 use crate::labels::{LabelMap, Place};
@@ -109,7 +109,7 @@ impl TextLayout {
     }
 
     /// The address of a label.
-    pub fn find(&self, name: &[u8]) -> Option<u32>
+    pub fn label_address(&self, name: &[u8]) -> Option<u32>
         ensures { result ≡ address_of (layout_seen self.now) name.now }
     {
         let place = self.labels.place(name)?;

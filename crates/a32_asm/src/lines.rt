@@ -3,7 +3,7 @@ ghost use Rattle.std.specs.Prelude.{◌≡◌, ◌≤◌, ◌+◌, ◌∷◌, []
 ghost use Rattle.std.specs.Option.{option_map};
 ghost use Rattle.a32_asm.specs.Lines.{lines_of, before_comment, is_ascii, begins_with, has_label, front_of, label_of, statement_of, directive, head_of, operands_of};
 ghost use Rattle.a32_asm.specs.Layout.{bytes_of};
-ghost use Rattle.a32_asm.specs.Rest.{lines_left, bytes_left, size_left};
+ghost use Rattle.a32_asm.specs.Seen.{lines_left, bytes_left, size_left};
 
 use crate::heads::Head;
 use a32_forms::{after_blanks, after_word, before_code, from_code, front_word, is_name};

@@ -9,7 +9,7 @@ ghost use Rattle.a32_asm.specs.Assembled.{site_of};
 ghost use Rattle.a32_asm.specs.Layout.{address_of};
 ghost use Rattle.a32_asm.specs.Lines.{operands_of};
 ghost use Rattle.a32_forms.specs.Text.{front_word};
-ghost use Rattle.a32_asm.specs.Rest.{layout_seen, added_piece, piece_seen};
+ghost use Rattle.a32_asm.specs.Seen.{layout_seen, added_piece, piece_seen};
 
 use crate::heads::Head;
 use crate::layout::{Spot, TextLayout};
@@ -35,7 +35,7 @@ impl Labels for TextLayout {
     ghost addresses = { λ layout. address_of (layout_seen layout) };
 
     fn address(&self, name: &[u8]) -> Option<u32> {
-        self.find(name)
+        self.label_address(name)
     }
 }
 

@@ -1,4 +1,4 @@
--- What is left of a text that is read line by line.
+-- What the values of the code stand for: what is left of a text that is read line by line, a layout, and what a line adds.
 use Rattle.std.specs.Prelude.{ℕ, ◌+◌, ◌&&◌, if◌then◌else◌, length, List, [], ◌∷◌, Option, Some, None, Result, Ok, Err}
 use Rattle.std.specs.Borrow.{Bor}
 use Rattle.a32_asm.specs.declared.layout.Spot.{Spot}
