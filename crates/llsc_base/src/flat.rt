@@ -73,7 +73,7 @@ impl Image {
         let Ok(spans) = vec![in alloc; span] else {
             return Err(FlatFault::Memory);
         };
-        Ok(Image::new(memory, spans, FLAT_START))
+        Ok(Image::of(memory, spans, FLAT_START))
     }
 }
 

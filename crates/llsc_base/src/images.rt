@@ -35,8 +35,12 @@ impl Model for Image {
 }
 
 impl Image {
-    /// The image of these bytes, segments and first instruction.
-    pub fn new(bytes: Vec<u8>, spans: Vec<Span>, entry: u32) -> Image
+    /// The image of exactly these parts: memory at the start, the segments that lie in it, and the address
+    /// of the first instruction.
+    ///
+    /// The spans are disjoint and not empty, each lies within the bytes, none both runs and is written, and
+    /// the entry is a multiple of 4. Memory is at most that of the greatest machine, 16,777,216 bytes.
+    pub fn of(bytes: Vec<u8>, spans: Vec<Span>, entry: u32) -> Image
         requires { IsProgram (program_of bytes.items spans.items entry) }
         ensures { result ≡ program_of bytes.items spans.items entry }
     {
