@@ -4,3 +4,4 @@ pub mod Decimals
 pub mod Lengths
 pub mod Values
 pub mod PlainTexts
+pub mod HexTexts

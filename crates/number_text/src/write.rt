@@ -1,7 +1,7 @@
 //! Numbers and texts at the end of a line.
 ghost use Rattle.std.specs.Prelude.{◌≡◌, ◌+◌, ◌<◌, ◌≤◌, ◌++◌, length};
 ghost use Rattle.std.specs.Fmt.{decimal};
-ghost use Rattle.number_text.specs.Hexadecimal.{hex_digit, half_text, word_text};
+ghost use Rattle.number_text.specs.Hexadecimal.{hex_digit, half_text, long_text, word_text};
 
 use llsc_base::Line;
 
@@ -62,6 +62,16 @@ pub fn write_word(line: &mut Line, word: u32)
 {
     write_half(line, word / 65536);
     write_half(line, word % 65536);
+}
+
+/// Adds a number of 64 bits at the end of a line, in sixteen hexadecimal digits.
+#[tactic(auto, using(crate::proofs::Lengths::word_length), unfolding(crate::specs::Hexadecimal::long_text))]
+pub fn write_long(line: &mut Line, long: u64)
+    requires room { length line.old + 16 ≤ 96 }
+    ensures { line.new ≡ line.old ++ long_text long }
+{
+    write_word(line, (long >> 32) as u32);
+    write_word(line, (long % (1 << 32)) as u32);
 }
 
 #[cfg(test)]

@@ -1,0 +1,29 @@
+//! What is read, and written again.
+use crate::hexadecimal::{long_number, word_number};
+use crate::write::write_long;
+use llsc_base::Line;
+
+#[test]
+fn reads_words(rt: HostRuntime) {
+    let cases = [
+        ("00c0ffee", Some(0x00c0_ffee)),
+        ("ffffffff", Some(0xffff_ffff)),
+        ("00C0ffee", None),
+        ("0c0ffee", None),
+        ("000c0ffee", None),
+        ("00c0ffeg", None),
+    ];
+    for (text, number) in cases {
+        assert_eq!(rt; word_number(text.as_bytes()), number, "{text}");
+    }
+}
+
+#[test]
+fn reads_longs(rt: HostRuntime) {
+    let text = "0123456789abcdef";
+    assert_eq!(rt; long_number(text.as_bytes()), Some(0x0123_4567_89ab_cdef));
+    assert_eq!(rt; long_number(b"00c0ffee"), None);
+    let mut line = Line::new();
+    write_long(&mut line, 0x0123_4567_89ab_cdef);
+    assert_eq!(rt; line.bytes(), text.as_bytes());
+}
