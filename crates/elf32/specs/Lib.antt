@@ -1,0 +1,5 @@
+pub mod Faults
+pub mod Headers
+pub mod Image
+pub mod Units
+pub mod Written

@@ -1,0 +1,9 @@
+pub mod Accepted
+pub mod Cells
+pub mod Loadable
+pub mod Pushed
+pub mod Sound
+pub mod Stored
+pub mod WrittenFaults
+pub mod WrittenHeaders
+pub mod WrittenImage
