@@ -1,13 +1,14 @@
 -- A program that is made line by line.
 use Rattle.std.proofs.Common.{◌≡◌, ◌≤◌, ◌+◌, ◌-◌, ℕ, Bool, true, false, ◌&&◌, if◌then◌else◌, List, [], ◌∷◌, ◌++◌, length, Option, Some, None, Result, Ok, Err, Bor, refl, sym, ap, ◌∙◌, subst, arith, append_assoc, append-nil}
 use Rattle.elf32.specs.declared.units.Unit.{Unit}
+use Rattle.elf32.specs.Units.{most_words, most_data}
 use Rattle.a32_syntax.specs.declared.kinds.AsmKind.{AsmKind}
 use Rattle.a32_asm.specs.declared.assembler.AsmFault.{AsmFault}
 use Rattle.a32_asm.specs.declared.layout.Spot.{Spot}
 use Rattle.a32_asm.specs.Lines.{lines_of, label_of, is_ascii, before_comment, head_of, statement_of}
 use Rattle.a32_asm.specs.Layout.{Layout, next_spot, bytes_of, may_stand}
 use Rattle.a32_asm.specs.Statements.{Piece, piece_of, line_piece}
-use Rattle.a32_asm.specs.Assembled.{Before, first, site_of, is_known, is_too_long, first_fault, behind_line, outcome, added, followed, unit_from, most_words, most_data, most_text}
+use Rattle.a32_asm.specs.Assembled.{Before, first, site_of, is_known, is_too_long, first_fault, behind_line, outcome, added, followed, unit_from, most_text}
 use Rattle.a32_asm.specs.Seen.{lines_left, bytes_left, spot_behind, piece_seen}
 use Rattle.a32_asm.specs.declared.lines.Line.{Line}
 use Rattle.a32_asm.specs.declared.pieces.Added.{Added}
@@ -52,12 +53,12 @@ pub record GoesOnAt (layout : Layout) (text words bytes : List ℕ) (spot : Spot
 abbrev pub GoesOn : Layout → List ℕ → List ℕ → List ℕ → Spot → ℕ → Option (Bor (List ℕ)) → Type 0
 GoesOn layout text words bytes spot number left = GoesOnAt layout text words bytes spot number (bytes_left left) (lines_left left)
 
-unit_line : (layout : Layout) (before : Before) (line : List ℕ) (lines : List (List ℕ))
+pub unit_line : (layout : Layout) (before : Before) (line : List ℕ) (lines : List (List ℕ))
     → unit_from layout before (line ∷ lines) ≡ followed before.number (outcome layout before line lines) (unit_from layout (behind_line before line lines) lines)
 unfolding unit_from
 unit_line layout before line lines = refl
 
-unit_none : (layout : Layout) (before : Before) → unit_from layout before [] ≡ Ok (record { words = []; bytes = []; space = before.spot.space })
+pub unit_none : (layout : Layout) (before : Before) → unit_from layout before [] ≡ Ok (record { words = []; bytes = []; space = before.spot.space })
 unfolding unit_from
 unit_none layout before = refl
 
@@ -110,7 +111,7 @@ fault_is layout text words bytes spot number left after rest line fault is going
 
 -- ---- the next line
 
-not_long : (repeated long : Bool) (found : Piece) (adds : Result Piece AsmKind) → Ok found ≡ first_fault repeated long adds → long ≡ false
+pub not_long : (repeated long : Bool) (found : Piece) (adds : Result Piece AsmKind) → Ok found ≡ first_fault repeated long adds → long ≡ false
 not_long true false found (Ok piece) h = refl
 not_long false false found (Ok piece) h = refl
 not_long true true found (Ok piece) h = cc
@@ -120,7 +121,7 @@ not_long true true found (Err kind.Range) h = cc
 not_long false true found (Err kind.Range) h = cc
 not_long repeated true found (Err fault) h = cc
 
-limits : (spot : Spot) (read : ℕ) → is_too_long spot read ≡ false → (spot.words ≤ most_words) × (spot.bytes + spot.space ≤ most_data) × (read ≤ most_text)
+pub limits : (spot : Spot) (read : ℕ) → is_too_long spot read ≡ false → (spot.words ≤ most_words) × (spot.bytes + spot.space ≤ most_data) × (read ≤ most_text)
 limits spot read h = grind (arith, h)
 
 counts : (number read left most : ℕ) (line : List ℕ) (lines : List (List ℕ)) → number ≤ read + 1 → number + 1 ≤ read + bytes_of line lines + (1 + slack lines)

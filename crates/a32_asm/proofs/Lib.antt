@@ -3,3 +3,4 @@ pub mod LabelMaps
 pub mod LaidLines
 pub mod AddedLines
 pub mod ShownLines
+pub mod UnitLimits

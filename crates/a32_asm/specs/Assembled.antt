@@ -2,25 +2,19 @@
 use Rattle.std.specs.Prelude.{ℕ, ◌+◌, ◌*◌, ◌||◌, nat_lt, if◌then◌else◌, Bool, false, List, [], ◌∷◌, ◌++◌, Option, Some, None, Result, Ok, Err}
 use Rattle.a32_asm.specs.declared.labels.Place.{Place}
 use Rattle.elf32.specs.declared.units.Unit.{Unit}
+use Rattle.elf32.specs.Units.{code_start, most_words, most_data}
 use Rattle.a32_syntax.specs.declared.kinds.AsmKind.{AsmKind}
 use Rattle.a32_syntax.specs.declared.kinds.AsmKind.TheVariants as kind
 use Rattle.a32_syntax.specs.Meaning.{Site}
 use Rattle.a32_asm.specs.declared.assembler.AsmFault.{AsmFault}
 use Rattle.a32_asm.specs.Lines.{lines_of, label_of}
 use Rattle.a32_asm.specs.declared.layout.Spot.{Spot}
-use Rattle.a32_asm.specs.Layout.{Layout, start, next_spot, bytes_of, address_of, layout_of, code_start}
+use Rattle.a32_asm.specs.Layout.{Layout, start, next_spot, bytes_of, address_of, layout_of}
 use Rattle.a32_asm.specs.Statements.{Piece, line_piece}
 
--- The limits of a text.
-
+-- the most bytes of a text
 abbrev pub most_text : ℕ
 most_text = 4194304
-
-abbrev pub most_words : ℕ
-most_words = 65536
-
-abbrev pub most_data : ℕ
-most_data = 1048576
 
 -- What stands before a line: its spot, its number, and the bytes of text before it.
 pub record Before : Type 0 where

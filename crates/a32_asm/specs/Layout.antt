@@ -1,8 +1,9 @@
 -- Where each line of a text stands, and the addresses of its labels.
-use Rattle.std.specs.Prelude.{ℕ, ◌+◌, ◌*◌, ◌/◌, ◌%◌, ◌^◌, ◌&&◌, not, if◌then◌else◌, Bool, true, false, List, [], ◌∷◌, ◌++◌, length, Option, Some, None, codes}
+use Rattle.std.specs.Prelude.{ℕ, ◌+◌, ◌*◌, ◌%◌, ◌^◌, ◌&&◌, not, if◌then◌else◌, Bool, true, false, List, [], ◌∷◌, ◌++◌, length, Option, Some, None, codes}
 use Rattle.std.specs.List.{find}
 use Rattle.std.specs.Option.{option_map}
 use Rattle.std.specs.Str.{bytes_eq}
+use Rattle.elf32.specs.Units.{code_start, data_start}
 use Rattle.a32_forms.specs.Text.{parts}
 use Rattle.a32_forms.specs.Forms.{Chosen, chosen, number_at}
 use Rattle.a32_asm.specs.declared.layout.Spot.{Spot}
@@ -87,13 +88,6 @@ labels_from spot read (line ∷ lines) =
 unfoldable pub end_from : Spot → List (List ℕ) → Spot
 end_from spot [] = spot
 end_from spot (line ∷ lines) = end_from (next_spot spot line) lines
-
--- the code begins at 0x1000, and the data at the least multiple of 4096 behind so many words of code
-abbrev pub code_start : ℕ
-code_start = 0x1000
-
-abbrev pub data_start : ℕ → ℕ
-data_start words = (code_start + 4 * words + 4095) / 4096 * 4096
 
 -- the place of the first label of a name
 abbrev pub place_in : List Label → List ℕ → Option Place

@@ -1,4 +1,5 @@
 ghost use Rattle.std.specs.Prelude.{◌≡◌, ◌⊎◌, Ok, Err, IfOk, IfErr};
+ghost use Rattle.elf32.specs.Units.{IsWithin};
 ghost use Rattle.a32_asm.specs.Assembled.{first, unit_from, unit_of};
 ghost use Rattle.a32_asm.specs.Lines.{lines_of};
 ghost use Rattle.a32_asm.specs.Seen.{bytes_left, layout_seen};
@@ -65,9 +66,13 @@ fn length_of(left: Option<&[u8]>) -> usize
 }
 
 /// The program of a text, or its first fault. Want of memory is the one answer that the text doesn't fix.
+///
+/// The program has at most 65,536 words of code and at most 1,048,576 bytes of data and space together, so that
+/// [`elf32::write`] takes it.
 pub fn assemble(alloc: Global, text: &str) -> Result<Unit, AsmFault>
     ensures unit { IfOk result (λ unit. unit_of text.now ≡ Ok unit) }
     ensures fault { IfErr result (λ fault. (fault ≡ record { line = 0; kind = AsmKind.Memory }) ⊎ (unit_of text.now ≡ Err fault)) }
+    ensures within { IfOk result IsWithin }
 {
     let text = text.as_bytes();
     let Ok(layout) = lay_out(alloc, text) else {
