@@ -27,11 +27,11 @@ pub record Spot : Type 0 where
   pub output : List ℕ
 
 -- a run at its start
-abbrev begun : Machine → Spot
+abbrev pub begun : Machine → Spot
 begun start = record { machine = start; steps = 0; pairs = []; output = [] }
 
 -- after an access, where it is replied to
-abbrev replied : Program → Spot → Ask → Option ℕ → Spot
+abbrev pub replied : Program → Spot → Ask → Option ℕ → Spot
 replied program spot ask (Some reply) = record { machine = given (after_next program spot.machine) reply; steps = spot.steps; pairs = spot.pairs ++ (ask, reply) ∷ []; output = spot.output }
 replied program spot ask None = spot
 
@@ -64,7 +64,7 @@ answered_so replies program spot (answers answer) =
 answered_so replies program spot (writes_bytes from count) = printed program spot from count (bytes_by replies spot.pairs from count)
 
 -- after an effect
-abbrev moved : Replies → Program → Spot → Effect → Spot
+abbrev pub moved : Replies → Program → Spot → Effect → Spot
 moved replies program spot (asks ask) = replied program spot ask (replies spot.pairs ask)
 moved replies program spot (calls call) = answered_so replies program spot (effect_of_call program call (length spot.output))
 moved replies program spot (completes state) =
@@ -72,11 +72,11 @@ moved replies program spot (completes state) =
 moved replies program spot (stops stop) = spot
 
 -- one turn of a run: where the run is over, or nothing is replied, it stays where it is
-turn : Replies → Program → ℕ → Spot → Spot
+pub turn : Replies → Program → ℕ → Spot → Spot
 turn replies program budget spot = if nat_lt spot.steps budget then moved replies program spot (next_effect program spot.machine) else spot
 
 -- so many turns
-turns : Replies → Program → ℕ → ℕ → Spot → Spot
+pub turns : Replies → Program → ℕ → ℕ → Spot → Spot
 turns replies program budget zero spot = spot
 turns replies program budget (suc count) spot = turns replies program budget count (turn replies program budget spot)
 
@@ -113,6 +113,18 @@ one_rest replies program budget (suc count) zero spot stays rests = turns_stay r
 one_rest replies program budget (suc count) (suc other) spot stays rests =
     one_rest replies program budget count other (turn replies program budget spot) stays rests
 
+-- two places where a run comes to and stays are the same
+pub one_place : (replies : Replies) (program : Program) (budget count other : ℕ) (start : Machine) (spot place : Spot)
+    → turns replies program budget count (begun start) ≡ spot → turn replies program budget spot ≡ spot
+    → turns replies program budget other (begun start) ≡ place → turn replies program budget place ≡ place
+    → spot ≡ place
+one_place replies program budget count other start spot place comes stays arrives rests =
+    sym comes
+    ∙ one_rest replies program budget count other (begun start)
+    (ap (turn replies program budget) comes ∙ stays ∙ sym comes)
+    (ap (turn replies program budget) arrives ∙ rests ∙ sym arrives)
+    ∙ arrives
+
 -- ---- one turn
 
 -- a turn where the steps aren't used up
@@ -123,14 +135,14 @@ turn_below replies program budget spot less =
     ap (λ b. if b then moved replies program spot (next_effect program spot.machine) else spot) (lt-ltb spot.steps budget less)
 
 -- a turn where they are
-turn_spent : (replies : Replies) (program : Program) (budget : ℕ) (spot : Spot)
+pub turn_spent : (replies : Replies) (program : Program) (budget : ℕ) (spot : Spot)
     → budget ≤ spot.steps → turn replies program budget spot ≡ spot
 unfolding turn
 turn_spent replies program budget spot spent =
     ap (λ b. if b then moved replies program spot (next_effect program spot.machine) else spot) (le-ltb spot.steps budget spent)
 
 -- a turn whose effect is known
-turn_by : (replies : Replies) (program : Program) (budget : ℕ) (spot : Spot) (effect : Effect)
+pub turn_by : (replies : Replies) (program : Program) (budget : ℕ) (spot : Spot) (effect : Effect)
     → spot.steps < budget → next_effect program spot.machine ≡ effect → turn replies program budget spot ≡ moved replies program spot effect
 turn_by replies program budget spot effect less known =
     turn_below replies program budget spot less ∙ ap (moved replies program spot) known
@@ -138,7 +150,7 @@ turn_by replies program budget spot effect less known =
 -- ---- a run is so many turns
 
 -- the replies of the beginning of a run are decided too
-decided_front : (replies : Replies) (pairs more : List Pair) → AreDecided replies (pairs ++ more) → AreDecided replies pairs
+pub decided_front : (replies : Replies) (pairs more : List Pair) → AreDecided replies (pairs ++ more) → AreDecided replies pairs
 decided_front replies pairs more decided front back ask reply parts =
     decided front (back ++ more) ask reply (ap (λ l. l ++ more) parts ∙ append_assoc front ((ask, reply) ∷ back) more)
 
@@ -160,7 +172,7 @@ one_more replies program budget count start from to came goes =
     turns_last replies program budget count (begun start) ∙ ap (turn replies program budget) came ∙ goes
 
 -- what a run reaches is where so many turns lead
-came : (replies : Replies) (program : Program) (budget : ℕ) (start : Machine) (pairs : List Pair) (machine : Machine) (steps : ℕ) (output : List ℕ)
+pub came : (replies : Replies) (program : Program) (budget : ℕ) (start : Machine) (pairs : List Pair) (machine : Machine) (steps : ℕ) (output : List ℕ)
     → Reaches program budget start pairs machine steps output → AreDecided replies pairs
     → (count : ℕ) × (turns replies program budget count (begun start) ≡ record { machine = machine; steps = steps; pairs = pairs; output = output })
 came replies program budget start _ _ _ _ begins decided = (zero, turns_none replies program budget (begun start))
@@ -280,11 +292,7 @@ same_rest : (replies : Replies) (program : Program) (budget : ℕ) (start : Mach
     → (one : IsOver replies program budget start pairs stop steps output) → (two : IsOver replies program budget start others other count text)
     → one.spot ≡ two.spot
 same_rest replies program budget start pairs others stop other steps count output text one two =
-    sym one.arrives
-    ∙ one_rest replies program budget one.count two.count (begun start)
-    (ap (turn replies program budget) one.arrives ∙ one.stays ∙ sym one.arrives)
-    (ap (turn replies program budget) two.arrives ∙ two.stays ∙ sym two.arrives)
-    ∙ two.arrives
+    one_place replies program budget one.count two.count start one.spot two.spot one.arrives one.stays two.arrives two.stays
 
 -- of two runs whose replies are decided alike, the accesses and replies, the stop, the steps and the output are the same
 pub one_end : (replies : Replies) (program : Program) (budget : ℕ) (start : Machine) (pairs others : List Pair) (stop other : Stop) (steps count : ℕ) (output text : List ℕ)

@@ -8,7 +8,7 @@ use Rattle.guest_calls.specs.Run.{Pair, Ends}
 use Rattle.guest_calls.proofs.Decided.{AreDecided, one_end}
 
 -- the reply that a list has after so long a beginning
-abbrev reply_after : List Pair → List Pair → Option ℕ
+abbrev pub reply_after : List Pair → List Pair → Option ℕ
 reply_after [] front = None
 reply_after (pair ∷ pairs) [] = Some pair.1
 reply_after (pair ∷ pairs) (first ∷ front) = reply_after pairs front
@@ -19,8 +19,13 @@ reply_found [] back ask reply = refl
 reply_found (pair ∷ front) back ask reply = reply_found front back ask reply
 
 -- a list decides its own replies
-list_decides : (pairs : List Pair) → AreDecided (λ front ask. reply_after pairs front) pairs
+pub list_decides : (pairs : List Pair) → AreDecided (λ front ask. reply_after pairs front) pairs
 list_decides pairs front back ask reply parts = ap (λ l. reply_after l front) parts ∙ reply_found front back ask reply
+
+-- a list replies nothing after the whole of it
+pub list_ends : (pairs : List Pair) → reply_after pairs pairs ≡ None
+list_ends [] = refl
+list_ends (pair ∷ pairs) = list_ends pairs
 
 -- two ends of one list are the same
 pub one_end_of_list : (program : Program) (budget : ℕ) (start : Machine) (pairs : List Pair) (stop other : Stop) (steps count : ℕ) (output text : List ℕ)

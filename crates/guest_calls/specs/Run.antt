@@ -78,3 +78,19 @@ pub data Ends (program : Program) (budget : ℕ) (start : Machine) : List Pair �
   spends : (pairs : List Pair) (machine : Machine) (output : List ℕ)
       → Reaches program budget start pairs machine budget output
       → Ends program budget start pairs Budget budget output
+
+-- What a thread asks next, with these accesses and replies behind it: what the instruction in hand asks, or the load of
+-- the next byte of a write.
+pub data Asks (program : Program) (budget : ℕ) (start : Machine) : List Pair → Ask → Type 0 where
+  asks_access : (pairs : List Pair) (machine : Machine) (steps : ℕ) (output : List ℕ) (ask : Ask)
+      → Reaches program budget start pairs machine steps output
+      → steps < budget
+      → next_effect program machine ≡ asks ask
+      → Asks program budget start pairs ask
+  asks_byte : (pairs : List Pair) (machine : Machine) (steps : ℕ) (output : List ℕ) (call : CallAsk) (from count : ℕ) (bytes : List ℕ)
+      → Reaches program budget start pairs machine steps output
+      → steps < budget
+      → next_effect program machine ≡ calls call
+      → effect_of_call program call (length output) ≡ writes_bytes from count
+      → length bytes < count
+      → Asks program budget start (pairs ++ byte_loads from bytes) (byte_load (from + length bytes))

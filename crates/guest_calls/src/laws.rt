@@ -1,9 +1,10 @@
-//! The law of runs, a function of no effect whose contract is the law.
+//! The laws of runs, each a function of no effect whose contract is the law.
 ghost use Rattle.std.specs.Prelude.{◌≡◌, ℕ, List};
 ghost use Rattle.llsc_base.specs.Images.{Program};
+ghost use Rattle.a32_instr.specs.declared.outside.Ask.{Ask};
 ghost use Rattle.a32_instr.specs.declared.outside.Stop.{Stop};
 ghost use Rattle.a32_step.specs.Machine.{Machine};
-ghost use Rattle.guest_calls.specs.Run.{Pair, Ends};
+ghost use Rattle.guest_calls.specs.Run.{Pair, Ends, Asks};
 
 /// A guest thread that starts so, with this budget and these accesses and replies, has one end at most: its stop, its
 /// steps and its output.
@@ -11,4 +12,18 @@ pub fn runs_have_one_end()
     ensures { (program : Program) (budget : ℕ) (start : Machine) (pairs : List Pair) (stop other : Stop) (steps count : ℕ) (output text : List ℕ) →
         Ends program budget start pairs stop steps output → Ends program budget start pairs other count text →
         (stop ≡ other) × (steps ≡ count) × (output ≡ text) }
+{}
+
+/// A guest thread that starts so, with this budget and these accesses and replies, asks one access next at most.
+#[tactic(auto, using(crate::proofs::Asked::one_ask))]
+pub fn runs_ask_one_access()
+    ensures { (program : Program) (budget : ℕ) (start : Machine) (pairs : List Pair) (ask other : Ask) →
+        Asks program budget start pairs ask → Asks program budget start pairs other → ask ≡ other }
+{}
+
+/// A guest thread that asks an access next hasn't ended with the same accesses and replies.
+#[tactic(auto, using(crate::proofs::Asked::asks_or_ends))]
+pub fn runs_ask_or_end()
+    ensures { (program : Program) (budget : ℕ) (start : Machine) (pairs : List Pair) (ask : Ask) (stop : Stop) (steps : ℕ) (output : List ℕ) →
+        Asks program budget start pairs ask → Ends program budget start pairs stop steps output → ⊥ }
 {}
