@@ -1,0 +1,41 @@
+-- What a thread keeps by a turn, and how far it comes by a byte.
+use Rattle.std.proofs.Common.{◌≡◌, refl, ap, ◌∙◌, Result, Ok, Err}
+use Rattle.llsc_base.specs.Images.{Program}
+use Rattle.a32_instr.specs.declared.instructions.Instr.{Instr}
+use Rattle.a32_instr.specs.declared.outside.CallAsk.{CallAsk}
+use Rattle.a32_instr.specs.declared.outside.Stop.{Stop}
+use Rattle.a32_instr.specs.State.{Effect, calls, stops}
+use Rattle.a32_step.specs.Phase.{Phase, Between, Inside, Awaiting, Calling, Stopped}
+use Rattle.a32_step.specs.declared.phases.Wanted.TheVariants as wanted
+use Rattle.a32_step.specs.Machine.{Machine, instr_at, begins, moved_on, after_instr, next_in, after_in, next_effect, after_next, wanted_of}
+use Rattle.guest_thread.proofs.Effects.{effect_calls, effect_stops}
+
+-- ---- an instruction that calls or stops keeps its replies
+
+-- one that has this effect
+by_instr : (program : Program) (machine : Machine) (effect : Effect) (instr : Result Instr Stop)
+    → ((known : Instr) → (moved_on known machine effect).replies ≡ machine.replies)
+    → begins program machine.state instr ≡ effect → (after_instr program machine instr).replies ≡ machine.replies
+by_instr program machine effect (Ok instr) keeps is = ap (λ e. (moved_on instr machine e).replies) is ∙ keeps instr
+by_instr program machine effect (Err stop) keeps is = refl
+
+by_phase : (program : Program) (machine : Machine) (effect : Effect) (phase : Phase)
+    → ((known : Instr) → (moved_on known machine effect).replies ≡ machine.replies)
+    → next_in program machine phase ≡ effect → (after_in program machine phase).replies ≡ machine.replies
+by_phase program machine effect Between keeps is = by_instr program machine effect (instr_at program machine.state.pc) keeps is
+by_phase program machine effect (Inside instr) keeps is = ap (λ e. (moved_on instr machine e).replies) is ∙ keeps instr
+by_phase program machine effect (Awaiting instr ask) keeps is = refl
+by_phase program machine effect (Calling call) keeps is = refl
+by_phase program machine effect (Stopped stop) keeps is = refl
+
+pub calling_keeps : (program : Program) (machine moved : Machine) (call : CallAsk) → wanted.Call call ≡ wanted_of (next_effect program machine)
+    → moved ≡ after_next program machine → moved.replies ≡ machine.replies
+calling_keeps program machine moved call wants is =
+    ap (λ (m : Machine). m.replies) is
+    ∙ by_phase program machine (calls call) machine.phase (λ instr. refl) (effect_calls (next_effect program machine) call wants)
+
+pub stopping_keeps : (program : Program) (machine moved : Machine) (stop : Stop) → wanted.Stopped stop ≡ wanted_of (next_effect program machine)
+    → moved ≡ after_next program machine → moved.replies ≡ machine.replies
+stopping_keeps program machine moved stop wants is =
+    ap (λ (m : Machine). m.replies) is
+    ∙ by_phase program machine (stops stop) machine.phase (λ instr. refl) (effect_stops (next_effect program machine) stop wants)

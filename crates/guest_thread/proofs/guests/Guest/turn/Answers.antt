@@ -1,0 +1,48 @@
+use Rattle.std.proofs.Common.{◌+◌, length, ap, ◌∙◌}
+use Rattle.a32_step.specs.Machine.{next_effect, after_next, wanted_of}
+use Rattle.guest_thread.specs.Standing.{Standing}
+use Rattle.guest_thread.proofs.Reached.{after_asking, after_step, after_stop}
+use Rattle.guest_thread.proofs.Calling.{after_call}
+use Rattle.guest_thread.proofs.guests.Guest.turn.Goals as goal
+
+pub returns-in-Access-clause-comes : goal.returns-in-Access-clause-comes
+returns-in-Access-clause-comes c = λ budget start pairs come less.
+    let seen = c.self.view_is in
+    let none = c.requires.at_turn.printing in
+    after_asking c.args.image.now budget start pairs c.in-Access.ask c.args.self.now
+    (record { cpu = c.next.new.self; steps = c.self.inside.steps; output = c.self.inside.output; printing = c.self.inside.printing })
+    come less none (ap (λ (s : Standing). s.printing) seen ∙ none)
+    (c.in-Access.ensures.wanted ∙ ap (λ (s : Standing). wanted_of (next_effect c.args.image.now s.cpu)) seen)
+    (c.next.ensures.state ∙ ap (λ (s : Standing). after_next c.args.image.now s.cpu) seen)
+    (ap (λ (s : Standing). s.steps) seen) (ap (λ (s : Standing). s.output) seen)
+
+pub returns-in-Call-clause-comes : goal.returns-in-Call-clause-comes
+returns-in-Call-clause-comes c = λ budget start pairs come less.
+    let seen = c.self.view_is in
+    let none = c.requires.at_turn.printing in
+    after_call c.args.image.now budget start pairs c.in-Call.call (length c.args.image.now.bytes) c.args.self.now
+    (record { cpu = c.next.new.self; steps = c.self.inside.steps; output = c.self.inside.output; printing = c.self.inside.printing })
+    c.call.new.self c.call.result come less none
+    (c.in-Call.ensures.wanted ∙ ap (λ (s : Standing). wanted_of (next_effect c.args.image.now s.cpu)) seen)
+    (c.next.ensures.state ∙ ap (λ (s : Standing). after_next c.args.image.now s.cpu) seen)
+    (ap (λ (s : Standing). s.steps) seen) (ap (λ (s : Standing). s.output) seen) (ap (λ (s : Standing). s.printing) seen ∙ none) c.call.ensures.made
+
+pub returns-in-Done-clause-comes : goal.returns-in-Done-clause-comes
+returns-in-Done-clause-comes c = λ budget start pairs come less.
+    let seen = c.self.view_is in
+    let none = c.requires.at_turn.printing in
+    after_step c.args.image.now budget start pairs c.args.self.now
+    (record { cpu = c.next.new.self; steps = c.self.inside.steps + 1; output = c.self.inside.output; printing = c.self.inside.printing })
+    come less none (ap (λ (s : Standing). s.printing) seen ∙ none)
+    (c.in-Done.ensures.wanted ∙ ap (λ (s : Standing). wanted_of (next_effect c.args.image.now s.cpu)) seen)
+    (c.next.ensures.state ∙ ap (λ (s : Standing). after_next c.args.image.now s.cpu) seen)
+    (ap (λ (s : Standing). s.steps + 1) seen) (ap (λ (s : Standing). s.output) seen)
+
+pub returns-in-Stopped-clause-comes : goal.returns-in-Stopped-clause-comes
+returns-in-Stopped-clause-comes c = λ budget start pairs come less.
+    let seen = c.self.view_is in
+    after_stop c.args.image.now budget start pairs c.in-Stopped.stop c.args.self.now
+    (record { cpu = c.next.new.self; steps = c.self.inside.steps; output = c.self.inside.output; printing = c.self.inside.printing })
+    come less c.requires.at_turn.printing
+    (c.in-Stopped.ensures.wanted ∙ ap (λ (s : Standing). wanted_of (next_effect c.args.image.now s.cpu)) seen)
+    (ap (λ (s : Standing). s.steps) seen) (ap (λ (s : Standing). s.output) seen)

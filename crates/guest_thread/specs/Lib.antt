@@ -1,0 +1,8 @@
+pub mod Accesses
+pub mod Counts
+pub mod End
+pub mod Progress
+pub mod Standing
+pub mod Start
+pub mod Turns
+pub mod Under

@@ -1,0 +1,209 @@
+//! A thread's turns.
+ghost use Rattle.std.specs.Prelude.{◌≡◌, ◌≤◌, ◌<◌, ◌+◌, ◌^◌, ℕ, List, [], None, ◌∷◌, ◌++◌, length, IfNone, IfSome, MatchOption};
+ghost use Rattle.llsc_base.specs.Images.{Program};
+ghost use Rattle.a32_instr.specs.declared.outside.Ask.{Ask};
+ghost use Rattle.a32_step.specs.Machine.{Machine, IsReady, IsCalling};
+ghost use Rattle.guest_calls.specs.Run.{Pair, byte_load, effect_of_call};
+ghost use Rattle.guest_thread.specs.Progress.{HasKept, HasMoved, IsBounded};
+ghost use Rattle.guest_thread.specs.Standing.{HasLeft, IsReadyIn, IsWaitingIn, IsPendingAfter, MayGive};
+ghost use Rattle.guest_thread.specs.Turns.{AfterCall, IsAtTurn, IsOneStepOn, after_byte};
+ghost use Rattle.guest_thread.specs.Under.{HasCome, Awaits, ComesTo};
+
+use a32_step::{Ask, CallAsk, Cpu, Stop, Wanted};
+use guest_calls::{CallStep, Output, guest_call};
+use llsc_base::{Image, Place, Size};
+use std::marker::Model;
+
+/// A write in the middle of which a thread is: its bytes stand from an address up, and some of them were loaded.
+#[derive(Clone, Copy)]
+pub struct Printing {
+    pub from: u32,
+    pub len: u32,
+    pub loaded: u32,
+}
+
+/// What a thread's turn comes to.
+#[derive(Clone, Copy, Debug, PartialEq, Eq)]
+pub enum Turn {
+    /// It asks for an access, and awaits the reply.
+    Asks(Ask),
+    /// It has ended.
+    Ended(Stop),
+}
+
+/// A guest thread under way: its core, its steps, and its output.
+#[derive(Drop)]
+pub struct Guest {
+    cpu: Cpu,
+    steps: u64,
+    output: Output,
+    printing: Option<Printing>,
+}
+
+impl Model for Guest {
+    ghost use Rattle.guest_thread.specs.Progress.{HasKept, HasMoved, IsBounded};
+    ghost use Rattle.guest_thread.specs.Standing.{Standing};
+
+    ghost Value = { Standing };
+
+    ghost view = { λ g. record { cpu = g.cpu; steps = g.steps; output = g.output; printing = g.printing } };
+}
+
+impl Guest {
+    /// A thread at its start: its core between two instructions, and nothing written.
+    pub fn new(cpu: Cpu, output: Output) -> Guest
+        ensures state { result ≡ record { cpu = cpu; steps = 0; output = output; printing = None } }
+        ensures ready { IsReady cpu.phase → (mem budget : ℕ) → IsReadyIn mem budget result }
+        ensures comes { output ≡ [] → (program : Program) (budget : ℕ) → HasCome program budget cpu [] result }
+    {
+        Guest {
+            cpu,
+            steps: 0,
+            output,
+            printing: None,
+        }
+    }
+
+    /// How many steps the thread has made.
+    pub fn steps(&self) -> u64
+        ensures { result ≡ self.now.steps }
+    {
+        self.steps
+    }
+
+    /// What the thread wrote.
+    pub fn into_output(self) -> Output
+        ensures { result ≡ self.output }
+    {
+        self.output
+    }
+}
+
+impl Guest {
+    /// Goes on until the thread asks for an access or has ended: by a stop, by the exit call, or since it has made
+    /// `budget` steps. The budget is at most 1,000,000,000,000 steps.
+    pub fn next(&mut self, image: &Image, budget: u64) -> Turn
+        requires ready { IsReadyIn (length image.now.bytes) budget self.old }
+        requires budget { budget ≤ 1000000000000 }
+        ensures comes { (start : Machine) (pairs : List Pair) → HasCome image.now budget start pairs self.old
+            → ComesTo image.now budget start pairs result self.new }
+        ensures pending { IsPendingAfter (length image.now.bytes) budget result self.new }
+        ensures within { self.new.steps ≤ budget }
+        ensures kept { IsBounded self.old → HasKept self.old self.new }
+    {
+        if let Some(printing) = self.printing {
+            return Turn::Asks(byte_ask(image, printing));
+        }
+        while self.steps < budget {
+            if let Some(turn) = self.turn(image) {
+                return turn;
+            }
+        }
+        Turn::Ended(Stop::Budget)
+    }
+
+    /// One instruction goes on, or a guest call is made. `None` where it is complete.
+    #[inline]
+    #[tactic(auto, using(crate::proofs::Kept::calling_keeps, crate::proofs::Kept::stopping_keeps))]
+    fn turn(&mut self, image: &Image) -> Option<Turn>
+        requires at_turn { IsAtTurn self.old }
+        requires few { self.old.steps < 1000000000000 }
+        ensures goes_on { IfNone result (IsOneStepOn self.old self.new) }
+        ensures comes { (budget : ℕ) (start : Machine) (pairs : List Pair) → HasCome image.now budget start pairs self.old → self.old.steps < budget
+            → MatchOption result (HasCome image.now budget start pairs self.new) (λ turn. ComesTo image.now budget start pairs turn self.new) }
+        ensures pending { IfSome result (λ turn. (budget : ℕ) → self.old.steps < budget → IsPendingAfter (length image.now.bytes) budget turn self.new) }
+        ensures at_most { self.new.steps ≤ self.old.steps + 1 }
+        ensures kept { IsBounded self.old → HasKept self.old self.new }
+    {
+        match self.cpu.next(image) {
+            Wanted::Access(ask) => Some(Turn::Asks(ask)),
+            Wanted::Call(call) => self.call(image, call),
+            Wanted::Done => {
+                self.steps += 1;
+                None
+            }
+            Wanted::Stopped(stop) => Some(Turn::Ended(stop)),
+        }
+    }
+
+    /// A guest call is made. `None` where it was answered; a write asks for its first byte.
+    fn call(&mut self, image: &Image, call: CallAsk) -> Option<Turn>
+        requires calling { IsCalling self.old.cpu.phase }
+        requires few { self.old.steps < 1000000000000 }
+        ensures made { AfterCall (length image.now.bytes) (effect_of_call image.now call (length self.old.output)) self.old result self.new }
+        ensures at_most { self.new.steps ≤ self.old.steps + 1 }
+        ensures kept { IsBounded self.old → HasKept self.old self.new }
+    {
+        let mem = image.bytes().len() as u32;
+        match guest_call(&mut self.cpu, &call, mem, &mut self.output) {
+            CallStep::Exit(code) => {
+                self.steps += 1;
+                Some(Turn::Ended(Stop::Exit(code)))
+            }
+            CallStep::Answered => {
+                self.steps += 1;
+                None
+            }
+            CallStep::Bytes { from, len } => {
+                let printing = Printing {
+                    from,
+                    len,
+                    loaded: 0,
+                };
+                self.printing = Some(printing);
+                Some(Turn::Asks(byte_ask(image, printing)))
+            }
+        }
+    }
+}
+
+impl Guest {
+    /// The reply to the access that is awaited.
+    #[inline]
+    pub fn give(&mut self, reply: u64)
+        requires { MayGive self.old reply }
+        ensures ready { (mem budget : ℕ) → IsWaitingIn mem budget self.old → IsReadyIn mem budget self.new }
+        ensures comes { (program : Program) (budget : ℕ) (start : Machine) (pairs : List Pair) (ask : Ask) →
+            Awaits program budget start pairs ask self.old → HasCome program budget start (pairs ++ (ask, reply) ∷ []) self.new }
+        ensures moved { IsBounded self.old → HasMoved self.old self.new }
+    {
+        match self.printing {
+            None => self.cpu.give(reply),
+            Some(printing) => self.print(printing, reply as u8),
+        }
+    }
+
+    /// One byte more of a write; with its last one the call is answered by the number of its bytes.
+    fn print(&mut self, printing: Printing, byte: u8)
+        requires left { HasLeft self.old printing }
+        requires few { self.old.steps < 2 ^ 63 }
+        ensures byte { self.new ≡ after_byte self.old printing byte }
+        ensures moved { IsBounded self.old → HasMoved self.old self.new }
+    {
+        self.output.push(byte);
+        let loaded = printing.loaded + 1;
+        if loaded < printing.len {
+            self.printing = Some(Printing { loaded, ..printing });
+            return;
+        }
+        self.printing = None;
+        self.cpu.answer(printing.len);
+        self.steps += 1;
+    }
+}
+
+/// The load of the next byte of a write, whose bytes lie in the image's memory.
+fn byte_ask(image: &Image, printing: Printing) -> Ask
+    requires inside { printing.from + printing.loaded < length image.now.bytes }
+    ensures { result ≡ byte_load (printing.from + printing.loaded) }
+{
+    // memory is small enough that no address in it wraps
+    let _ = image.bytes();
+    Ask::Load(Place {
+        addr: printing.from + printing.loaded,
+        size: Size::B1,
+    })
+}
+
+#[cfg(test)]
+mod tests;
