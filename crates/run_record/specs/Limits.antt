@@ -1,0 +1,50 @@
+-- What a record may hold: limits of this project's own.
+use Rattle.std.specs.Prelude.{◌≡◌, ℕ, ◌^◌, ◌<◌, ◌≤◌, IsTrue, All, length}
+use Rattle.llsc_base.specs.Memory.{is_aligned, size_bytes}
+use Rattle.llsc_base.specs.declared.access.Place.{Place}
+use Rattle.llsc_base.specs.declared.access.Size.TheVariants.{B1}
+use Rattle.history.specs.declared.entry.Access.{Access}
+use Rattle.history.specs.declared.entry.Deed.TheVariants as deed
+use Rattle.run_record.specs.declared.records.RunRecord.{RunRecord}
+
+-- the most threads
+abbrev pub most_threads : ℕ
+most_threads = 16
+
+-- the most instructions of a thread
+abbrev pub most_budget : ℕ
+most_budget = 1000000000000
+
+-- the most accesses
+abbrev pub most_accesses : ℕ
+most_accesses = 1000000
+
+-- the place of a Clear
+abbrev pub nowhere : Place
+nowhere = record { addr = 0; size = B1 }
+
+-- an access as a line says it: its address has 32 bits and is a multiple of its size, its value fits its size, and
+-- a Clear has the place of one byte at address 0 and the value 0
+pub record IsFormed (access : Access) : Type 0 where
+  pub addr : access.place.addr < 2 ^ 32
+  pub aligned : IsTrue (is_aligned access.place)
+  pub fits : access.value < 256 ^ size_bytes access.place.size
+  pub clear : access.deed ≡ deed.Clear → (access.place ≡ nowhere) × (access.value ≡ 0)
+
+-- an access of one of so many threads
+pub record IsAccess (threads : ℕ) (access : Access) : Type 0 where
+  pub thread : access.thread < threads
+  pub formed : IsFormed access
+
+-- a number of threads and a budget that a run may have
+pub record IsRun (threads budget : ℕ) : Type 0 where
+  pub thread : 1 ≤ threads
+  pub few : threads ≤ most_threads
+  pub step : 1 ≤ budget
+  pub bounded : budget ≤ most_budget
+
+-- a record within the limits, each of its accesses one of its threads'
+pub record IsRecord (run : RunRecord) : Type 0 where
+  pub numbers : IsRun run.threads run.budget
+  pub count : length run.accesses ≤ most_accesses
+  pub accesses : All (IsAccess run.threads) run.accesses

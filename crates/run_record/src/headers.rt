@@ -1,0 +1,57 @@
+//! The header line.
+ghost use Rattle.std.specs.Prelude.{◌≡◌};
+ghost use Rattle.run_record.specs.Reading.{header_numbers, header_of, is_run, labelled};
+ghost use Rattle.run_record.specs.Seen.{read_seen};
+
+use crate::fields::{after, number_field};
+
+/// The numbers of a header line: threads, the budget of each, and accesses.
+#[derive(Clone, Copy)]
+pub struct Header {
+    pub threads: u64,
+    pub budget: u64,
+    pub count: u64,
+}
+
+/// The number behind a label.
+fn labelled<'a>(label: &[u8], code: u8, bytes: &'a [u8]) -> Option<(u64, &'a [u8])>
+    ensures { read_seen result ≡ labelled label.now code bytes.now }
+{
+    let rest = after(label, bytes)?;
+    number_field(code, rest)
+}
+
+/// The numbers of the header line that bytes begin with.
+fn header_numbers(bytes: &[u8]) -> Option<(Header, &[u8])>
+    ensures { read_seen result ≡ header_numbers bytes.now }
+{
+    let (threads, rest) = labelled(b"llsc-run 1 threads ", b' ', bytes)?;
+    let (budget, rest) = labelled(b"budget ", b' ', rest)?;
+    let (count, rest) = labelled(b"accesses ", b'\n', rest)?;
+    let header = Header {
+        threads,
+        budget,
+        count,
+    };
+    Some((header, rest))
+}
+
+/// Whether the numbers are those of a run.
+fn is_run(header: Header) -> bool
+    ensures { result ≡ is_run header }
+{
+    (1 <= header.threads && header.threads <= 16)
+        && (1 <= header.budget && header.budget <= 1_000_000_000_000)
+}
+
+/// The header line of a run that bytes begin with, and what stands behind it.
+#[tactic(auto, unfolding(crate::specs::Reading::header_of))]
+pub fn header_of(bytes: &[u8]) -> Option<(Header, &[u8])>
+    ensures { read_seen result ≡ header_of bytes.now }
+{
+    let (header, rest) = header_numbers(bytes)?;
+    if !is_run(header) {
+        return None;
+    }
+    Some((header, rest))
+}

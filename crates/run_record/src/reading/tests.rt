@@ -1,0 +1,199 @@
+//! Texts, with what is read of them: the fault, or the same bytes printed again.
+use super::*;
+use crate::printing::print_record;
+
+const NO_ACCESS: &str = "llsc-run 1 threads 16 budget 1000000000000 accesses 0\n";
+
+// A word loaded, and stored by both threads, of which one fails; and an access of each other kind.
+const RUN: &str = "llsc-run 1 threads 2 budget 10000 accesses 8\n\
+    0 loadex 4 00002000 0000000000000000\n\
+    1 loadex 4 00002000 0000000000000000\n\
+    0 storeex 4 00002000 0000000000000007\n\
+    1 fail 4 00002000 00000000ffffffff\n\
+    1 clear\n\
+    0 store 1 0000ffff 00000000000000ff\n\
+    0 store 8 00ffabc8 fedcba9876543210\n\
+    1 load 2 fffffffe 000000000000ffff\n";
+
+const FAULTS: [(&str, RecordFault); 39] = [
+    ("", RecordFault::Header),
+    (
+        "llsc-run 1 threads 1 budget 1 accesses 0",
+        RecordFault::Header,
+    ),
+    (
+        "llsc-run 2 threads 1 budget 1 accesses 0\n",
+        RecordFault::Header,
+    ),
+    (
+        "llsc-run 1 threads 0 budget 1 accesses 0\n",
+        RecordFault::Header,
+    ),
+    (
+        "llsc-run 1 threads 17 budget 1 accesses 0\n",
+        RecordFault::Header,
+    ),
+    (
+        "llsc-run 1 threads 01 budget 1 accesses 0\n",
+        RecordFault::Header,
+    ),
+    (
+        "llsc-run 1 threads 1 budget 0 accesses 0\n",
+        RecordFault::Header,
+    ),
+    (
+        "llsc-run 1 threads 1 budget 1000000000001 accesses 0\n",
+        RecordFault::Header,
+    ),
+    (
+        "llsc-run 1 threads 1 budget  1 accesses 0\n",
+        RecordFault::Header,
+    ),
+    (
+        "llsc-run 1 threads 1 budget 1 accesses 00\n",
+        RecordFault::Header,
+    ),
+    (
+        "llsc-run 1 threads 17 budget 1 accesses 1000001\n",
+        RecordFault::Header,
+    ),
+    (
+        "llsc-run 1 threads 1 budget 1 accesses 18446744073709551616\n",
+        RecordFault::Header,
+    ),
+    (
+        "llsc-run 1 threads 1 budget 1 accesses 18446744073709551615\n",
+        RecordFault::TooLong,
+    ),
+    (
+        "llsc-run 1 threads 1 budget 1 accesses 1000001\n",
+        RecordFault::TooLong,
+    ),
+    (
+        "llsc-run 1 threads 1 budget 1 accesses 1000000\n",
+        RecordFault::Line(2),
+    ),
+    (
+        "llsc-run 1 threads 1 budget 1 accesses 0\n\n",
+        RecordFault::Line(2),
+    ),
+    (
+        "llsc-run 1 threads 1 budget 1 accesses 1\n0 clear",
+        RecordFault::Line(2),
+    ),
+    (
+        "llsc-run 1 threads 1 budget 1 accesses 1\n0 clear \n",
+        RecordFault::Line(2),
+    ),
+    (
+        "llsc-run 1 threads 1 budget 1 accesses 1\n00 clear\n",
+        RecordFault::Line(2),
+    ),
+    (
+        "llsc-run 1 threads 1 budget 1 accesses 1\n18446744073709551616 clear\n",
+        RecordFault::Line(2),
+    ),
+    (
+        "llsc-run 1 threads 1 budget 1 accesses 1\n18446744073709551615 clear\n",
+        RecordFault::Thread(2),
+    ),
+    (
+        "llsc-run 1 threads 1 budget 1 accesses 1\n1 clear\n",
+        RecordFault::Thread(2),
+    ),
+    (
+        "llsc-run 1 threads 1 budget 1 accesses 1\n4294967296 clear\n",
+        RecordFault::Thread(2),
+    ),
+    (
+        "llsc-run 1 threads 1 budget 1 accesses 1\n0 clear\n0 clear\n",
+        RecordFault::Line(3),
+    ),
+    (
+        "llsc-run 1 threads 1 budget 1 accesses 2\n0 clear\n1 clear\n",
+        RecordFault::Thread(3),
+    ),
+    (
+        "llsc-run 1 threads 1 budget 1 accesses 2\n1 clear\n%",
+        RecordFault::Thread(2),
+    ),
+    (
+        "llsc-run 1 threads 1 budget 1 accesses 3\n0 clear\n0 clear\n",
+        RecordFault::Line(4),
+    ),
+    (
+        "llsc-run 1 threads 1 budget 1 accesses 1\n0 load 3 00000000 0000000000000000\n",
+        RecordFault::Line(2),
+    ),
+    (
+        "llsc-run 1 threads 1 budget 1 accesses 1\n0 Load 4 00000000 0000000000000000\n",
+        RecordFault::Line(2),
+    ),
+    (
+        "llsc-run 1 threads 1 budget 1 accesses 1\n0 load  4 00000000 0000000000000000\n",
+        RecordFault::Line(2),
+    ),
+    (
+        "llsc-run 1 threads 1 budget 1 accesses 1\n0 load 4 0000000 00000000000000000\n",
+        RecordFault::Line(2),
+    ),
+    (
+        "llsc-run 1 threads 1 budget 1 accesses 1\n0 load 4 000000A0 0000000000000000\n",
+        RecordFault::Line(2),
+    ),
+    (
+        "llsc-run 1 threads 1 budget 1 accesses 1\n0 load 4 00000002 0000000000000000\n",
+        RecordFault::Line(2),
+    ),
+    (
+        "llsc-run 1 threads 1 budget 1 accesses 1\n1 load 4 00000002 0000000000000000\n",
+        RecordFault::Line(2),
+    ),
+    (
+        "llsc-run 1 threads 1 budget 1 accesses 1\n0 load 1 00000002 0000000000000100\n",
+        RecordFault::Line(2),
+    ),
+    (
+        "llsc-run 1 threads 1 budget 1 accesses 1\n1 load 1 00000002 0000000000000100\n",
+        RecordFault::Line(2),
+    ),
+    (
+        "llsc-run 1 threads 1 budget 1 accesses 1\n0 load 1 00000002 00000000000000ff \n",
+        RecordFault::Line(2),
+    ),
+    (
+        "llsc-run 1 threads 1 budget 1 accesses 1\r\n0 clear\n",
+        RecordFault::Header,
+    ),
+    (
+        "llsc-run 1 threads 1 budget 1 accesses 1\n0 clear\r\n",
+        RecordFault::Line(2),
+    ),
+];
+
+#[test]
+fn the_first_fault_is_named(rt: HostRuntime) {
+    for (text, fault) in FAULTS {
+        match read_record(rt.alloc(), text.as_bytes()) {
+            Ok(_) => assert!(rt; false, "{text}"),
+            Err(found) => assert_eq!(rt; found, fault, "{text}"),
+        }
+    }
+}
+
+#[test]
+fn records_are_printed_as_they_were_read(rt: HostRuntime) {
+    for (text, count) in [(NO_ACCESS, 0), (RUN, 8)] {
+        match read_record(rt.alloc(), text.as_bytes()) {
+            Ok(run) => {
+                assert_eq!(rt; run.accesses.as_slice().len(), count);
+                match print_record(rt.alloc(), &run) {
+                    Ok(printed) => assert_eq!(rt; printed.as_slice(), text.as_bytes()),
+                    Err(_) => assert!(rt; false),
+                }
+            }
+            Err(_) => assert!(rt; false),
+        }
+    }
+    assert_eq!(rt; RecordFault::Thread(2).name(), "Thread");
+}
