@@ -1,0 +1,10 @@
+pub mod OneTrace
+pub mod Served
+pub mod Counted
+pub mod Pushed
+pub mod Seated
+pub mod Turning
+pub mod Ending
+pub mod OneThread
+pub mod AllEnded
+pub mod FlatImages

@@ -1,0 +1,25 @@
+use Rattle.std.proofs.Common.{◌≡◌, ◌+◌, ◌<◌, ◌≤◌, ◌∷◌, IsSome, length, sym, ◌∙◌, subst, arith}
+use Rattle.guest_machine.specs.Seats.{AreEndsOf, IsEndOf}
+use Rattle.guest_machine.proofs.Ending.{IsTaken, taken, one_more}
+use Rattle.guest_machine.proofs.ends.ends_of.Goals as goal
+
+pub end_of-requires : goal.end_of-requires
+end_of-requires c =
+    let is = taken c.args.seats.items c.loop-seat.seats.items c.pop.new.self.items c.in-Some.seat c.loop-seat.invariant.front c.in-Some.ensures.items in
+    let inside : length c.pop.new.self.items < length c.args.seats.items = omega (arith, is.next, c.loop-seat.invariant.inside) in
+    subst (λ s. IsSome s.stop) (sym is.read) (c.requires.stopped (length c.pop.new.self.items) c.in-Some.seat inside)
+
+pub loop-seat-preserved : goal.loop-seat-preserved
+loop-seat-preserved c =
+    let is = taken c.args.seats.items c.loop-seat.seats.items c.pop.new.self.items c.in-Some.seat c.loop-seat.invariant.front c.in-Some.ensures.items in
+    let inside : length c.pop.new.self.items ≤ length c.args.seats.items = omega (arith, is.next, c.loop-seat.invariant.inside) in
+    let number : c.len-in-Some.result ≡ length c.pop.new.self.items = omega (arith, c.len-in-Some.ensures, c.pop.new.self.ok.0) in
+    let here : IsEndOf c.args.accesses.now (length c.pop.new.self.items) c.in-Some.seat c.end_of.result =
+    subst (λ n. IsEndOf c.args.accesses.now n c.in-Some.seat c.end_of.result) number c.end_of.ensures in
+    record {
+      front = is.front;
+      inside = inside;
+      ends = subst (AreEndsOf c.args.accesses.now (length c.pop.new.self.items) _) (sym c.in_ok-insert.ensures.items)
+          (one_more c.args.accesses.now (length c.loop-seat.seats.items) (length c.pop.new.self.items) c.args.seats.items c.in-Some.seat c.end_of.result c.loop-seat.ends.items
+          is.next c.loop-seat.invariant.inside is.read here c.loop-seat.invariant.ends);
+    }

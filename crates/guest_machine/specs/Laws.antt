@@ -1,0 +1,16 @@
+-- What the laws of traces say of a thread.
+use Rattle.std.specs.Prelude.{ℕ, List}
+use Rattle.llsc_base.specs.Images.{Program}
+use Rattle.llsc_base.specs.Sizes.{Numbers}
+use Rattle.history.specs.declared.entry.Access.{Access}
+use Rattle.a32_instr.specs.declared.outside.Stop.{Stop}
+use Rattle.guest_calls.specs.Run.{Ends}
+use Rattle.guest_thread.specs.Accesses.{pairs_in}
+use Rattle.guest_thread.specs.Start.{thread_start}
+
+-- a thread's accesses among these are those of a run that has ended
+pub record HasEnded (program : Program) (size : Numbers) (budget : ℕ) (accesses : List Access) (t : ℕ) : Type 0 where
+  pub stop : Stop
+  pub steps : ℕ
+  pub output : List ℕ
+  pub ends : Ends program budget (thread_start program size t) (pairs_in t accesses) stop steps output

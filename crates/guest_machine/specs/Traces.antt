@@ -1,0 +1,39 @@
+-- What is given of a trace.
+use Rattle.std.specs.Prelude.{◌≡◌, ℕ, ◌<◌, Some, List, length, slice_get, codes}
+use Rattle.llsc_base.specs.Images.{Program}
+use Rattle.llsc_base.specs.Sizes.{Numbers}
+use Rattle.history.specs.ArmLegal.{IsArmLegal}
+use Rattle.history.specs.Monitor.{at_rest}
+use Rattle.history.specs.declared.entry.Access.{Access}
+use Rattle.guest_thread.specs.Accesses.{history_of}
+use Rattle.guest_thread.specs.End.{IsEndIn}
+use Rattle.guest_thread.specs.Start.{thread_start}
+use Rattle.guest_thread.specs.declared.ends.GuestEnd.{GuestEnd}
+use Rattle.run_record.specs.Limits.{IsRecord}
+use Rattle.run_record.specs.declared.records.RunRecord.{RunRecord}
+use Rattle.guest_machine.specs.Turns.{IsTrace}
+use Rattle.guest_machine.specs.declared.traces.TraceFault.{TraceFault}
+use Rattle.guest_machine.specs.declared.traces.TraceFault.TheVariants as fault
+
+-- the record of a trace: the machine's threads, the budget, and the accesses
+pub record IsTraceRecord (program : Program) (size : Numbers) (seed budget : ℕ) (run : RunRecord) : Type 0 where
+  pub threads : run.threads ≡ size.threads
+  pub steps : run.budget ≡ budget
+  pub trace : IsTrace program size seed budget run.accesses
+  pub sound : IsRecord run
+
+-- the ends of all threads in these accesses, in order of number
+pub record AreEnds (program : Program) (size : Numbers) (budget : ℕ) (accesses : List Access) (all : List GuestEnd) : Type 0 where
+  pub many : length all ≡ size.threads
+  pub numbers : (t : ℕ) (end : GuestEnd) → slice_get all t ≡ Some end → end.thread ≡ t
+  pub each : (t : ℕ) (end : GuestEnd) → slice_get all t ≡ Some end
+      → IsEndIn program budget (thread_start program size t) (history_of accesses) end
+
+-- Arm allows these accesses to the program's memory
+abbrev pub IsLegalTrace : Program → Numbers → List Access → Type 0
+IsLegalTrace program size accesses = IsArmLegal (at_rest program.bytes size.threads) (history_of accesses)
+
+-- a fault's name
+abbrev pub trace_fault_name : TraceFault → List ℕ
+trace_fault_name fault.TooLong = codes "TooLong"
+trace_fault_name fault.Memory = codes "Memory"

@@ -1,0 +1,31 @@
+//! The laws of traces, each a function of no effect whose contract is the law.
+ghost use Rattle.std.specs.Prelude.{◌≡◌, ◌≤◌, ◌<◌, ℕ, List, length};
+ghost use Rattle.llsc_base.specs.Images.{Program};
+ghost use Rattle.llsc_base.specs.Sizes.{Numbers};
+ghost use Rattle.history.specs.declared.entry.Access.{Access};
+ghost use Rattle.guest_machine.specs.Laws.{HasEnded};
+ghost use Rattle.guest_machine.specs.Turns.{IsTooLong, IsTrace, most_accesses};
+
+/// A program, a machine, a number and a budget have one trace at most.
+pub fn traces_are_one()
+    ensures { (program : Program) (size : Numbers) (seed budget : ℕ) (accesses others : List Access) →
+        IsTrace program size seed budget accesses → IsTrace program size seed budget others → accesses ≡ others }
+{}
+
+/// Where there is a trace that a record may have, the run isn't too long.
+pub fn short_traces_are_not_too_long()
+    ensures { (program : Program) (size : Numbers) (seed budget : ℕ) (accesses : List Access) →
+        IsTrace program size seed budget accesses → length accesses ≤ most_accesses → IsTooLong program size seed budget → ⊥ }
+{}
+
+/// Each thread's accesses in a trace are those of a run of it that has ended.
+pub fn traces_end_each_thread()
+    ensures { (program : Program) (size : Numbers) (seed budget : ℕ) (accesses : List Access) (t : ℕ) → t < size.threads →
+        IsTrace program size seed budget accesses → HasEnded program size budget accesses t }
+{}
+
+/// The trace of one thread is the same by every number.
+pub fn one_thread_needs_no_seed()
+    ensures { (program : Program) (size : Numbers) (seed other budget : ℕ) (accesses : List Access) → size.threads ≡ 1 →
+        IsTrace program size seed budget accesses → IsTrace program size other budget accesses }
+{}

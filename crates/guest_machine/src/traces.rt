@@ -1,0 +1,94 @@
+//! A trace: the run of all threads in the order that a number fixes.
+ghost use Rattle.std.specs.Prelude.{◌≡◌, ◌⊎◌, ◌<◌, ◌≤◌, IfErr, IfOk, length};
+ghost use Rattle.guest_machine.specs.Traces.{AreEnds, IsLegalTrace, IsTraceRecord, trace_fault_name};
+ghost use Rattle.guest_machine.specs.Turns.{IsTooLong};
+
+use crate::ends::ends_of;
+use crate::turns::{Plan, Turns};
+use guest_thread::GuestEnd;
+use llsc_base::{Image, MachineSize};
+use run_record::{Accesses, RunRecord};
+use std::alloc::Global;
+use thiserror::Error;
+
+/// A trace: its record, and the end of each thread, in order of number.
+#[derive(Drop)]
+pub struct Traced {
+    pub run: RunRecord,
+    pub ends: Vec<GuestEnd>,
+}
+
+/// Why there is no trace.
+#[derive(Clone, Copy, Debug, PartialEq, Eq, Error)]
+pub enum TraceFault {
+    /// The run has more accesses than a record may have, which is 1,000,000.
+    #[error("the run has more than 1000000 accesses")]
+    TooLong,
+    /// Want of memory.
+    #[error("out of memory")]
+    Memory,
+}
+
+impl TraceFault {
+    /// The variant's name.
+    pub fn name(&self) -> &str
+        ensures { result.now ≡ trace_fault_name self.now }
+    {
+        match self {
+            TraceFault::TooLong => "TooLong",
+            TraceFault::Memory => "Memory",
+        }
+    }
+}
+
+/// Runs an image's guest threads on one host thread and one memory, which begins as the image's bytes.
+///
+/// The threads take turns. A number begins as `seed`, and each turn makes `x * 6364136223846793005 + 1442695040888963407`
+/// of it, modulo 2 to the 64. Of the R threads that have not stopped, in order of number, the turn is that of the one at
+/// the place `x / 2^33` modulo R. It goes on until it has made one access or has stopped. Each thread has `budget` steps,
+/// which is 1 to 1,000,000,000,000. A store-exclusive fails just where its thread isn't marked on the row.
+///
+/// # Errors
+///
+/// [`TraceFault::TooLong`] exactly where the run has more than 1,000,000 accesses, and [`TraceFault::Memory`] where there
+/// is no memory for it.
+pub fn trace(
+    alloc: Global,
+    image: &Image,
+    size: &MachineSize,
+    seed: u64,
+    budget: u64,
+) -> Result<Traced, TraceFault>
+    requires whole { length image.now.bytes ≡ size.now.mem }
+    requires some { 1 ≤ budget }
+    requires budget { budget ≤ 1000000000000 }
+    ensures run { IfOk result (λ traced. IsTraceRecord image.now size.now seed budget traced.run) }
+    ensures ends { IfOk result (λ traced. AreEnds image.now size.now budget traced.run.accesses traced.ends.items) }
+    ensures legal { IfOk result (λ traced. IsLegalTrace image.now size.now traced.run.accesses) }
+    ensures fault { IfErr result (λ fault. ((fault ≡ TraceFault.TooLong) × IsTooLong image.now size.now seed budget)
+        ⊎ (fault ≡ TraceFault.Memory)) }
+{
+    let threads = size.threads();
+    let plan = Plan {
+        image,
+        size,
+        seed,
+        budget,
+    };
+    let Ok(mut turns) = Turns::new(alloc, &plan) else {
+        return Err(TraceFault::Memory);
+    };
+    turns.run(&plan)?;
+    let Ok(ends) = ends_of(alloc, turns.seats, &turns.accesses) else {
+        return Err(TraceFault::Memory);
+    };
+    let run = RunRecord {
+        threads,
+        budget,
+        accesses: Accesses::new(turns.accesses),
+    };
+    Ok(Traced { run, ends })
+}
+
+#[cfg(test)]
+mod tests;
