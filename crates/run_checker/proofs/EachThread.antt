@@ -1,0 +1,70 @@
+-- What is known of each thread, by its number.
+use Rattle.std.proofs.Common.{◌≡◌, ◌≢◌, ℕ, ◌+◌, ◌<◌, inl, inr, Option, Some, None, IfNone, IfSome, List, [], ◌∷◌, ◌++◌, length, set, get_or, sym, subst, length-append, length-set, arith}
+use Rattle.std.proofs.lemmas.Bool.{cases_eq, cases_lt}
+use Rattle.std.proofs.lemmas.List.{get_or_append_left, get_or_push, get_or-set_same, get_or-set_other}
+use Rattle.std.specs.Vec.{with_item}
+use Rattle.llsc_base.specs.Images.{Program}
+use Rattle.llsc_base.specs.Sizes.{Numbers}
+use Rattle.history.specs.Monitor.{Monitor}
+use Rattle.history.specs.declared.entry.Access.{Access}
+use Rattle.guest_thread.specs.Standing.{Standing}
+use Rattle.guest_thread.specs.Start.{thread_start}
+use Rattle.guest_thread.specs.Under.{HasCome}
+use Rattle.run_checker.specs.Positions.{AreBrought, BringsOn, IsBrought}
+use Rattle.run_checker.specs.declared.checker.Checker.{Checker}
+use Rattle.run_checker.proofs.Pushed.{other_push}
+
+-- a fact of each element, by its index
+abbrev pub EachAt : {X : Type 0} → (ℕ → X → Type 0) → List X → Type 0
+EachAt {X} P xs = (k : ℕ) (d : X) → k < length xs → P k (get_or xs k d)
+
+-- with one more element
+pub at_push : {X : Type 0} (P : ℕ → X → Type 0) (xs : List X) (y : X) → EachAt P xs → P (length xs) y → EachAt P (xs ++ y ∷ [])
+at_push P xs y each last k d less =
+    let long : length (xs ++ y ∷ []) ≡ length xs + 1 = length-append xs (y ∷ []) in
+    elim (cases_lt k (length xs)) [
+      | inl inside ↦ subst (λ v. P k v) (sym (get_or_append_left xs (y ∷ []) d k inside)) (each k d inside)
+      | inr past ↦
+          let same : length xs ≡ k = omega (arith, long, less, past) in
+          subst (λ v. P k v) (sym (get_or_push xs y d k same)) (subst (λ n. P n y) same last)
+    ]
+
+-- with one element changed
+pub at_set : {X : Type 0} (P Q : ℕ → X → Type 0) (xs : List X) (i : ℕ) (y : X)
+    → EachAt P xs → ((k : ℕ) (x : X) → k ≢ i → P k x → Q k x) → Q i y → EachAt Q (set xs i y)
+at_set P Q xs i y each others own k d less =
+    let inside : k < length xs = subst (λ n. k < n) (length-set xs i y) less in
+    elim (cases_eq k i) [
+      | inl same ↦
+          let here : i < length xs = subst (λ n. n < length xs) same inside in
+          subst (λ n. Q n (get_or (set xs i y) n d)) (sym same) (subst (λ v. Q i v) (sym (get_or-set_same xs i y d here)) own)
+      | inr apart ↦ subst (λ v. Q k v) (sym (get_or-set_other xs i k y d apart)) (others k (get_or xs k d) apart (each k d inside))
+    ]
+
+-- a thread that was taken out of the others
+pub taken : (program : Program) (size : Numbers) (budget : ℕ) (early : List Access) (checker : Checker) (t : ℕ) (guest : Standing)
+    → AreBrought program size budget early checker → t < length checker.guests.items → guest ≡ get_or checker.guests.items t guest
+    → IsBrought program size budget early t guest
+taken program size budget early checker t guest brought known is =
+    subst (IsBrought program size budget early t) (sym is) (brought.guests t guest known)
+
+-- an access that brings its thread and memory on brings all of them on
+pub all_brought : (program : Program) (size : Numbers) (budget : ℕ) (early : List Access) (access : Access) (checker : Checker) (guest : Standing) (memory : Monitor)
+    → AreBrought program size budget early checker → BringsOn program size budget early access guest memory
+    → AreBrought program size budget (early ++ access ∷ []) (record { guests = with_item checker.guests access.thread guest; memory = memory })
+all_brought program size budget early access checker guest memory brought step = record {
+  guests =
+      at_set (IsBrought program size budget early) (IsBrought program size budget (early ++ access ∷ [])) checker.guests.items access.thread guest brought.guests
+      (λ k other apart come. subst (λ pairs. HasCome program budget (thread_start program size k) pairs other) (sym (other_push k early access (λ same. apart (sym same)))) come)
+      step.brought;
+  memory = step.left;
+}
+
+-- what follows for what an option has, and for none
+pub weaker_some : {X : Type 0} (o : Option X) (P Q : X → Type 0) → ((x : X) → P x → Q x) → IfSome o P → IfSome o Q
+weaker_some None P Q more known = tt
+weaker_some (Some x) P Q more known = more x known
+
+pub weaker_none : {X : Type 0} (o : Option X) (P Q : Type 0) → (P → Q) → IfNone o P → IfNone o Q
+weaker_none None P Q more known = more known
+weaker_none (Some x) P Q more known = tt

@@ -1,0 +1,11 @@
+pub mod Splits
+pub mod Right
+pub mod AskedPairs
+pub mod Pushed
+pub mod Passed
+pub mod Placed
+pub mod LegalRecords
+pub mod Makes
+pub mod EachThread
+pub mod Judging
+pub mod GoodTraces

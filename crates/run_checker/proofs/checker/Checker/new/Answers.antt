@@ -1,0 +1,48 @@
+use Rattle.std.proofs.Common.{◌≡◌, ℕ, ◌+◌, None, [], ◌∷◌, ◌++◌, All, length, sym, ap, subst, ◌∙◌, length-append, arith}
+use Rattle.std.proofs.lemmas.List.{length-replicate}
+use Rattle.std.proofs.lemmas.List.Elements.{All-push}
+use Rattle.history.specs.Monitor.{at_rest}
+use Rattle.a32_step.specs.Machine.{Machine, IsReady}
+use Rattle.guest_thread.specs.Standing.{Standing, IsReadyIn}
+use Rattle.guest_thread.specs.Start.{thread_start}
+use Rattle.guest_thread.specs.Under.{HasCome}
+use Rattle.run_checker.proofs.EachThread.{EachAt, at_push}
+use Rattle.run_checker.proofs.checker.Checker.new.Goals as goal
+
+pub loop-t-preserved : goal.loop-t-preserved
+loop-t-preserved c =
+    let was = c.loop-t.invariant in
+    let guests = c.loop-t.guests.items in
+    let guest = c.new-in-loop-t.result in
+    let is : c.push.new.self.items ≡ guests ++ guest ∷ [] = c.in_ok-push.ensures.items in
+    let more : length (guests ++ guest ∷ []) ≡ length guests + 1 = length-append guests (guest ∷ []) in
+    let phase : IsReady c.start-cpu.result.phase = subst (λ (m : Machine). IsReady m.phase) (sym c.start-cpu.ensures) tt in
+    let start : c.start-cpu.result ≡ thread_start c.args.image.now c.args.size.now (length guests) = cc in
+    record {
+      count = ap length is ∙ more ∙ ap (λ n. n + 1) was.count;
+      ready = λ mem budget.
+          subst (All (IsReadyIn mem budget)) (sym is) (All-push (IsReadyIn mem budget) guests guest (was.ready mem budget) (c.new-in-loop-t.ensures.ready phase mem budget));
+      start = λ budget.
+          let P : ℕ → Standing → Type 0 = λ t guest. HasCome c.args.image.now budget (thread_start c.args.image.now c.args.size.now t) [] guest in
+          subst (EachAt P) (sym is)
+          (at_push P guests guest (was.start budget)
+          (subst (λ m. HasCome c.args.image.now budget m [] guest) start (c.new-in-loop-t.ensures.comes c.in_ok-new.ensures c.args.image.now budget)));
+    }
+
+pub returns-clause-ready : goal.returns-clause-ready
+returns-clause-ready c budget =
+    let memory : c.in_ok-memory.memory ≡ at_rest c.bytes.result.now c.threads-threads.result = c.in_ok-memory.ensures in
+    let count = c.loop-t.invariant.count in
+    let all : c.threads-threads.result ≡ length c.loop-t.guests.items = omega (arith, count) in
+    record {
+      ready = c.loop-t.invariant.ready (length c.args.image.now.bytes) budget;
+      bytes = ap (λ m. length m.memory) memory ∙ ap length c.bytes.ensures.items;
+      marks = ap (λ m. length m.marks) memory ∙ length-replicate c.threads-threads.result None ∙ all;
+    }
+
+pub returns-clause-brought : goal.returns-clause-brought
+returns-clause-brought c budget =
+    record {
+      guests = c.loop-t.invariant.start budget;
+      memory = c.in_ok-memory.ensures ∙ ap (λ b. at_rest b c.threads-threads.result) c.bytes.ensures.items ∙ ap (at_rest c.args.image.now.bytes) c.threads-threads.ensures.number;
+    }

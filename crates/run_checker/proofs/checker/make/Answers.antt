@@ -1,0 +1,16 @@
+use Rattle.std.proofs.Common.{sym, ◌∙◌}
+use Rattle.run_checker.proofs.Makes.{brings_on}
+use Rattle.run_checker.proofs.checker.make.Goals as goal
+
+pub returns-in_default-clause-wrong : goal.returns-in_default-clause-wrong
+returns-in_default-clause-wrong c size early come was =
+    (c.in_default.field-0, c.next.new.self.steps, c.next.new.self.output, c.in_default.ensures.comes _ _ come)
+
+pub returns-clause-right : goal.returns-clause-right
+returns-clause-right c size early come was =
+    let asks = c.in-Asks.ensures.comes _ _ come in
+    brings_on c.args.image.now size c.args.budget early c.args.access c.in-Asks.ask c.reply_to.result c.next.new.self c.give.new.self c.args.memory.now c.serve.new.memory
+    asks.0 asks.1 (sym c.is_asked.ensures ∙ c.if-not-is_asked.false) was c.in_default-serve.ensures.served c.reply_to.ensures c.give.ensures.comes
+
+pub returns-clause-ready : goal.returns-clause-ready
+returns-clause-ready c = c.give.ensures.ready _ _ c.in-Asks.ensures.pending.waiting

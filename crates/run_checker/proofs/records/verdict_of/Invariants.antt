@@ -1,0 +1,19 @@
+use Rattle.std.proofs.Common.{◌≡◌, ◌≤◌, ◌+◌, [], All, length}
+use Rattle.llsc_base.specs.Sizes.{Numbers}
+use Rattle.run_record.specs.Limits.{IsAccess}
+use Rattle.run_checker.specs.Positions.{AreBrought, MayGoOn}
+use Rattle.run_checker.proofs.Judging.{IsUnder}
+use Rattle.run_checker.proofs.records.verdict_of.Given as goal
+
+-- the threads may go on, and have made the accesses so far
+abbrev pub invariant-loop-access : goal.invariant-loop-access
+invariant-loop-access l = record {
+  ready : MayGoOn (length l.image.bytes) l.budget l.checker;
+  marks : length l.checker.memory.marks ≡ length l.fn.checker.memory.marks;
+  few : l.index + length l.rest ≤ 1000000;
+  known : All (IsAccess (length l.fn.checker.memory.marks)) l.rest;
+  under : (size : Numbers) → AreBrought l.image size l.budget [] l.fn.checker → IsUnder l.image size l.budget l.accesses l.checker l.index l.rest;
+}
+
+abbrev pub decreases-loop-access : goal.decreases-loop-access
+decreases-loop-access l = length l.rest

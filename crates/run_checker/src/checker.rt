@@ -1,0 +1,113 @@
+//! The threads and the memory of a run that is checked.
+ghost use Rattle.std.specs.Prelude.{◌≡◌, ◌≤◌, ◌<◌, ◌∷◌, ◌++◌, [], ℕ, List, IfNone, IfOk, IfSome, length};
+ghost use Rattle.std.specs.Bool.{OnFalse, OnTrue};
+ghost use Rattle.llsc_base.specs.Sizes.{Numbers};
+ghost use Rattle.history.specs.Monitor.{IsAsLarge};
+ghost use Rattle.guest_thread.specs.Standing.{IsReadyIn};
+ghost use Rattle.run_record.specs.Limits.{IsAccess};
+ghost use Rattle.guest_machine.specs.Turns.{monitor_of};
+ghost use Rattle.run_checker.specs.Verdict.{IsRight, IsWrong};
+ghost use Rattle.run_checker.specs.Positions.{AreBrought, BringsOn, HaveStopped, IsBrought, MayGoOn, SomeAsks};
+
+use crate::asked::is_asked;
+use crate::serving::{reply_to, serve};
+use crate::verdicts::Reason;
+use a32_step::Cpu;
+use guest_calls::Output;
+use guest_thread::{Guest, Turn};
+use history::{Access, PlainMemory};
+use llsc_base::{Image, MachineSize};
+use std::alloc::{AllocError, Global};
+
+/// The threads of a run, in order of number, and their memory, where the accesses so far have brought them.
+#[derive(Drop)]
+pub struct Checker {
+    guests: Vec<Guest>,
+    memory: PlainMemory,
+}
+
+impl Checker {
+    /// The threads of an image at their start, and memory as it begins.
+    pub fn new(alloc: Global, image: &Image, size: &MachineSize) -> Result<Checker, AllocError>
+        requires whole { length image.now.bytes ≡ size.now.mem }
+        ensures ready { IfOk result (λ checker. (budget : ℕ) → MayGoOn (length image.now.bytes) budget checker) }
+        ensures brought { IfOk result (λ checker. (budget : ℕ) → AreBrought image.now size.now budget [] checker) }
+        ensures threads { IfOk result (λ checker. length checker.guests.items ≡ size.now.threads) }
+    {
+        let threads = size.threads();
+        let room = size.room();
+        let mut guests = Vec::with_capacity(alloc, threads as usize)?;
+        for t in 0..threads {
+            let stack = room + 4096 * (t + 1);
+            let cpu = Cpu::start(image.entry(), t, threads, stack);
+            guests.push(Guest::new(cpu, Output::new(alloc)?))?;
+        }
+        let memory = PlainMemory::new(alloc, image.bytes(), threads)?;
+        Ok(Checker { guests, memory })
+    }
+
+    /// Makes an access as it is recorded, or says why it is wrong.
+    pub fn step(&mut self, image: &Image, budget: u64, access: Access) -> Option<Reason>
+        requires ready { MayGoOn (length image.now.bytes) budget self.old }
+        requires budget { budget ≤ 1000000000000 }
+        requires access { IsAccess (length self.old.memory.marks) access }
+        ensures wrong { IfSome result (λ why. (size : Numbers) (early : List Access) → AreBrought image.now size budget early self.old
+            → IsWrong image.now size budget early access why) }
+        ensures right { IfNone result ((size : Numbers) (early : List Access) → AreBrought image.now size budget early self.old
+            → IsRight image.now size budget early access × AreBrought image.now size budget (early ++ access ∷ []) self.new) }
+        ensures ready { IfNone result (MayGoOn (length image.now.bytes) budget self.new) }
+        ensures size { IsAsLarge self.old.memory self.new.memory }
+    {
+        let guest = &mut self.guests[access.thread as usize];
+        make(guest, &mut self.memory, image, budget, access)
+    }
+
+    /// Whether some thread still asks for an access.
+    pub fn asks(&mut self, image: &Image, budget: u64) -> bool
+        requires ready { MayGoOn (length image.now.bytes) budget self.old }
+        requires budget { budget ≤ 1000000000000 }
+        ensures asks { OnTrue result ((size : Numbers) (early : List Access) → AreBrought image.now size budget early self.old
+            → SomeAsks image.now size budget early (length self.old.guests.items)) }
+        ensures stopped { OnFalse result ((size : Numbers) (early : List Access) → AreBrought image.now size budget early self.old
+            → HaveStopped image.now size budget early (length self.old.guests.items)) }
+    {
+        for guest in self.guests.iter_mut() {
+            if let Turn::Asks(_) = guest.next(image, budget) {
+                return true;
+            }
+        }
+        false
+    }
+}
+
+// Makes an access of a thread as it is recorded, or says why it is wrong.
+fn make(
+    guest: &mut Guest,
+    memory: &mut PlainMemory,
+    image: &Image,
+    budget: u64,
+    access: Access,
+) -> Option<Reason>
+    requires ready { IsReadyIn (length image.now.bytes) budget guest.old }
+    requires budget { budget ≤ 1000000000000 }
+    requires bytes { length memory.old.memory ≡ length image.now.bytes }
+    requires access { IsAccess (length memory.old.marks) access }
+    ensures wrong { IfSome result (λ why. (size : Numbers) (early : List Access) → IsBrought image.now size budget early access.thread guest.old
+        → memory.old ≡ monitor_of image.now size early → IsWrong image.now size budget early access why) }
+    ensures right { IfNone result ((size : Numbers) (early : List Access) → IsBrought image.now size budget early access.thread guest.old
+        → memory.old ≡ monitor_of image.now size early → BringsOn image.now size budget early access guest.new memory.new) }
+    ensures ready { IfNone result (IsReadyIn (length image.now.bytes) budget guest.new) }
+    ensures size { IsAsLarge memory.old memory.new }
+{
+    let Turn::Asks(ask) = guest.next(image, budget) else {
+        return Some(Reason::AfterStop);
+    };
+    if !is_asked(ask, access) {
+        return Some(Reason::NotAsked);
+    }
+    if let Some(reason) = serve(memory, access) {
+        return Some(reason);
+    }
+    guest.give(reply_to(access));
+    None
+}

@@ -1,0 +1,47 @@
+//! Laws of verdicts, each a function of no effect whose contract is the law.
+ghost use Rattle.std.specs.Prelude.{◌≡◌, ◌≢◌, ◌<◌, ℕ, List};
+ghost use Rattle.llsc_base.specs.Images.{Program};
+ghost use Rattle.llsc_base.specs.Sizes.{Numbers};
+ghost use Rattle.history.specs.ArmLegal.{IsArmLegal};
+ghost use Rattle.history.specs.Monitor.{at_rest};
+ghost use Rattle.history.specs.declared.entry.Access.{Access};
+ghost use Rattle.a32_instr.specs.declared.outside.Stop.{Stop};
+ghost use Rattle.guest_calls.specs.Run.{Pair, Ends};
+ghost use Rattle.guest_machine.specs.Turns.{IsTrace};
+ghost use Rattle.guest_thread.specs.Accesses.{history_of};
+ghost use Rattle.guest_thread.specs.Start.{thread_start};
+ghost use Rattle.run_record.specs.Limits.{IsRecord};
+ghost use Rattle.run_record.specs.declared.records.RunRecord.{RunRecord};
+ghost use Rattle.run_checker.specs.Verdict.{HasStopped, Judges};
+
+use crate::verdicts::Verdict;
+use a32_step::Stop;
+
+/// Accesses have one verdict at most: good, or bad at one index for one reason.
+#[tactic(auto, using(crate::proofs::Right::one_verdict))]
+pub fn verdicts_are_one()
+    ensures { (program : Program) (size : Numbers) (budget : ℕ) (accesses : List Access) (verdict other : Verdict) →
+        Judges program size budget accesses verdict → Judges program size budget accesses other → verdict ≡ other }
+{}
+
+/// The accesses of a good record are what Arm's memory and monitors allow, and each thread has stopped behind its own.
+pub fn good_records_are_legal()
+    ensures legal { (program : Program) (size : Numbers) (run : RunRecord) →
+        IsRecord run → run.threads ≡ size.threads → Judges program size run.budget run.accesses Verdict.Good →
+        IsArmLegal (at_rest program.bytes size.threads) (history_of run.accesses) }
+    ensures stopped { (program : Program) (size : Numbers) (run : RunRecord) (t : ℕ) →
+        Judges program size run.budget run.accesses Verdict.Good → t < size.threads →
+        HasStopped program size run.budget run.accesses t }
+{}
+
+/// The record of a trace is good.
+pub fn traces_are_good()
+    ensures { (program : Program) (size : Numbers) (seed budget : ℕ) (accesses : List Access) →
+        IsTrace program size seed budget accesses → Judges program size budget accesses Verdict.Good }
+{}
+
+/// A thread of a program that ends by itself, whatever replies to its accesses, isn't stopped for want of a tag.
+pub fn threads_need_no_tag()
+    ensures { (program : Program) (size : Numbers) (budget t : ℕ) (pairs : List Pair) (stop : Stop) (steps : ℕ) (output : List ℕ) (addr : ℕ) →
+        Ends program budget (thread_start program size t) pairs stop steps output → stop ≢ Stop.TagLimit addr }
+{}

@@ -1,0 +1,62 @@
+//! The verdict on a record.
+ghost use Rattle.std.specs.Prelude.{◌≡◌, ◌≤◌, [], All, IfOk, ℕ, length};
+ghost use Rattle.llsc_base.specs.Sizes.{Numbers};
+ghost use Rattle.run_record.specs.Limits.{IsAccess, IsRecord};
+ghost use Rattle.run_checker.specs.Verdict.{Judges};
+ghost use Rattle.run_checker.specs.Positions.{AreBrought, MayGoOn};
+
+use crate::checker::Checker;
+use crate::verdicts::{Reason, Verdict};
+use history::Access;
+use llsc_base::{Image, MachineSize};
+use run_record::RunRecord;
+use std::alloc::{AllocError, Global};
+
+/// Whether a recorded run of an image's threads is one, and where it is wrong.
+///
+/// The threads of the image run again, each up to its next access, and each access of the record is compared with what
+/// its thread asks and made in memory. The cost is that of the run.
+pub fn check_record(
+    alloc: Global,
+    image: &Image,
+    size: &MachineSize,
+    run: &RunRecord,
+) -> Result<Verdict, AllocError>
+    requires whole { length image.now.bytes ≡ size.now.mem }
+    requires threads { run.now.threads ≡ size.now.threads }
+    requires limits { IsRecord run.now }
+    ensures { IfOk result (λ verdict. Judges image.now size.now run.now.budget run.now.accesses verdict) }
+{
+    let checker = Checker::new(alloc, image, size)?;
+    Ok(verdict_of(checker, image, run.budget, run.accesses.as_slice()))
+}
+
+// The verdict on accesses, by threads and memory at their start.
+fn verdict_of(mut checker: Checker, image: &Image, budget: u64, accesses: &[Access]) -> Verdict
+    requires ready { MayGoOn (length image.now.bytes) budget checker }
+    requires budget { budget ≤ 1000000000000 }
+    requires few { length accesses.now ≤ 1000000 }
+    requires accesses { All (IsAccess (length checker.memory.marks)) accesses.now }
+    ensures { (size : Numbers) → size.threads ≡ length checker.guests.items → AreBrought image.now size budget [] checker
+        → Judges image.now size budget accesses.now result }
+{
+    let mut rest = accesses;
+    let mut index = 0;
+    while let Some((access, after)) = rest.split_first() {
+        if let Some(reason) = checker.step(image, budget, *access) {
+            return Verdict::Bad { index, reason };
+        }
+        index += 1;
+        rest = after;
+    }
+    if checker.asks(image, budget) {
+        return Verdict::Bad {
+            index,
+            reason: Reason::Unfinished,
+        };
+    }
+    Verdict::Good
+}
+
+#[cfg(test)]
+mod tests;
