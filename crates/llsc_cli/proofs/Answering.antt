@@ -1,15 +1,14 @@
 -- From what the parts of an answer give to how a call ends.
-use Rattle.std.proofs.Common.{◌≡◌, ℕ, ◌<◌, ◌⊎◌, inl, inr, List, [], length, Option, Some, None, refl, sym, ◌∙◌, ap, subst, arith, codes, nat_lt, true}
+use Rattle.std.proofs.Common.{◌≡◌, ℕ, ◌<◌, ◌⊎◌, inl, inr, List, [], length, Option, Some, None, refl, sym, ◌∙◌, ap, subst, arith, codes, nat_lt, true, IsTrue}
 use Rattle.std.proofs.lemmas.Bool.Decides.{nat_tests}
-use Rattle.std.specs.Option.{option_map}
 use Rattle.llsc_base.specs.Sizes.{Numbers}
-use Rattle.llsc_base.specs.declared.flat.FlatFault.{FlatFault}
-use Rattle.llsc_base.specs.declared.flat.FlatFault.TheVariants as flat
-use Rattle.llsc_base.specs.Flat.{flat_fault, flat_fault_name}
 use Rattle.llsc_cli.specs.Host.{AreBytes, Adds, AddsFront}
-use Rattle.llsc_cli.specs.Refusals.{Answer, refused, read_text, refusal_text, solo_size, most_bytes, too_long, size_refusal, flat_refusal, flat_refusal_on, Refuses}
+use Rattle.llsc_cli.specs.Refusals.{Answer, refused, read_text, refusal_text, most_bytes, too_long, size_refusal, Refusal, Refuses, Unless}
+use Rattle.llsc_cli.specs.Programs.{fault_name, is_wanting, program_refusal, refusal_on, IsFaultBy}
 use Rattle.llsc_cli.specs.Answer.{Is, IsDone}
-use Rattle.llsc_cli.specs.Reads.{CutAfter, IsCutFile, Ends, Gives}
+use Rattle.llsc_cli.specs.Reads.{Answered, CutAfter, IsCutFile, Ends, EndsFor, Gives}
+use Rattle.llsc_cli.specs.declared.formats.Format.{Format}
+use Rattle.llsc_cli.specs.declared.programs.ProgramFault.{ProgramFault}
 use Rattle.llsc_cli.specs.declared.host.ReadFault.{ReadFault}
 use Rattle.llsc_cli.specs.declared.host.ReadFault.TheVariants as read
 
@@ -20,19 +19,28 @@ done_four status ended done = grind arith
 -- Ends.
 
 -- an end that is answered so is also answered otherwise, where the answers are among those
-pub ends_as : {A B : List ℕ → ℕ → List ℕ → Type 0} {X Y : Type 0} (held old new : Option (List ℕ)) (status : ℕ)
-    → ((file : List ℕ) (s : ℕ) (text : List ℕ) → A file s text → B file s text) → (X → Y) → Ends A held X old new status → Ends B held Y old new status
-ends_as {A} {B} {X} {Y} held old new status also more ends = record {
+pub ends_for : {F G : Type 0} {A : F → ℕ → List ℕ → Type 0} {B : G → ℕ → List ℕ → Type 0} {M : F → Type 0} {N : G → Type 0} {X Y : Type 0}
+    (old new : Option (List ℕ)) (status : ℕ)
+    → ((file : F) (s : ℕ) (text : List ℕ) → M file → A file s text → (other : G) × (N other × B other s text))
+    → (X → Y) → EndsFor A M X old new status → EndsFor B N Y old new status
+ends_for {F} {G} {A} {B} {M} {N} {X} {Y} old new status also more ends = record {
   ended = ends.ended;
-  done = λ done. let a = ends.done done in (a.0, a.1, (a.2.0, (also a.0 status a.1 a.2.1.0, a.2.1.1)));
+  done = λ done.
+      let a = ends.done done in
+      let b = also a.0 status a.1 a.2.0 a.2.1.0 in
+      (b.0, a.1, (b.1.0, (b.1.1, a.2.1.1)));
   read = λ three. let r = ends.read three in (more r.0, r.1);
   cut = λ five. cut_as (ends.cut five);
   memory = ends.memory;
 }
   where
-    cut_as : IsCutFile A held X old new → IsCutFile B held Y old new
-    cut_as (inl cut) = inl (cut.0, cut.1, cut.2, (cut.3.0, (also cut.0 cut.1 cut.2 cut.3.1.0, cut.3.1.1)))
+    cut_as : IsCutFile A M X old new → IsCutFile B N Y old new
+    cut_as (inl cut) = let b = also cut.0 cut.1 cut.2 cut.3.0 cut.3.1.0 in inl (b.0, cut.1, cut.2, (b.1.0, (b.1.1, cut.3.1.1)))
     cut_as (inr failed) = inr (more failed.0, failed.1)
+
+pub ends_as : {A B : List ℕ → ℕ → List ℕ → Type 0} {X Y : Type 0} (held old new : Option (List ℕ)) (status : ℕ)
+    → ((file : List ℕ) (s : ℕ) (text : List ℕ) → A file s text → B file s text) → (X → Y) → Ends A held X old new status → Ends B held Y old new status
+ends_as {A} {B} {X} {Y} held old new status also more ends = ends_for old new status (λ file s text may a. (file, (may, also file s text a))) more ends
 
 -- an answer of a file that the host may hold
 pub ends_done : {A : List ℕ → ℕ → List ℕ → Type 0} {X : Type 0} (held old new : Option (List ℕ)) (status : ℕ) (file : List ℕ)
@@ -74,57 +82,81 @@ ends_unread {X} most fault held old new status failed long ended three four said
 }
   where
     cut_short : (f : ReadFault) → (f ≡ read.Failed → X) → (f ≡ read.FileTooLong → (file : List ℕ) × AreBytes held file × (most < length file))
-        → CutAfter f old new → IsCutFile (Refuses (too_long most)) held X old new
+        → CutAfter f old new → IsCutFile (Refuses (too_long most)) (AreBytes held) X old new
     cut_short read.Failed x l c = inr (x refl, c)
     cut_short read.FileTooLong x l c = let file = l refl in inl (file.0, 4, refusal_text (codes "FileTooLong"), (file.1, (refuses_long most file.0 file.2, c)))
     cut_short read.Memory x l c = absurd c
 
 -- bytes that a file may hold
-held_bytes : Option (List ℕ) → List ℕ
+pub held_bytes : Option (List ℕ) → List ℕ
 held_bytes None = []
 held_bytes (Some file) = file
 
-are_held : (held : Option (List ℕ)) → AreBytes held (held_bytes held)
+pub are_held : (held : Option (List ℕ)) → AreBytes held (held_bytes held)
 unfolding held_bytes
 are_held None = tt
 are_held (Some file) = refl
 
--- a file that is refused by its name
-pub ends_refused : {X : Type 0} (against : List ℕ → Option (List ℕ)) (file name : List ℕ) (held old new : Option (List ℕ)) (status : ℕ)
-    → AreBytes held file → against file ≡ Some name
+-- Answers, whatever was read.
+
+-- an answer is also another, where it is among those
+pub answered_as : {A B : ℕ → List ℕ → Type 0} (old new : Option (List ℕ)) (status : ℕ)
+    → ((s : ℕ) (text : List ℕ) → A s text → B s text) → Answered A old new status → Answered B old new status
+answered_as old new status also answered = record {
+  ended = answered.ended;
+  done = λ done. let a = answered.done done in (a.0, (also status a.0 a.1.0, a.1.1));
+  cut = λ five. let a = answered.cut five in (a.0, a.1, (also a.0 a.1 a.2.0, a.2.1));
+  memory = answered.memory;
+}
+
+-- an answer for files that may be
+pub answered_for : {F : Type 0} {A : ℕ → List ℕ → Type 0} {B : F → ℕ → List ℕ → Type 0} {M : F → Type 0} {X : Type 0}
+    (old new : Option (List ℕ)) (status : ℕ) (file : F) → M file → ((s : ℕ) (text : List ℕ) → A s text → B file s text)
+    → Answered A old new status → EndsFor B M X old new status
+answered_for old new status file may also answered = record {
+  ended = grind (arith, answered.ended);
+  done = λ done. let a = answered.done done in (file, a.0, (may, (also status a.0 a.1.0, a.1.1)));
+  read = λ three. absurd (grind (arith, answered.ended));
+  cut = λ five. let a = answered.cut five in inl (file, a.0, a.1, (may, (also a.0 a.1 a.2.0, a.2.1)));
+  memory = answered.memory;
+}
+
+-- one text with its status, which was written whole or cut short
+pub answered_one : {A : ℕ → List ℕ → Type 0} (old new : Option (List ℕ)) (status wanted : ℕ) (text : List ℕ)
+    → IsDone wanted → A wanted text
+    → (status ≡ wanted) ⊎ ((status ≡ 5) ⊎ (status ≡ 6))
+    → (status ≡ wanted → Adds old new text) → (status ≡ 5 → AddsFront old new text) → (status ≡ 6 → new ≡ old)
+    → Answered A old new status
+answered_one {A} old new status wanted text whole holds ended said cut memory = record {
+  ended = grind (arith, whole, ended);
+  done = λ done. let is : status ≡ wanted = grind (arith, ended, done) in (text, (subst (λ s. A s text) (sym is) holds, said is));
+  cut = λ five. (wanted, text, (holds, cut five));
+  memory = memory;
+}
+
+-- a refusal by its name
+pub answered_refused : (against : Option (List ℕ)) (name : List ℕ) (old new : Option (List ℕ)) (status : ℕ) → against ≡ Some name
     → (status ≡ 4) ⊎ ((status ≡ 5) ⊎ (status ≡ 6))
     → (status ≡ 4 → Adds old new (refusal_text name)) → (status ≡ 5 → AddsFront old new (refusal_text name)) → (status ≡ 6 → new ≡ old)
-    → Ends (Refuses against) held X old new status
-ends_refused against file name held old new status bytes is ended said cut memory =
-    ends_done held old new status file bytes (grind arith)
-    (λ done. let four : status ≡ 4 = done_four status (grind arith) done in (refusal_text name, ((name, (is, (four, refl))), said four)))
-    (λ five. (4, refusal_text name, ((name, (is, (refl, refl))), cut five)))
-    memory
+    → Answered (Refusal against) old new status
+answered_refused against name old new status is ended said cut memory =
+    answered_one old new status 4 (refusal_text name) (inr (inr (inl refl))) (name, (is, (refl, refl))) ended said cut memory
 
 -- want of memory
-pub ends_wanting : {A : List ℕ → ℕ → List ℕ → Type 0} {X : Type 0} (held old new : Option (List ℕ)) (status : ℕ) → status ≡ 6 → new ≡ old → Ends A held X old new status
-ends_wanting held old new status six same = record {
-  ended = grind arith;
+pub answered_wanting : {A : ℕ → List ℕ → Type 0} (old new : Option (List ℕ)) (status : ℕ) → status ≡ 6 → new ≡ old → Answered A old new status
+answered_wanting old new status six same = record {
+  ended = inr (inr six);
   done = λ done. absurd (grind arith);
-  read = λ three. absurd (grind arith);
   cut = λ five. absurd (grind arith);
   memory = λ memory. same;
 }
 
--- an end for bytes that the file may hold
-pub ends_held : {A B : List ℕ → ℕ → List ℕ → Type 0} {X : Type 0} (held old new : Option (List ℕ)) (status : ℕ) (file : List ℕ)
-    → AreBytes held file → ((s : ℕ) (text : List ℕ) → A file s text → B file s text) → Ends A (Some file) ⊥ old new status → Ends B held X old new status
-ends_held {A} {B} {X} held old new status file bytes also ends = record {
-  ended = ends.ended;
-  done = λ done. let a = ends.done done in (file, a.1, (bytes, (also status a.1 (subst (λ f. A f status a.1) a.2.0 a.2.1.0), a.2.1.1)));
-  read = λ three. absurd (ends.read three).0;
-  cut = λ five. cut_held (ends.cut five);
-  memory = ends.memory;
-}
-  where
-    cut_held : IsCutFile A (Some file) ⊥ old new → IsCutFile B held X old new
-    cut_held (inl cut) = inl (file, cut.1, cut.2, (bytes, (also cut.1 cut.2 (subst (λ f. A f cut.1 cut.2) cut.3.0 cut.3.1.0), cut.3.1.1)))
-    cut_held (inr failed) = absurd failed.0
+-- what stands against a request is its answer, and where nothing does the answer is one of those
+pub unless_refused : (A : ℕ → List ℕ → Type 0) (against : Option (List ℕ)) (s : ℕ) (text : List ℕ) → Refusal against s text → Unless against A s text
+unless_refused A against s text stands = subst (λ r. Unless r A s text) (sym stands.1.0) stands.1.1
+
+pub unless_none : (A : ℕ → List ℕ → Type 0) (against : Option (List ℕ)) (s : ℕ) (text : List ℕ) → against ≡ None → A s text → Unless against A s text
+unless_none A against s text none holds = subst (λ r. Unless r A s text) (sym none) holds
 
 -- What gives an answer.
 
@@ -155,39 +187,40 @@ ends_given answer held old new status file bytes done gives =
     (λ five. ((answer file).status, (answer file).text, ((refl, refl), gives.cut five)))
     gives.memory
 
--- What stands against a flat file.
+-- What stands against a program's file.
 
 -- a machine that can't be, whatever the file
-pub ends_unsized : {X : Type 0} (mem : ℕ) (name : List ℕ) (held old new : Option (List ℕ)) (status : ℕ)
-    → size_refusal mem ≡ Some name
-    → (status ≡ 4) ⊎ ((status ≡ 5) ⊎ (status ≡ 6))
-    → (status ≡ 4 → Adds old new (refusal_text name)) → (status ≡ 5 → AddsFront old new (refusal_text name)) → (status ≡ 6 → new ≡ old)
-    → Ends (Refuses (flat_refusal mem)) held X old new status
-ends_unsized mem name held old new status is = ends_refused (flat_refusal mem) (held_bytes held) name held old new status (are_held held) (rw is refl)
+pub refused_unsized : (format : Format) (size : Numbers) (file : List ℕ) (status : ℕ) (text : List ℕ)
+    → Refusal (size_refusal size) status text → Refusal (program_refusal format size file) status text
+refused_unsized format size file status text refused = (refused.0, (rw refused.1.0 refl, refused.1.1))
 
 -- a file that is too long
-pub refuses_sized : (mem : ℕ) → size_refusal mem ≡ None → (file : List ℕ) (status : ℕ) (text : List ℕ)
-    → Refuses (too_long most_bytes) file status text → Refuses (flat_refusal mem) file status text
-refuses_sized mem none file status text refused = (refused.0, (rw (none, refused.1.0) refl, refused.1.1))
+pub refuses_sized : (format : Format) (size : Numbers) → size_refusal size ≡ None → (file : List ℕ) (status : ℕ) (text : List ℕ)
+    → Refuses (too_long most_bytes) file status text → Refuses (program_refusal format size) file status text
+refuses_sized format size none file status text refused = (refused.0, (rw (none, refused.1.0) refl, refused.1.1))
 
 -- a file that isn't, which has a fault or has none
-pub flat_refusal_is : (mem : ℕ) (size : Numbers) (file : List ℕ) (fault : Option (List ℕ)) → size_refusal mem ≡ None → size ≡ solo_size mem → too_long most_bytes file ≡ None
-    → flat_refusal_on size file ≡ fault → flat_refusal mem file ≡ fault
-flat_refusal_is mem size file fault none same short is = rw (none, short) (subst (λ s. flat_refusal_on s file ≡ fault) same is)
+pub program_refusal_is : (format : Format) (size wanted : Numbers) (file : List ℕ) (fault : Option (List ℕ)) → size_refusal wanted ≡ None → size ≡ wanted
+    → too_long most_bytes file ≡ None → refusal_on format size file ≡ fault → program_refusal format wanted file ≡ fault
+program_refusal_is format size wanted file fault none same short is = rw (none, short) (subst (λ s. refusal_on format s file ≡ fault) same is)
 
--- a flat file that has a fault, or for whose image memory is wanting
-pub ends_flat : {X : Type 0} (size : Numbers) (file : List ℕ) (fault : FlatFault) (old new : Option (List ℕ)) (status : ℕ)
-    → (flat_fault file size ≡ Some fault) ⊎ (fault ≡ flat.Memory) → (fault ≡ flat.Memory → status ≡ 6)
+-- a file that has a fault, or for whose image memory is wanting
+pub answered_program : (format : Format) (size : Numbers) (file : List ℕ) (fault : ProgramFault) (old new : Option (List ℕ)) (status : ℕ)
+    → IsFaultBy (refusal_on format size file) fault → (IsTrue (is_wanting fault) → status ≡ 6)
     → (status ≡ 4) ⊎ ((status ≡ 5) ⊎ (status ≡ 6))
-    → (status ≡ 4 → Adds old new (refusal_text (flat_fault_name fault))) → (status ≡ 5 → AddsFront old new (refusal_text (flat_fault_name fault)))
+    → (status ≡ 4 → Adds old new (refusal_text (fault_name fault))) → (status ≡ 5 → AddsFront old new (refusal_text (fault_name fault)))
     → (status ≡ 6 → new ≡ old)
-    → Ends (Refuses (flat_refusal_on size)) (Some file) X old new status
-ends_flat size file fault old new status (inl is) alone ended said cut memory =
-    ends_refused (flat_refusal_on size) file (flat_fault_name fault) (Some file) old new status refl (ap (λ f. option_map flat_fault_name f) is) ended said cut memory
-ends_flat size file fault old new status (inr wanting) alone ended said cut memory = ends_wanting (Some file) old new status (alone wanting) (memory (alone wanting))
+    → Answered (Refusal (refusal_on format size file)) old new status
+answered_program format size file fault old new status is alone ended said cut memory = by_refusal (refusal_on format size file) refl is
+  where
+    by_refusal : (against : Option (List ℕ)) → refusal_on format size file ≡ against → IsFaultBy against fault
+        → Answered (Refusal (refusal_on format size file)) old new status
+    by_refusal (Some name) stands named =
+        answered_refused (refusal_on format size file) (fault_name fault) old new status (stands ∙ ap Some (sym named)) ended said cut memory
+    by_refusal None stands wanting = answered_wanting old new status (alone wanting) (memory (alone wanting))
 
--- a flat file on a machine that can be, which is not too long, by what stands against it
-pub refuses_short : (mem : ℕ) (size : Numbers) (file : List ℕ) → size_refusal mem ≡ None → size ≡ solo_size mem → too_long most_bytes file ≡ None
-    → (status : ℕ) (text : List ℕ) → Refuses (flat_refusal_on size) file status text → Refuses (flat_refusal mem) file status text
-refuses_short mem size file none same short status text refused =
-    (refused.0, (flat_refusal_is mem size file (Some refused.0) none same short refused.1.0, refused.1.1))
+-- a file on a machine that can be, which is not too long, by what stands against it
+pub refused_short : (format : Format) (size wanted : Numbers) (file : List ℕ) → size_refusal wanted ≡ None → size ≡ wanted → too_long most_bytes file ≡ None
+    → (status : ℕ) (text : List ℕ) → Refusal (refusal_on format size file) status text → Refusal (program_refusal format wanted file) status text
+refused_short format size wanted file none same short status text refused =
+    (refused.0, (program_refusal_is format size wanted file (Some refused.0) none same short refused.1.0, refused.1.1))

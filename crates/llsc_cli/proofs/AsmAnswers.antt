@@ -5,13 +5,14 @@ use Rattle.std.proofs.lemmas.Str.{IsUtf8-from_is_utf8, is_utf8-from_IsUtf8}
 use Rattle.elf32.specs.declared.units.Unit.{Unit}
 use Rattle.a32_asm.specs.declared.assembler.AsmFault.{AsmFault}
 use Rattle.a32_asm.specs.Assembled.{most_text, unit_of}
+use Rattle.llsc_cli.specs.declared.formats.Format.{Format}
 use Rattle.llsc_cli.specs.Refusals.{Answer, refused, unless, too_long, Refuses}
-use Rattle.llsc_cli.specs.Assembly.{not_text, text_refusal, has_data, code_bytes, text_answer, asm_answer}
+use Rattle.llsc_cli.specs.Assembly.{not_text, text_refusal, unit_refusal, unit_file, text_answer, asm_answer}
 use Rattle.llsc_cli.specs.Answer.{IsDone, AnswersAsm}
 
 -- a file that is too long
-pub asm_too_long : (file : List ℕ) (status : ℕ) (text : List ℕ) → Refuses (too_long most_text) file status text → AnswersAsm file status text
-asm_too_long file status text long =
+pub asm_too_long : (format : Format) (file : List ℕ) (status : ℕ) (text : List ℕ) → Refuses (too_long most_text) file status text → AnswersAsm format file status text
+asm_too_long format file status text long =
     let is : text_refusal file ≡ Some long.0 = rw long.1.0 refl in
     rw is long.1.1
 
@@ -27,29 +28,25 @@ not_utf8 file none = decided (is_utf8 file) refl
     decided false is = is
 
 -- no text
-pub asm_no_text : (file : List ℕ) → too_long most_text file ≡ None → (IsUtf8 file → ⊥) → refused (codes "NotText") ≡ asm_answer file
-asm_no_text file short none =
+pub asm_no_text : (format : Format) (file : List ℕ) → too_long most_text file ≡ None → (IsUtf8 file → ⊥) → refused (codes "NotText") ≡ asm_answer format file
+asm_no_text format file short none =
     let is : text_refusal file ≡ Some (codes "NotText") = refusal_is file short ∙ rw (not_utf8 file none) refl in
-    ap (λ r. unless r (text_answer (unit_of file))) (sym is)
+    ap (λ r. unless r (text_answer format (unit_of file))) (sym is)
 
 -- a text, by what it is as a program
-pub asm_text : (file : List ℕ) (made : Result Unit AsmFault) → too_long most_text file ≡ None → IsUtf8 file → unit_of file ≡ made → text_answer made ≡ asm_answer file
-asm_text file made short utf8 is =
+pub asm_text : (format : Format) (file : List ℕ) (made : Result Unit AsmFault) → too_long most_text file ≡ None → IsUtf8 file → unit_of file ≡ made → text_answer format made ≡ asm_answer format file
+asm_text format file made short utf8 is =
     let clean : text_refusal file ≡ None = refusal_is file short ∙ rw (is_utf8-from_IsUtf8 file utf8) refl in
-    sym (ap (λ r. unless r (text_answer (unit_of file))) clean ∙ ap text_answer is)
+    sym (ap (λ r. unless r (text_answer format (unit_of file))) clean ∙ ap (text_answer format) is)
 
 -- every answer is given whole
 unless_done : (against : Option (List ℕ)) (answer : Answer) → IsDone answer.status → IsDone (unless against answer).status
 unless_done None answer done = done
-unless_done (Some name) answer done = inr (inr refl)
+unless_done (Some name) answer done = inr (inr (inl refl))
 
-unit_done : (with_data : Bool) (name words : List ℕ) → IsDone (if with_data then refused name else record { status = 0; text = words }).status
-unit_done true name words = inr (inr refl)
-unit_done false name words = inl refl
+made_done : (format : Format) (made : Result Unit AsmFault) → IsDone (text_answer format made).status
+made_done format (Ok unit) = unless_done (unit_refusal format unit) (record { status = 0; text = unit_file format unit }) (inl refl)
+made_done format (Err fault) = inr (inr (inl refl))
 
-made_done : (made : Result Unit AsmFault) → IsDone (text_answer made).status
-made_done (Ok unit) = unit_done (has_data unit) (codes "FlatData") (code_bytes unit.words)
-made_done (Err fault) = inr (inr refl)
-
-pub asm_done : (file : List ℕ) → IsDone (asm_answer file).status
-asm_done file = unless_done (text_refusal file) (text_answer (unit_of file)) (made_done (unit_of file))
+pub asm_done : (format : Format) (file : List ℕ) → IsDone (asm_answer format file).status
+asm_done format file = unless_done (text_refusal file) (text_answer format (unit_of file)) (made_done format (unit_of file))

@@ -5,7 +5,7 @@ use Rattle.std.proofs.lemmas.List.{take_more}
 use Rattle.std.proofs.lemmas.Grind.{flat_map-append}
 use Rattle.llsc_base.specs.Memory.{bytes_of}
 use Rattle.llsc_base.proofs.Bytes.{bytes_of-4}
-use Rattle.llsc_cli.specs.Assembly.{code_bytes}
+use Rattle.elf32.specs.Units.{code_bytes}
 
 -- one word more
 pub code_more : (words bytes : List ℕ) (i : ℕ) → i < length words → bytes ≡ code_bytes (take i words)

@@ -2,9 +2,10 @@ pub mod Alone
 pub mod Answering
 pub mod AsmAnswers
 pub mod CodeBytes
+pub mod CheckAnswers
 pub mod Counts
 pub mod DisAnswers
-pub mod FlatImages
+pub mod Images
 pub mod Fronts
 pub mod Loading
 pub mod Logs
@@ -15,5 +16,7 @@ pub mod SoloAnswers
 pub mod SoloEnds
 pub mod Streams
 pub mod Turns
-pub mod OptionWords
 pub mod Works
+pub mod OptionWords
+pub mod TraceAnswers
+pub mod Asked

@@ -1,70 +1,62 @@
 -- What words ask for, one option after another.
-use Rattle.std.proofs.Common.{◌≡◌, ℕ, ◌+◌, ◌<◌, ◌≤◌, Bool, true, false, if◌then◌else◌, List, [], ◌∷◌, Option, Some, None, length, drop, slice_index_or, codes, refl, sym, ◌∙◌, ap, arith}
+use Rattle.std.proofs.Common.{◌≡◌, ℕ, Bool, true, false, not, if◌then◌else◌, List, [], ◌∷◌, Option, Some, None, codes, refl, sym, ◌∙◌, ap}
 use Rattle.std.specs.Str.{bytes_eq}
-use Rattle.std.proofs.lemmas.List.{drop_more, drop_all}
-use Rattle.llsc_cli.specs.declared.words.Options.{Options}
-use Rattle.llsc_cli.specs.Request.{Given, given_of, with_flat, with_value, with_file}
+use Rattle.llsc_cli.specs.declared.options.Options.{Options}
+use Rattle.llsc_cli.specs.Options.{Given, given_by, given_of, is_option, with_flat, with_value}
 
-two : (words : List (List ℕ)) (at : ℕ) → at + 1 < length words → drop at words ≡ slice_index_or words at [] ∷ slice_index_or words (at + 1) [] ∷ drop (at + 2) words
-two words at less =
-    let twice : at + 1 + 1 ≡ at + 2 = omega arith in
-    drop_more words at [] (omega (arith, less)) ∙ ap (λ ws. slice_index_or words at [] ∷ ws) (drop_more words (at + 1) [] less ∙ ap (λ n. slice_index_or words (at + 1) [] ∷ drop n words) twice)
+first : (dash flat : Bool) (x y z : Option Given) → dash ≡ true → flat ≡ true → (if not dash then x else if flat then y else z) ≡ y
+first true true x y z d f = refl
+first true false x y z d f = cc
+first false flat x y z d f = cc
 
-first : (b : Bool) (x y : Option Given) → b ≡ true → (if b then x else y) ≡ x
-first true x y e = refl
-first false x y e = cc
+second : (dash flat : Bool) (x y z : Option Given) → dash ≡ true → flat ≡ false → (if not dash then x else if flat then y else z) ≡ z
+second true false x y z d f = refl
+second true true x y z d f = cc
+second false flat x y z d f = cc
 
-second : (b : Bool) (x y : Option Given) → b ≡ false → (if b then x else y) ≡ y
-second true x y e = cc
-second false x y e = refl
-
-no_options_left : (words : List (List ℕ)) → given_of None words ≡ None
+none_given : (words : List (List ℕ)) → given_of None words ≡ None
 unfolding given_of
-no_options_left words = refl
+none_given words = refl
 
-flag : (options : Options) (words : List (List ℕ)) (at : ℕ) → at + 1 < length words → bytes_eq (slice_index_or words at []) (codes "--flat") ≡ true
-    → given_of (Some options) (drop at words) ≡ given_of (with_flat options) (drop (at + 1) words)
+none_left : (next : Option Options) → given_of next [] ≡ None
 unfolding given_of
-flag options words at less e =
-    ap (given_of (Some options)) (two words at less)
-    ∙ first (bytes_eq (slice_index_or words at []) (codes "--flat")) (given_of (with_flat options) (slice_index_or words (at + 1) [] ∷ drop (at + 2) words)) (given_of (with_value options (slice_index_or words at []) (slice_index_or words (at + 1) [])) (drop (at + 2) words)) e
-    ∙ ap (given_of (with_flat options)) (sym (drop_more words (at + 1) [] less ∙ ap (λ n. slice_index_or words (at + 1) [] ∷ drop n words) (twice at)))
-  where
-    twice : (n : ℕ) → n + 1 + 1 ≡ n + 2
-    twice n = omega arith
+none_left None = refl
+none_left (Some options) = refl
 
-value : (options : Options) (words : List (List ℕ)) (at : ℕ) → at + 1 < length words → bytes_eq (slice_index_or words at []) (codes "--flat") ≡ false
-    → given_of (Some options) (drop at words) ≡ given_of (with_value options (slice_index_or words at []) (slice_index_or words (at + 1) [])) (drop (at + 2) words)
+alone : (dash : Bool) (x : Option Given) → dash ≡ true → (if dash then None else x) ≡ None
+alone true x d = refl
+alone false x d = cc
+
+-- `--flat`
+flagged : (options : Options) (word : List ℕ) (words : List (List ℕ)) → is_option word ≡ true → bytes_eq word (codes "--flat") ≡ true
+    → given_of (Some options) (word ∷ words) ≡ given_of (with_flat options) words
 unfolding given_of
-value options words at less e =
-    ap (given_of (Some options)) (two words at less)
-    ∙ second (bytes_eq (slice_index_or words at []) (codes "--flat")) (given_of (with_flat options) (slice_index_or words (at + 1) [] ∷ drop (at + 2) words)) (given_of (with_value options (slice_index_or words at []) (slice_index_or words (at + 1) [])) (drop (at + 2) words)) e
+flagged options word [] dash flat = alone (is_option word) (Some (given_by options word [])) dash ∙ sym (none_left (with_flat options))
+flagged options word (v ∷ words) dash flat =
+    first (is_option word) (bytes_eq word (codes "--flat")) (Some (given_by options word (v ∷ words))) (given_of (with_flat options) (v ∷ words))
+    (given_of (with_value options word v) words) dash flat
 
--- `--flat`, and `--flat` again
-pub flag_next : (options next : Options) (words : List (List ℕ)) (at : ℕ) → at + 1 < length words → bytes_eq (slice_index_or words at []) (codes "--flat") ≡ true
-    → Some next ≡ with_flat options → given_of (Some options) (drop at words) ≡ given_of (Some next) (drop (at + 1) words)
-flag_next options next words at less e is = flag options words at less e ∙ ap (λ o. given_of o (drop (at + 1) words)) (sym is)
-
-pub flag_twice : (options : Options) (words : List (List ℕ)) (at : ℕ) → at + 1 < length words → bytes_eq (slice_index_or words at []) (codes "--flat") ≡ true
-    → None ≡ with_flat options → given_of (Some options) (drop at words) ≡ None
-flag_twice options words at less e is = flag options words at less e ∙ ap (λ o. given_of o (drop (at + 1) words)) (sym is) ∙ no_options_left (drop (at + 1) words)
-
--- an option with its value, and a word that is none
-pub value_next : (options next : Options) (words : List (List ℕ)) (at : ℕ) → at + 1 < length words → bytes_eq (slice_index_or words at []) (codes "--flat") ≡ false
-    → Some next ≡ with_value options (slice_index_or words at []) (slice_index_or words (at + 1) []) → given_of (Some options) (drop at words) ≡ given_of (Some next) (drop (at + 2) words)
-value_next options next words at less e is = value options words at less e ∙ ap (λ o. given_of o (drop (at + 2) words)) (sym is)
-
-pub value_wrong : (options : Options) (words : List (List ℕ)) (at : ℕ) → at + 1 < length words → bytes_eq (slice_index_or words at []) (codes "--flat") ≡ false
-    → None ≡ with_value options (slice_index_or words at []) (slice_index_or words (at + 1) []) → given_of (Some options) (drop at words) ≡ None
-value_wrong options words at less e is = value options words at less e ∙ ap (λ o. given_of o (drop (at + 2) words)) (sym is) ∙ no_options_left (drop (at + 2) words)
-
--- the last word is the file
-pub file_last : (options : Options) (words : List (List ℕ)) (at : ℕ) → at + 1 ≡ length words → given_of (Some options) (drop at words) ≡ with_file options (slice_index_or words at [])
+-- an option that has a value
+valued : (options : Options) (word v : List ℕ) (words : List (List ℕ)) → is_option word ≡ true → bytes_eq word (codes "--flat") ≡ false
+    → given_of (Some options) (word ∷ v ∷ words) ≡ given_of (with_value options word v) words
 unfolding given_of
-file_last options words at last =
-    ap (given_of (Some options)) (drop_more words at [] (omega (arith, last)) ∙ ap (λ ws. slice_index_or words at [] ∷ ws) (drop_all (at + 1) words (omega (arith, last))))
+valued options word v words dash other =
+    second (is_option word) (bytes_eq word (codes "--flat")) (Some (given_by options word (v ∷ words))) (given_of (with_flat options) (v ∷ words))
+    (given_of (with_value options word v) words) dash other
 
--- there is none
-pub no_file : (options : Options) (words : List (List ℕ)) (at : ℕ) → length words ≤ at → given_of (Some options) (drop at words) ≡ None
-unfolding given_of
-no_file options words at past = ap (given_of (Some options)) (drop_all at words past)
+-- either, where it can be given, and where it can't
+pub flag_next : (options next : Options) (word : List ℕ) (words : List (List ℕ)) → is_option word ≡ true → bytes_eq word (codes "--flat") ≡ true
+    → Some next ≡ with_flat options → given_of (Some options) (word ∷ words) ≡ given_of (Some next) words
+flag_next options next word words dash flat is = flagged options word words dash flat ∙ ap (λ o. given_of o words) (sym is)
+
+pub flag_twice : (options : Options) (word : List ℕ) (words : List (List ℕ)) → is_option word ≡ true → bytes_eq word (codes "--flat") ≡ true
+    → None ≡ with_flat options → given_of (Some options) (word ∷ words) ≡ None
+flag_twice options word words dash flat is = flagged options word words dash flat ∙ ap (λ o. given_of o words) (sym is) ∙ none_given words
+
+pub value_next : (options next : Options) (word v : List ℕ) (words : List (List ℕ)) → is_option word ≡ true → bytes_eq word (codes "--flat") ≡ false
+    → Some next ≡ with_value options word v → given_of (Some options) (word ∷ v ∷ words) ≡ given_of (Some next) words
+value_next options next word v words dash other is = valued options word v words dash other ∙ ap (λ o. given_of o words) (sym is)
+
+pub value_wrong : (options : Options) (word v : List ℕ) (words : List (List ℕ)) → is_option word ≡ true → bytes_eq word (codes "--flat") ≡ false
+    → None ≡ with_value options word v → given_of (Some options) (word ∷ v ∷ words) ≡ None
+value_wrong options word v words dash other is = valued options word v words dash other ∙ ap (λ o. given_of o words) (sym is) ∙ none_given words

@@ -2,44 +2,46 @@
 use Rattle.std.proofs.Common.{◌≡◌, ℕ, ◌⊎◌, List, Option, None, refl, sym, subst, arith}
 use Rattle.llsc_base.specs.Sizes.{Numbers}
 use Rattle.llsc_base.specs.Images.{Program}
-use Rattle.llsc_base.specs.Flat.{flat_image}
 use Rattle.llsc_cli.specs.declared.threads.Ran.{Ran}
 use Rattle.llsc_cli.specs.Host.{AreBytes, Adds, AddsFront}
 use Rattle.llsc_cli.specs.Report.{report_of}
 use Rattle.llsc_cli.specs.Solo.{IsSoloEnd}
-use Rattle.llsc_cli.specs.Refusals.{solo_size, flat_refusal, Refuses}
-use Rattle.llsc_cli.specs.Answer.{status_of, AnswersBy, AnswersSolo, IsDone}
+use Rattle.llsc_cli.specs.declared.formats.Format.{Format}
+use Rattle.llsc_cli.specs.Programs.{image_of, program_refusal}
+use Rattle.llsc_cli.specs.Refusals.{solo_size, Refuses}
+use Rattle.llsc_cli.specs.Trace.{status_of}
+use Rattle.llsc_cli.specs.Answer.{AnswersSolo, IsDone, IsReported}
 use Rattle.llsc_cli.specs.Reads.{Ends}
-use Rattle.llsc_cli.proofs.Answering.{ends_done}
+use Rattle.llsc_cli.proofs.Answering.{ends_done, unless_none, unless_refused}
 
 -- a refusal
-pub solo_refused : (mem budget : ℕ) (file : List ℕ) (status : ℕ) (text : List ℕ) → Refuses (flat_refusal mem) file status text → AnswersSolo mem budget file status text
-solo_refused mem budget file status text refused =
-    subst (λ r. AnswersBy r (solo_size mem) budget file status text) (sym refused.1.0) refused.1.1
+pub solo_refused : (format : Format) (mem budget : ℕ) (file : List ℕ) (status : ℕ) (text : List ℕ) → Refuses (program_refusal format (solo_size mem)) file status text
+    → AnswersSolo format mem budget file status text
+solo_refused format mem budget file status text refused = unless_refused (IsReported (image_of format file (solo_size mem)) (solo_size mem) budget) (program_refusal format (solo_size mem) file) status text refused
 
 -- a run
-solo_run : (mem budget : ℕ) (file : List ℕ) (size : Numbers) (image : Program) (ran : Ran) (status : ℕ)
-    → flat_refusal mem file ≡ None → size ≡ solo_size mem → image ≡ flat_image file (solo_size mem)
-    → IsSoloEnd image size budget ran → status ≡ status_of ran.end.stop → AnswersSolo mem budget file status (report_of budget ran)
-solo_run mem budget file size image ran status clean same whole ends ended =
+solo_run : (format : Format) (mem budget : ℕ) (file : List ℕ) (size : Numbers) (image : Program) (ran : Ran) (status : ℕ)
+    → program_refusal format (solo_size mem) file ≡ None → size ≡ solo_size mem → image ≡ image_of format file (solo_size mem)
+    → IsSoloEnd image size budget ran → status ≡ status_of ran.end.stop → AnswersSolo format mem budget file status (report_of budget ran)
+solo_run format mem budget file size image ran status clean same whole ends ended =
     let sized : IsSoloEnd image (solo_size mem) budget ran = subst (λ s. IsSoloEnd image s budget ran) same ends in
-    let answer : AnswersBy None (solo_size mem) budget file status (report_of budget ran) = (ran, subst (λ i. IsSoloEnd i (solo_size mem) budget ran) whole sized, ended, refl) in
-    subst (λ r. AnswersBy r (solo_size mem) budget file status (report_of budget ran)) (sym clean) answer
+    unless_none (IsReported (image_of format file (solo_size mem)) (solo_size mem) budget) (program_refusal format (solo_size mem) file) status (report_of budget ran) clean
+    (ran, subst (λ i. IsSoloEnd i (solo_size mem) budget ran) whole sized, ended, refl)
 
 -- a run that is done has status 0 or 1
 done_by_run : (status : ℕ) → (status ≡ 0) ⊎ ((status ≡ 1) ⊎ ((status ≡ 5) ⊎ (status ≡ 6)))
     → IsDone status → (status ≡ 0) ⊎ (status ≡ 1)
 done_by_run status ended done = grind arith
 
-pub ends_run : {X : Type 0} (mem budget : ℕ) (file : List ℕ) (size : Numbers) (image : Program) (held old new : Option (List ℕ)) (status : ℕ)
-    → AreBytes held file → flat_refusal mem file ≡ None → size ≡ solo_size mem → image ≡ flat_image file (solo_size mem)
+pub ends_run : {X : Type 0} (format : Format) (mem budget : ℕ) (file : List ℕ) (size : Numbers) (image : Program) (held old new : Option (List ℕ)) (status : ℕ)
+    → AreBytes held file → program_refusal format (solo_size mem) file ≡ None → size ≡ solo_size mem → image ≡ image_of format file (solo_size mem)
     → (status ≡ 0) ⊎ ((status ≡ 1) ⊎ ((status ≡ 5) ⊎ (status ≡ 6)))
     → ((status ≡ 0) ⊎ (status ≡ 1) → (ran : Ran) × (IsSoloEnd image size budget ran × ((status ≡ status_of ran.end.stop) × Adds old new (report_of budget ran))))
     → (status ≡ 5 → (ran : Ran) × (IsSoloEnd image size budget ran × AddsFront old new (report_of budget ran)))
     → (status ≡ 6 → new ≡ old)
-    → Ends (AnswersSolo mem budget) held X old new status
-ends_run mem budget file size image held old new status bytes clean same whole ended done cut memory =
+    → Ends (AnswersSolo format mem budget) held X old new status
+ends_run format mem budget file size image held old new status bytes clean same whole ended done cut memory =
     ends_done held old new status file bytes (grind arith)
-    (λ d. let r = done (grind arith) in (report_of budget r.0, (solo_run mem budget file size image r.0 status clean same whole r.1.0 r.1.1.0, r.1.1.1)))
-    (λ five. let r = cut five in (status_of r.0.end.stop, report_of budget r.0, (solo_run mem budget file size image r.0 (status_of r.0.end.stop) clean same whole r.1.0 refl, r.1.1)))
+    (λ d. let r = done (grind arith) in (report_of budget r.0, (solo_run format mem budget file size image r.0 status clean same whole r.1.0 r.1.1.0, r.1.1.1)))
+    (λ five. let r = cut five in (status_of r.0.end.stop, report_of budget r.0, (solo_run format mem budget file size image r.0 (status_of r.0.end.stop) clean same whole r.1.0 refl, r.1.1)))
     memory

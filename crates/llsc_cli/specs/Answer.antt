@@ -1,71 +1,89 @@
 -- What a call of the program answers: a status and a text.
-use Rattle.std.specs.Prelude.{◌≡◌, ℕ, ◌==◌, ◌⊎◌, if◌then◌else◌, List, Option, Some, None}
+use Rattle.std.specs.Prelude.{◌≡◌, ◌≢◌, ℕ, ◌⊎◌, List, [], ◌∷◌, All, map, Option, Some, None}
 use Rattle.llsc_base.specs.Sizes.{Numbers}
-use Rattle.llsc_base.specs.Flat.{flat_image}
-use Rattle.a32_instr.specs.declared.outside.Stop.{Stop}
-use Rattle.a32_instr.specs.declared.outside.Stop.TheVariants as stop
+use Rattle.llsc_base.specs.Images.{Program}
+use Rattle.llsc_cli.specs.declared.formats.Format.{Format}
 use Rattle.llsc_cli.specs.declared.threads.Ran.{Ran}
 use Rattle.llsc_cli.specs.Solo.{IsSoloEnd}
 use Rattle.llsc_cli.specs.Report.{report_of}
 use Rattle.llsc_cli.specs.Host.{Rose, AreBytes, AddsFront}
-use Rattle.llsc_cli.specs.Request.{Request, Solo, Assemble, Disassemble, file_of}
+use Rattle.llsc_cli.specs.Request.{Request, Solo, Assemble, Disassemble, Trace, Check, files_of}
 use Rattle.llsc_cli.specs.Assembly.{asm_answer}
 use Rattle.llsc_cli.specs.Disassembly.{dis_answer}
-use Rattle.llsc_cli.specs.Refusals.{Answer, words_text, read_text, refusal_text, solo_size, size_refusal, flat_refusal}
+use Rattle.llsc_cli.specs.Trace.{status_of, AnswersTrace}
+use Rattle.llsc_cli.specs.Check.{AnswersCheck}
+use Rattle.llsc_cli.specs.Refusals.{Answer, words_text, read_text, machine_of, most_bytes, solo_size, size_refusal, too_long, Unless}
+use Rattle.llsc_cli.specs.Programs.{image_of, program_refusal}
 
--- 0 where the thread left by an exit call with code 0, else 1
-abbrev pub status_of : Stop → ℕ
-status_of (stop.Exit code) = if code == 0 then 0 else 1
-status_of _ = 1
+-- a run of a program's one thread, with the report and the status by its stop
+abbrev pub IsReported : Program → Numbers → ℕ → ℕ → List ℕ → Type 0
+IsReported program size budget status text =
+    (ran : Ran) × IsSoloEnd program size budget ran × (status ≡ status_of ran.end.stop) × (text ≡ report_of budget ran)
 
--- a file that is refused is answered with status 4 and the refusal; any other is run, and answered with the report
-abbrev pub AnswersBy : Option (List ℕ) → Numbers → ℕ → List ℕ → ℕ → List ℕ → Type 0
-AnswersBy (Some name) size budget file status text = (status ≡ 4) × (text ≡ refusal_text name)
-AnswersBy None size budget file status text =
-    (ran : Ran) × IsSoloEnd (flat_image file size) size budget ran × (status ≡ status_of ran.end.stop) × (text ≡ report_of budget ran)
-
--- the status and the text for so much memory, a budget and the bytes of the file
-abbrev pub AnswersSolo : ℕ → ℕ → List ℕ → ℕ → List ℕ → Type 0
-AnswersSolo mem budget file status text = AnswersBy (flat_refusal mem file) (solo_size mem) budget file status text
+-- the status and the text for a format, so much memory, a budget and the bytes of the file
+abbrev pub AnswersSolo : Format → ℕ → ℕ → List ℕ → ℕ → List ℕ → Type 0
+AnswersSolo format mem budget file status text =
+    let size = solo_size mem in
+    Unless (program_refusal format size file) (IsReported (image_of format file size) size budget) status text
 
 -- the status and the text are those of an answer
 abbrev pub Is : Answer → ℕ → List ℕ → Type 0
 Is answer status text = (status ≡ answer.status) × (text ≡ answer.text)
 
-abbrev pub AnswersAsm : List ℕ → ℕ → List ℕ → Type 0
-AnswersAsm file status text = Is (asm_answer file) status text
+abbrev pub AnswersAsm : Format → List ℕ → ℕ → List ℕ → Type 0
+AnswersAsm format file status text = Is (asm_answer format file) status text
 
-abbrev pub AnswersDis : ℕ → List ℕ → ℕ → List ℕ → Type 0
-AnswersDis mem file status text = Is (dis_answer mem file) status text
+abbrev pub AnswersDis : Format → ℕ → List ℕ → ℕ → List ℕ → Type 0
+AnswersDis format mem file status text = Is (dis_answer format mem file) status text
 
--- the status and the text for a request and the bytes of its file
-abbrev pub Answers : Request → List ℕ → ℕ → List ℕ → Type 0
-Answers (Solo name mem budget) file status text = AnswersSolo mem budget file status text
-Answers (Assemble name) file status text = AnswersAsm file status text
-Answers (Disassemble name mem) file status text = AnswersDis mem file status text
+-- the status and the text for a request and the bytes of its files, in the order of their names
+abbrev pub Answers : Request → List (List ℕ) → ℕ → List ℕ → Type 0
+Answers (Solo name format mem budget) (file ∷ []) status text = AnswersSolo format mem budget file status text
+Answers (Assemble name format) (file ∷ []) status text = AnswersAsm format file status text
+Answers (Disassemble name format mem) (file ∷ []) status text = AnswersDis format mem file status text
+Answers (Trace name format threads mem seed budget) (file ∷ []) status text = AnswersTrace format threads mem seed budget file status text
+Answers (Check name other format mem) (file ∷ recorded ∷ []) status text = AnswersCheck format mem file recorded status text
+Answers _ _ status text = ⊥
 
--- nothing stands against a request before its file is read
-abbrev pub IsRead : Request → Type 0
-IsRead (Solo name mem budget) = size_refusal mem ≡ None
-IsRead (Assemble name) = Unit {0}
-IsRead (Disassemble name mem) = size_refusal mem ≡ None
+-- these are bytes that the files of these names may hold, one for each
+abbrev pub AreFiles : (List ℕ → Option (List ℕ)) → (names files : List (List ℕ)) → Type 0
+AreFiles held [] [] = Unit {0}
+AreFiles held (name ∷ names) (file ∷ files) = AreBytes (held name) file × AreFiles held names files
+AreFiles held _ _ = ⊥
+
+-- these are the bytes that the files of these names are told to hold
+abbrev pub AreTold : (List ℕ → Option (List ℕ)) → (names files : List (List ℕ)) → Type 0
+AreTold held names files = map held names ≡ map Some files
+
+-- a name is none of these
+abbrev pub IsNoneOf : List (List ℕ) → List ℕ → Type 0
+IsNoneOf names name = All (λ other. name ≢ other) names
+
+-- A read of that name is due: the name is that of a request's file, and nothing stands against the request before that file
+-- is read. It may be that there is no machine, or for the second file that the first is too long.
+abbrev pub IsDue : (List ℕ → Option (List ℕ)) → Request → List ℕ → Type 0
+IsDue held (Solo file format mem budget) name = (name ≡ file) × (size_refusal (solo_size mem) ≡ None)
+IsDue held (Assemble file format) name = name ≡ file
+IsDue held (Disassemble file format mem) name = (name ≡ file) × (size_refusal (solo_size mem) ≡ None)
+IsDue held (Trace file format threads mem seed budget) name = (name ≡ file) × (size_refusal (machine_of threads mem) ≡ None)
+IsDue held (Check file recorded format mem) name =
+    (name ≡ file) ⊎ ((name ≡ recorded) × ((bytes : List ℕ) × (AreBytes (held file) bytes × (too_long most_bytes bytes ≡ None))))
 
 -- the statuses of an answer that was given whole
 abbrev pub IsDone : ℕ → Type 0
-IsDone status = (status ≡ 0) ⊎ ((status ≡ 1) ⊎ (status ≡ 4))
+IsDone status = (status ≡ 0) ⊎ ((status ≡ 1) ⊎ ((status ≡ 4) ⊎ (status ≡ 7)))
 
--- a request is answered so, by bytes that its file may hold
+-- a request is answered so, by bytes that its files may hold
 abbrev pub IsAnswer : (List ℕ → Option (List ℕ)) → Option Request → ℕ → List ℕ → Type 0
 IsAnswer held request status text =
-    (asked : Request) × (file : List ℕ)
-    × ((request ≡ Some asked) × (AreBytes (held (file_of asked)) file × Answers asked file status text))
+    (asked : Request) × (files : List (List ℕ))
+    × ((request ≡ Some asked) × (AreFiles held (files_of asked) files × Answers asked files status text))
 
--- the read of the request's file failed: the count rose, the name of the last failed read is the request's, and nothing
--- stood against reading it
-abbrev pub ReadFailed : Option Request → ℕ → ℕ → List ℕ → Type 0
-ReadFailed request faults_before faults_after lost =
+-- the read of a request's file failed: the count rose, and the read of the name of the last failed read was due
+abbrev pub ReadFailed : (List ℕ → Option (List ℕ)) → Option Request → ℕ → ℕ → List ℕ → Type 0
+ReadFailed held request faults_before faults_after lost =
     Rose faults_before faults_after
-    × ((asked : Request) × ((request ≡ Some asked) × ((lost ≡ file_of asked) × IsRead asked)))
+    × ((asked : Request) × ((request ≡ Some asked) × IsDue held asked lost))
 
 -- a front was written of the text that answers the words, of one that answers the request, or after a failed read of
 -- the text that says so

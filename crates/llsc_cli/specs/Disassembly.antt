@@ -2,11 +2,12 @@
 use Rattle.std.specs.Prelude.{◌≡◌, ℕ, ◌*◌, ◌/◌, List, [], ◌++◌, length, Option, Some, None, codes}
 use Rattle.std.specs.List.{flat_map, range_with_len}
 use Rattle.llsc_base.specs.Images.{Program, word_at}
-use Rattle.llsc_base.specs.Flat.{flat_image}
 use Rattle.number_text.specs.Hexadecimal.{word_text}
 use Rattle.a32_asm.specs.Shown.{shown_word}
 use Rattle.llsc_cli.specs.Host.{Adds}
-use Rattle.llsc_cli.specs.Refusals.{Answer, solo_size, flat_refusal, unless}
+use Rattle.llsc_cli.specs.declared.formats.Format.{Format}
+use Rattle.llsc_cli.specs.Programs.{image_of, program_refusal}
+use Rattle.llsc_cli.specs.Refusals.{Answer, solo_size, unless}
 
 -- the line of a word at an address: both as digits, and what the word means there
 abbrev pub head_text : ℕ → ℕ → List ℕ
@@ -32,8 +33,9 @@ abbrev pub disassembly : Program → List ℕ
 disassembly program = lines_of program (length program.bytes / 4)
 
 -- the status and the text
-abbrev pub dis_answer : ℕ → List ℕ → Answer
-dis_answer mem file = unless (flat_refusal mem file) (record { status = 0; text = disassembly (flat_image file (solo_size mem)) })
+abbrev pub dis_answer : Format → ℕ → List ℕ → Answer
+dis_answer format mem file =
+    unless (program_refusal format (solo_size mem) file) (record { status = 0; text = disassembly (image_of format file (solo_size mem)) })
 
 -- some of a text was written, and the rest stands on a page
 abbrev pub Holds : (old new : Option (List ℕ)) (page text : List ℕ) → Type 0

@@ -1,6 +1,7 @@
 pub mod Host
 pub mod MemoryHost
 pub mod MemoryHostInside
+pub mod Options
 pub mod Request
 pub mod Serving
 pub mod Solo
@@ -9,7 +10,10 @@ pub mod Calls
 pub mod Report
 pub mod ReportText
 pub mod Refusals
+pub mod Programs
 pub mod Assembly
 pub mod Disassembly
+pub mod Trace
+pub mod Check
 pub mod Answer
 pub mod Reads

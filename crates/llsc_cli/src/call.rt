@@ -1,9 +1,9 @@
 //! The top call: words and files in, a status and a text out.
 ghost use Rattle.std.specs.Prelude.{◌≡◌, ◌≢◌, ◌⊎◌, ℕ, List, map, string_bytes, None, Some};
 ghost use Rattle.llsc_cli.specs.Host.{Adds, Rose};
-ghost use Rattle.llsc_cli.specs.Request.{Request, request_of, file_of};
+ghost use Rattle.llsc_cli.specs.Request.{Request, request_of, files_of};
 ghost use Rattle.llsc_cli.specs.Refusals.{words_text, read_text};
-ghost use Rattle.llsc_cli.specs.Answer.{Answers, IsDone, IsAnswer, ReadFailed, IsCut};
+ghost use Rattle.llsc_cli.specs.Answer.{Answers, AreTold, IsDone, IsNoneOf, IsAnswer, ReadFailed, IsCut};
 
 use crate::commands;
 use crate::ended::{Ended, say};
@@ -23,21 +23,21 @@ pub fn llsc<H: Host>(alloc: Global, words: &[String], host: &mut H) -> Ended
     ensures words { result.status ≡ 2 →
         (request_of (map string_bytes words.now) ≡ None) × Adds (H.written host.old) (H.written host.new) words_text }
 
-    // A request is answered by what its file holds.
+    // A request is answered by what its files hold.
     ensures done { IsDone result.status → (text : List ℕ) ×
         (IsAnswer (H.file host.old) (request_of (map string_bytes words.now)) result.status text × Adds (H.written host.old) (H.written host.new) text) }
-    ensures complete { (asked : Request) (file : List ℕ) → request_of (map string_bytes words.now) ≡ Some asked → H.file host.old (file_of asked) ≡ Some file
+    ensures complete { (asked : Request) (files : List (List ℕ)) → request_of (map string_bytes words.now) ≡ Some asked → AreTold (H.file host.old) (files_of asked) files
         → (Rose (H.write_faults host.old) (H.write_faults host.new) → ⊥)
-        → (Rose (H.read_faults host.old) (H.read_faults host.new) → ⊥) ⊎ (H.lost host.new ≢ file_of asked)
-        → (result.status ≡ 6) ⊎ ((text : List ℕ) × (Answers asked file result.status text × Adds (H.written host.old) (H.written host.new) text)) }
+        → (Rose (H.read_faults host.old) (H.read_faults host.new) → ⊥) ⊎ IsNoneOf (files_of asked) (H.lost host.new)
+        → (result.status ≡ 6) ⊎ ((text : List ℕ) × (Answers asked files result.status text × Adds (H.written host.old) (H.written host.new) text)) }
 
     // A failure of the host is answered as one only where the host had it in this call.
     ensures read { result.status ≡ 3 →
-        ReadFailed (request_of (map string_bytes words.now)) (H.read_faults host.old) (H.read_faults host.new) (H.lost host.new)
+        ReadFailed (H.file host.old) (request_of (map string_bytes words.now)) (H.read_faults host.old) (H.read_faults host.new) (H.lost host.new)
         × Adds (H.written host.old) (H.written host.new) read_text }
     ensures write { result.status ≡ 5 → Rose (H.write_faults host.old) (H.write_faults host.new) }
     ensures cut { result.status ≡ 5 → IsCut (H.file host.old) (request_of (map string_bytes words.now))
-        (ReadFailed (request_of (map string_bytes words.now)) (H.read_faults host.old) (H.read_faults host.new) (H.lost host.new))
+        (ReadFailed (H.file host.old) (request_of (map string_bytes words.now)) (H.read_faults host.old) (H.read_faults host.new) (H.lost host.new))
         (H.written host.old) (H.written host.new) }
 
     // And each failure that the host had in this call is answered as one.

@@ -1,18 +1,31 @@
 //! How a call ends, and the texts of one write.
-ghost use Rattle.std.specs.Prelude.{◌≡◌, ◌≢◌, ◌<◌, ◌⊎◌};
+ghost use Rattle.std.specs.Prelude.{◌≡◌, ◌≢◌, ◌⊎◌};
 ghost use Rattle.llsc_cli.specs.Host.{Adds, AddsFront, Rose};
 ghost use Rattle.llsc_cli.specs.Refusals.{refusal_text};
+ghost use Rattle.llsc_cli.specs.Trace.{status_of};
 
 use crate::host::Host;
+use a32_step::Stop;
 use std::alloc::Global;
 
 /// How a call ended.
 #[derive(Clone, Copy, Debug, PartialEq, Eq)]
 pub struct Ended {
-    /// 0: the answer is written whole, and a thread left with code 0; 1: a thread stopped otherwise; 2: the
-    /// words are refused; 3: the file could not be read; 4: the file is refused; 5: a write failed; 6: want of
-    /// memory.
+    /// 0: the answer is written whole, and each thread left with code 0 or the record is good; 1: a thread stopped
+    /// otherwise; 2: the words are refused; 3: a file could not be read; 4: the size or a file is refused, or the trace
+    /// is too long; 5: a write failed; 6: want of memory; 7: the record is bad.
     pub status: u8,
+}
+
+/// 0 where a thread left by an exit call with code 0, else 1.
+pub fn status(stop: Stop) -> u8
+    ensures value { result ≡ status_of stop }
+    ensures bound { (result ≡ 0) ⊎ (result ≡ 1) }
+{
+    match stop {
+        Stop::Exit(0) => 0,
+        _ => 1,
+    }
 }
 
 /// Want of memory.
@@ -24,7 +37,7 @@ pub fn out_of_memory() -> Ended
 
 /// Writes a text by one write, and ends with the status, or with 5 where the write failed.
 pub fn say<H: Host>(host: &mut H, text: &[u8], status: u8) -> Ended
-    requires { status < 5 }
+    requires { status ≢ 5 }
     ensures ended { (result.status ≡ status) ⊎ (result.status ≡ 5) }
     ensures said { result.status ≡ status → Adds (H.written host.old) (H.written host.new) text.now }
     ensures cut { result.status ≡ 5 → Rose (H.write_faults host.old) (H.write_faults host.new) × AddsFront (H.written host.old) (H.written host.new) text.now }

@@ -1,19 +1,21 @@
-//! The file of a call: had, or refused.
-ghost use Rattle.std.specs.Prelude.{◌≡◌, ◌≢◌, codes, ◌<◌, ◌≤◌, ◌⊎◌, List, ℕ, None, Some, IfOk, OnOk, IfErr, OnErr, length};
-ghost use Rattle.llsc_base.specs.Flat.{flat_fault_name, flat_image};
+//! The files of a call: had, or refused.
+ghost use Rattle.std.specs.Prelude.{◌≡◌, ◌≢◌, codes, ◌<◌, ◌≤◌, ◌⊎◌, List, ℕ, None, Some, IfOk, OnOk, IfErr, OnErr, IsTrue, length};
 ghost use Rattle.llsc_cli.specs.Host.{Adds, AddsFront, AreBytes, Rose};
-ghost use Rattle.llsc_cli.specs.Refusals.{read_text, refusal_text, too_long, most_bytes, solo_size, size_refusal, flat_refusal, flat_refusal_on, Refuses};
-ghost use Rattle.llsc_cli.specs.Reads.{CutAfter, Ends};
+ghost use Rattle.llsc_cli.specs.Refusals.{machine_of, read_text, refusal_text, too_long, most_bytes, size_refusal, Refusal, Refuses};
+ghost use Rattle.llsc_cli.specs.Programs.{fault_name, image_of, is_wanting, program_refusal, refusal_on};
+ghost use Rattle.llsc_cli.specs.Reads.{Answered, CutAfter, Ends};
 
 use crate::ended::{Ended, out_of_memory, refuse, say};
+use crate::formats::Format;
 use crate::host::{Host, ReadFault};
-use llsc_base::{FlatFault, Image, MachineSize};
+use crate::programs::{ProgramFault, image_of};
+use llsc_base::{Image, MachineSize};
 use std::alloc::Global;
 
 /// The most bytes of a program file.
-const MOST_BYTES: usize = 33_554_432;
+pub const MOST_BYTES: usize = 33_554_432;
 
-/// The classes of rows of a machine of one thread, and the most writes of one.
+/// The classes of rows of a machine, and the most writes of one.
 const CLASSES: u64 = 4096;
 
 const MOST_WRITES: u64 = 1 << 62;
@@ -50,6 +52,7 @@ pub fn read<H: Host>(alloc: Global, host: &mut H, name: &str, most: usize) -> Re
     ensures within { IfOk result (λ file. length file.items ≤ most) }
     ensures silent { OnOk result (H.written host.new ≡ H.written host.old) }
     ensures unfailed { OnOk result ((H.read_faults host.new ≡ H.read_faults host.old) × (H.write_faults host.new ≡ H.write_faults host.old)) }
+    ensures files { OnOk result (H.file host.new ≡ H.file host.old) }
     ensures ends { IfErr result (λ ended. Ends (Refuses (too_long most)) (H.file host.old name.now)
         (Rose (H.read_faults host.old) (H.read_faults host.new) × (H.lost host.new ≡ name.now)) (H.written host.old) (H.written host.new) ended.status) }
     ensures write { IfErr result (λ ended. ended.status ≡ 5 → Rose (H.write_faults host.old) (H.write_faults host.new)) }
@@ -65,88 +68,124 @@ pub fn read<H: Host>(alloc: Global, host: &mut H, name: &str, most: usize) -> Re
     }
 }
 
-/// Says that a flat file is refused.
-fn refuse_flat<H: Host>(alloc: Global, host: &mut H, fault: FlatFault) -> Ended
+/// Says that a program's file is refused.
+fn refuse_program<H: Host>(alloc: Global, host: &mut H, fault: ProgramFault) -> Ended
     ensures ended { (result.status ≡ 4) ⊎ ((result.status ≡ 5) ⊎ (result.status ≡ 6)) }
-    ensures memory_alone { fault ≡ FlatFault.Memory → result.status ≡ 6 }
-    ensures said { result.status ≡ 4 → Adds (H.written host.old) (H.written host.new) (refusal_text (flat_fault_name fault)) }
-    ensures cut { result.status ≡ 5 → Rose (H.write_faults host.old) (H.write_faults host.new) × AddsFront (H.written host.old) (H.written host.new) (refusal_text (flat_fault_name fault)) }
+    ensures memory_alone { IsTrue (is_wanting fault) → result.status ≡ 6 }
+    ensures said { result.status ≡ 4 → Adds (H.written host.old) (H.written host.new) (refusal_text (fault_name fault)) }
+    ensures cut { result.status ≡ 5 → Rose (H.write_faults host.old) (H.write_faults host.new) × AddsFront (H.written host.old) (H.written host.new) (refusal_text (fault_name fault)) }
     ensures memory { result.status ≡ 6 → H.written host.new ≡ H.written host.old }
     ensures write_answered { result.status ≢ 5 → H.write_faults host.new ≡ H.write_faults host.old }
     ensures files { H.file host.new ≡ H.file host.old }
     ensures read_faults { H.read_faults host.new ≡ H.read_faults host.old }
     ensures lost { H.lost host.new ≡ H.lost host.old }
 {
-    if fault == FlatFault::Memory {
+    if fault.is_wanting() {
         return out_of_memory();
     }
     refuse(alloc, host, fault.name())
 }
 
-/// The image of a flat file on a machine.
+/// The image of a program's file on a machine.
 ///
 /// # Errors
 ///
 /// How the call ended, which then has no more to answer.
-#[tactic(auto, using(crate::proofs::FlatImages::flat_sized))]
-fn image_of<H: Host>(
+#[tactic(auto, using(crate::proofs::Images::image_sized))]
+pub fn image_on<H: Host>(
     alloc: Global,
     host: &mut H,
+    format: Format,
     size: &MachineSize,
     file: &[u8],
 ) -> Result<Image, Ended>
-    ensures sound { IfOk result (λ image. flat_refusal_on size.now file.now ≡ None) }
-    ensures image { IfOk result (λ image. image ≡ flat_image file.now size.now) }
+    ensures sound { IfOk result (λ image. refusal_on format size.now file.now ≡ None) }
+    ensures image { IfOk result (λ image. image ≡ image_of format file.now size.now) }
     ensures whole { IfOk result (λ image. length image.bytes ≡ size.now.mem) }
     ensures silent { OnOk result (H.written host.new ≡ H.written host.old) }
     ensures written { OnOk result (H.write_faults host.new ≡ H.write_faults host.old) }
-    ensures ends { IfErr result (λ ended. Ends (Refuses (flat_refusal_on size.now)) (Some file.now) ⊥ (H.written host.old) (H.written host.new) ended.status) }
+    ensures refused { IfErr result (λ ended. Answered (Refusal (refusal_on format size.now file.now)) (H.written host.old) (H.written host.new) ended.status) }
     ensures write { IfErr result (λ ended. ended.status ≡ 5 → Rose (H.write_faults host.old) (H.write_faults host.new)) }
     ensures write_answered { IfErr result (λ ended. ended.status ≢ 5 → H.write_faults host.new ≡ H.write_faults host.old) }
     ensures files { H.file host.new ≡ H.file host.old }
     ensures read_faults { H.read_faults host.new ≡ H.read_faults host.old }
     ensures lost { H.lost host.new ≡ H.lost host.old }
 {
-    match Image::flat(alloc, file, size) {
+    match image_of(alloc, format, size, file) {
         Ok(image) => Ok(image),
-        Err(fault) => Err(refuse_flat(alloc, host, fault)),
+        Err(fault) => Err(refuse_program(alloc, host, fault)),
     }
 }
 
-/// A machine of one thread, and the image of its program.
+/// The machine of so many threads with so much memory.
+///
+/// # Errors
+///
+/// How the call ended, which then has no more to answer.
+pub fn machine<H: Host>(
+    alloc: Global,
+    host: &mut H,
+    threads: u64,
+    mem: u64,
+) -> Result<MachineSize, Ended>
+    ensures size { IfOk result (λ size. (size ≡ machine_of threads mem) × (size_refusal (machine_of threads mem) ≡ None)) }
+    ensures written { OnOk result (H.written host.new ≡ H.written host.old) }
+    ensures write_faults { OnOk result (H.write_faults host.new ≡ H.write_faults host.old) }
+    ensures refused { IfErr result (λ ended. Answered (Refusal (size_refusal (machine_of threads mem))) (H.written host.old) (H.written host.new) ended.status) }
+    ensures write { IfErr result (λ ended. ended.status ≡ 5 → Rose (H.write_faults host.old) (H.write_faults host.new)) }
+    ensures write_answered { IfErr result (λ ended. ended.status ≢ 5 → H.write_faults host.new ≡ H.write_faults host.old) }
+    ensures files { H.file host.new ≡ H.file host.old }
+    ensures read_faults { H.read_faults host.new ≡ H.read_faults host.old }
+    ensures lost { H.lost host.new ≡ H.lost host.old }
+{
+    match MachineSize::new(mem, threads, CLASSES, MOST_WRITES) {
+        Ok(size) => Ok(size),
+        Err(fault) => Err(refuse(alloc, host, fault.name())),
+    }
+}
+
+/// A machine, and the image of its program.
 #[derive(Drop)]
 pub struct Loaded {
     pub size: MachineSize,
     pub image: Image,
 }
 
-/// The machine of one thread with so much memory, and the image of a flat file on it.
+/// The machine of so many threads with so much memory, and the image of a program's file on it.
 ///
 /// # Errors
 ///
 /// How the call ended, which then has no more to answer.
-pub fn load<H: Host>(alloc: Global, host: &mut H, mem: u64, name: &str) -> Result<Loaded, Ended>
-    ensures size { IfOk result (λ loaded. loaded.size ≡ solo_size mem) }
+pub fn load<H: Host>(
+    alloc: Global,
+    host: &mut H,
+    threads: u64,
+    mem: u64,
+    name: &str,
+    format: Format,
+) -> Result<Loaded, Ended>
+    ensures size { IfOk result (λ loaded. loaded.size ≡ machine_of threads mem) }
     ensures image { IfOk result (λ loaded. (file : List ℕ) × (AreBytes (H.file host.old name.now) file
-        × ((flat_refusal mem file ≡ None) × (loaded.image ≡ flat_image file (solo_size mem))))) }
+        × ((program_refusal format (machine_of threads mem) file ≡ None) × (loaded.image ≡ image_of format file (machine_of threads mem))))) }
     ensures whole { IfOk result (λ loaded. length loaded.image.bytes ≡ loaded.size.mem) }
     ensures silent { OnOk result (H.written host.new ≡ H.written host.old) }
     ensures unfailed { OnOk result ((H.read_faults host.new ≡ H.read_faults host.old) × (H.write_faults host.new ≡ H.write_faults host.old)) }
-    ensures ends { IfErr result (λ ended. Ends (Refuses (flat_refusal mem)) (H.file host.old name.now)
-        (Rose (H.read_faults host.old) (H.read_faults host.new) × (H.lost host.new ≡ name.now) × (size_refusal mem ≡ None)) (H.written host.old) (H.written host.new) ended.status) }
+    ensures ends { IfErr result (λ ended. Ends (Refuses (program_refusal format (machine_of threads mem))) (H.file host.old name.now)
+        (Rose (H.read_faults host.old) (H.read_faults host.new) × (H.lost host.new ≡ name.now) × (size_refusal (machine_of threads mem) ≡ None))
+        (H.written host.old) (H.written host.new) ended.status) }
     ensures write { IfErr result (λ ended. ended.status ≡ 5 → Rose (H.write_faults host.old) (H.write_faults host.new)) }
     ensures write_answered { IfErr result (λ ended. ended.status ≢ 5 → H.write_faults host.new ≡ H.write_faults host.old) }
     ensures read_answered { IfErr result (λ ended. ended.status ≢ 3 → ended.status ≢ 5 → H.read_faults host.new ≡ H.read_faults host.old) }
 {
-    let size = match MachineSize::new(mem, 1, CLASSES, MOST_WRITES) {
+    let size = match machine(alloc, host, threads, mem) {
         Ok(size) => size,
-        Err(fault) => return Err(refuse(alloc, host, fault.name())),
+        Err(ended) => return Err(ended),
     };
     let file = match read(alloc, host, name, MOST_BYTES) {
         Ok(file) => file,
         Err(ended) => return Err(ended),
     };
-    match image_of(alloc, host, &size, file.as_slice()) {
+    match image_on(alloc, host, format, &size, file.as_slice()) {
         Ok(image) => Ok(Loaded { size, image }),
         Err(ended) => Err(ended),
     }

@@ -1,14 +1,16 @@
-//! `asm`: a program from its text, as a flat image.
+//! `asm`: a program from its text, as a file.
 ghost use Rattle.std.specs.Prelude.{◌≡◌, ◌≢◌, None, IfOk, string_bytes};
 ghost use Rattle.a32_asm.specs.Assembled.{most_text};
+ghost use Rattle.elf32.specs.Units.{code_bytes, IsWithin};
 ghost use Rattle.llsc_cli.specs.Host.{Rose};
 ghost use Rattle.llsc_cli.specs.Refusals.{refused, too_long};
-ghost use Rattle.llsc_cli.specs.Assembly.{asm_answer, code_bytes, fault_name, unit_answer};
+ghost use Rattle.llsc_cli.specs.Assembly.{asm_answer, fault_name, has_data, unit_answer, unit_file};
 ghost use Rattle.llsc_cli.specs.Answer.{AnswersAsm};
 ghost use Rattle.llsc_cli.specs.Reads.{Ends, Gives};
 
 use crate::ended::{Ended, out_of_memory, refuse, say};
 use crate::files::read;
+use crate::formats::Format;
 use crate::host::Host;
 use a32_asm::{AsmFault, AsmKind, assemble};
 use elf32::Unit;
@@ -29,19 +31,38 @@ fn code_bytes(alloc: Global, words: &[u32]) -> Result<Vec<u8>, AllocError>
     Ok(bytes)
 }
 
-/// Writes the code of a program that has no data.
-fn write_unit<H: Host>(alloc: Global, host: &mut H, unit: &Unit) -> Ended
-    ensures gives { Gives (unit_answer unit.now) (H.written host.old) (H.written host.new) result.status }
+/// The file of a program. A flat image is the code alone.
+fn file_of(alloc: Global, format: Format, unit: &Unit) -> Result<Vec<u8>, AllocError>
+    requires { IsWithin unit.now }
+    ensures { IfOk result (λ bytes. bytes.items ≡ unit_file format unit.now) }
+{
+    match format {
+        Format::Elf => elf32::write(alloc, unit),
+        Format::Flat => code_bytes(alloc, unit.words.as_slice()),
+    }
+}
+
+/// Whether a program has data, or space for it.
+fn has_data(unit: &Unit) -> bool
+    ensures { result ≡ has_data unit.now }
+{
+    unit.bytes.as_slice().len() > 0 || unit.space > 0
+}
+
+/// Writes the file of a program, unless it is to be a flat image and has data.
+fn write_unit<H: Host>(alloc: Global, host: &mut H, format: Format, unit: &Unit) -> Ended
+    requires { IsWithin unit.now }
+    ensures gives { Gives (unit_answer format unit.now) (H.written host.old) (H.written host.new) result.status }
     ensures write { result.status ≡ 5 → Rose (H.write_faults host.old) (H.write_faults host.new) }
     ensures write_answered { result.status ≢ 5 → H.write_faults host.new ≡ H.write_faults host.old }
     ensures files { H.file host.new ≡ H.file host.old }
     ensures read_faults { H.read_faults host.new ≡ H.read_faults host.old }
     ensures lost { H.lost host.new ≡ H.lost host.old }
 {
-    if unit.bytes.as_slice().len() > 0 || unit.space > 0 {
+    if format == Format::Flat && has_data(unit) {
         return refuse(alloc, host, "FlatData");
     }
-    match code_bytes(alloc, unit.words.as_slice()) {
+    match file_of(alloc, format, unit) {
         Ok(bytes) => say(host, bytes.as_slice(), 0),
         Err(_) => out_of_memory(),
     }
@@ -74,9 +95,9 @@ fn refuse_text<H: Host>(alloc: Global, host: &mut H, fault: AsmFault) -> Ended
 }
 
 /// Answers for the bytes of a text's file.
-fn respond<H: Host>(alloc: Global, host: &mut H, file: &[u8]) -> Ended
+fn respond<H: Host>(alloc: Global, host: &mut H, file: &[u8], format: Format) -> Ended
     requires { too_long most_text file.now ≡ None }
-    ensures gives { Gives (asm_answer file.now) (H.written host.old) (H.written host.new) result.status }
+    ensures gives { Gives (asm_answer format file.now) (H.written host.old) (H.written host.new) result.status }
     ensures write { result.status ≡ 5 → Rose (H.write_faults host.old) (H.write_faults host.new) }
     ensures write_answered { result.status ≢ 5 → H.write_faults host.new ≡ H.write_faults host.old }
     ensures files { H.file host.new ≡ H.file host.old }
@@ -87,14 +108,14 @@ fn respond<H: Host>(alloc: Global, host: &mut H, file: &[u8]) -> Ended
         return refuse(alloc, host, "NotText");
     };
     match assemble(alloc, text) {
-        Ok(unit) => write_unit(alloc, host, &unit),
+        Ok(unit) => write_unit(alloc, host, format, &unit),
         Err(fault) => refuse_text(alloc, host, fault),
     }
 }
 
-/// Assembles the file of a name.
-pub fn answer<H: Host>(alloc: Global, host: &mut H, file: &str) -> Ended
-    ensures ends { Ends AnswersAsm (H.file host.old file.now)
+/// Assembles the text of a name as a file of a format.
+pub fn answer<H: Host>(alloc: Global, host: &mut H, file: &str, format: Format) -> Ended
+    ensures ends { Ends (AnswersAsm format) (H.file host.old file.now)
         (Rose (H.read_faults host.old) (H.read_faults host.new) × (H.lost host.new ≡ file.now))
         (H.written host.old) (H.written host.new) result.status }
     ensures write { result.status ≡ 5 → Rose (H.write_faults host.old) (H.write_faults host.new) }
@@ -102,7 +123,7 @@ pub fn answer<H: Host>(alloc: Global, host: &mut H, file: &str) -> Ended
     ensures read_answered { result.status ≢ 3 → result.status ≢ 5 → H.read_faults host.new ≡ H.read_faults host.old }
 {
     match read(alloc, host, file, MOST_TEXT) {
-        Ok(bytes) => respond(alloc, host, bytes.as_slice()),
+        Ok(bytes) => respond(alloc, host, bytes.as_slice(), format),
         Err(ended) => ended,
     }
 }

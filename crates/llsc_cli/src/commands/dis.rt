@@ -1,14 +1,15 @@
-//! `dis`: a flat image, word by word.
+//! `dis`: an image, word by word.
 ghost use Rattle.std.specs.Prelude.{◌≡◌, ◌≢◌, ◌+◌, ◌%◌, ◌<◌, ◌≤◌, ◌++◌, [], length, codes, None, OnOk, OnErr};
 ghost use Rattle.number_text.specs.Hexadecimal.{word_text};
 ghost use Rattle.llsc_cli.specs.Host.{Adds, AddsFront, Rose};
-ghost use Rattle.llsc_cli.specs.Refusals.{size_refusal};
+ghost use Rattle.llsc_cli.specs.Refusals.{size_refusal, solo_size};
 ghost use Rattle.llsc_cli.specs.Disassembly.{disassembly, head_text, line_at, word_line, Holds};
 ghost use Rattle.llsc_cli.specs.Answer.{AnswersDis};
 ghost use Rattle.llsc_cli.specs.Reads.{Ends, Gives};
 
 use crate::ended::{Ended, out_of_memory};
 use crate::files::load;
+use crate::formats::Format;
 use crate::host::{Failed, Host};
 use crate::pages::Page;
 use a32_asm::disassemble;
@@ -153,16 +154,16 @@ fn show<H: Host>(alloc: Global, host: &mut H, image: &Image) -> Ended
     }
 }
 
-/// Disassembles the flat file of a name in so much memory.
-pub fn answer<H: Host>(alloc: Global, host: &mut H, file: &str, mem: u64) -> Ended
-    ensures ends { Ends (AnswersDis mem) (H.file host.old file.now)
-        (Rose (H.read_faults host.old) (H.read_faults host.new) × (H.lost host.new ≡ file.now) × (size_refusal mem ≡ None))
+/// Disassembles the file of a name in so much memory.
+pub fn answer<H: Host>(alloc: Global, host: &mut H, file: &str, format: Format, mem: u64) -> Ended
+    ensures ends { Ends (AnswersDis format mem) (H.file host.old file.now)
+        (Rose (H.read_faults host.old) (H.read_faults host.new) × (H.lost host.new ≡ file.now) × (size_refusal (solo_size mem) ≡ None))
         (H.written host.old) (H.written host.new) result.status }
     ensures write { result.status ≡ 5 → Rose (H.write_faults host.old) (H.write_faults host.new) }
     ensures write_answered { result.status ≢ 5 → H.write_faults host.new ≡ H.write_faults host.old }
     ensures read_answered { result.status ≢ 3 → result.status ≢ 5 → H.read_faults host.new ≡ H.read_faults host.old }
 {
-    match load(alloc, host, mem, file) {
+    match load(alloc, host, 1, mem, file, format) {
         Ok(loaded) => show(alloc, host, &loaded.image),
         Err(ended) => ended,
     }

@@ -3,29 +3,19 @@ ghost use Rattle.std.specs.Prelude.{◌≡◌, ◌≢◌, ◌≤◌, ◌⊎◌, 
 ghost use Rattle.llsc_cli.specs.Host.{Adds, AddsFront, Rose};
 ghost use Rattle.llsc_cli.specs.Report.{report_of};
 ghost use Rattle.llsc_cli.specs.Solo.{IsSoloEnd};
-ghost use Rattle.llsc_cli.specs.Refusals.{size_refusal};
-ghost use Rattle.llsc_cli.specs.Answer.{status_of, AnswersSolo};
+ghost use Rattle.llsc_cli.specs.Refusals.{size_refusal, solo_size};
+ghost use Rattle.llsc_cli.specs.Trace.{status_of};
+ghost use Rattle.llsc_cli.specs.Answer.{AnswersSolo};
 ghost use Rattle.llsc_cli.specs.Reads.{Ends};
 
-use crate::ended::{Ended, out_of_memory};
+use crate::ended::{Ended, out_of_memory, status};
 use crate::files::load;
+use crate::formats::Format;
 use crate::host::Host;
 use crate::report::Report;
 use crate::threads::{Ran, solo};
-use a32_step::Stop;
 use llsc_base::{Image, MachineSize};
 use std::alloc::Global;
-
-/// 0 where the thread left by an exit call with code 0, else 1.
-fn status(stop: Stop) -> u8
-    ensures value { result ≡ status_of stop }
-    ensures bound { (result ≡ 0) ⊎ (result ≡ 1) }
-{
-    match stop {
-        Stop::Exit(0) => 0,
-        _ => 1,
-    }
-}
 
 /// Runs an image and writes the report.
 fn run<H: Host>(
@@ -64,17 +54,24 @@ fn run<H: Host>(
     }
 }
 
-/// Runs the flat file of a name on a machine of one thread with so much memory.
-pub fn answer<H: Host>(alloc: Global, host: &mut H, file: &str, mem: u64, budget: u64) -> Ended
+/// Runs the file of a name on a machine of one thread with so much memory.
+pub fn answer<H: Host>(
+    alloc: Global,
+    host: &mut H,
+    file: &str,
+    format: Format,
+    mem: u64,
+    budget: u64,
+) -> Ended
     requires { budget ≤ 1000000000000 }
-    ensures ends { Ends (AnswersSolo mem budget) (H.file host.old file.now)
-        (Rose (H.read_faults host.old) (H.read_faults host.new) × (H.lost host.new ≡ file.now) × (size_refusal mem ≡ None))
+    ensures ends { Ends (AnswersSolo format mem budget) (H.file host.old file.now)
+        (Rose (H.read_faults host.old) (H.read_faults host.new) × (H.lost host.new ≡ file.now) × (size_refusal (solo_size mem) ≡ None))
         (H.written host.old) (H.written host.new) result.status }
     ensures write { result.status ≡ 5 → Rose (H.write_faults host.old) (H.write_faults host.new) }
     ensures write_answered { result.status ≢ 5 → H.write_faults host.new ≡ H.write_faults host.old }
     ensures read_answered { result.status ≢ 3 → result.status ≢ 5 → H.read_faults host.new ≡ H.read_faults host.old }
 {
-    match load(alloc, host, mem, file) {
+    match load(alloc, host, 1, mem, file, format) {
         Ok(loaded) => run(alloc, host, &loaded.size, budget, &loaded.image),
         Err(ended) => ended,
     }

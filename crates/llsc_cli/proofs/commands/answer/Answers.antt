@@ -1,7 +1,40 @@
+use Rattle.std.proofs.Common.{refl}
+use Rattle.llsc_cli.specs.Request.{Solo, Assemble, Disassemble, Trace}
+use Rattle.llsc_cli.proofs.Asked.{ends_one}
 use Rattle.llsc_cli.proofs.commands.answer.Goals as goal
 
 pub returns-in-Solo-clause-ends : goal.returns-in-Solo-clause-ends
-returns-in-Solo-clause-ends g c = rw c.in-Solo.is c.answer.ensures.ends
+returns-in-Solo-clause-ends g c =
+    let call = c.in-Solo in
+    rw call.is
+    (ends_one (g.H.Host.file c.args.host.now) (Solo call.file.now call.format call.mem call.budget) call.file.now (g.H.Host.written c.args.host.now) (g.H.Host.written c.answer.new.host)
+    c.answer.result.status refl (λ file s text a. a) (λ failed. (failed.0, (failed.1, failed.2))) c.answer.ensures.ends)
+
+pub returns-in-Assemble-clause-ends : goal.returns-in-Assemble-clause-ends
+returns-in-Assemble-clause-ends g c =
+    let call = c.in-Assemble in
+    let answered = c.answer-in-Assemble in
+    rw call.is
+    (ends_one (g.H.Host.file c.args.host.now) (Assemble call.file.now call.format) call.file.now (g.H.Host.written c.args.host.now) (g.H.Host.written answered.new.host)
+    answered.result.status refl (λ file s text a. a) (λ failed. failed) answered.ensures.ends)
 
 pub returns-in-Disassemble-clause-ends : goal.returns-in-Disassemble-clause-ends
-returns-in-Disassemble-clause-ends g c = rw c.in-Disassemble.is c.answer-in-Disassemble.ensures.ends
+returns-in-Disassemble-clause-ends g c =
+    let call = c.in-Disassemble in
+    let answered = c.answer-in-Disassemble in
+    rw call.is
+    (ends_one (g.H.Host.file c.args.host.now) (Disassemble call.file.now call.format call.mem) call.file.now (g.H.Host.written c.args.host.now) (g.H.Host.written answered.new.host)
+    answered.result.status refl (λ file s text a. a) (λ failed. (failed.0, (failed.1, failed.2))) answered.ensures.ends)
+
+pub returns-in-Trace-clause-ends : goal.returns-in-Trace-clause-ends
+returns-in-Trace-clause-ends g c =
+    let call = c.in-Trace in
+    let answered = c.answer-in-Trace in
+    let numbers = call.numbers in
+    rw call.is
+    (ends_one (g.H.Host.file c.args.host.now) (Trace call.file.now call.format numbers.threads numbers.mem numbers.seed numbers.budget) call.file.now
+    (g.H.Host.written c.args.host.now) (g.H.Host.written answered.new.host)
+    answered.result.status refl (λ file s text a. a) (λ failed. (failed.0, (failed.1, failed.2))) answered.ensures.ends)
+
+pub returns-in-Check-clause-ends : goal.returns-in-Check-clause-ends
+returns-in-Check-clause-ends g c = rw c.in-Check.is c.answer-in-Check.ensures.ends

@@ -1,125 +1,80 @@
 //! Texts that are assembled, and those that are refused.
 use super::*;
 
-// The words that assemble the file `p`.
-const ASSEMBLE: &[&str] = &["asm", "--flat", "p"];
-
-// Assembles a text.
-fn assembled(
-    alloc: Global,
-    text: &[u8],
-    failing: &[(u64, u32)],
-) -> Result<(u8, MemoryHost), AllocError> {
-    let words = owned(alloc, ASSEMBLE)?;
-    let mut host = host_of(alloc, text.to_vec(alloc)?, failing, 400_000)?;
-    let status = llsc(alloc, words.as_slice(), &mut host).status;
-    Ok((status, host))
-}
+// The text of the program that leaves with code 0.
+const LEAVE_TEXT: &str = "mov r0, #0\n mov r7, #1 @ exit\nsvc #0";
 
 #[test]
-fn assembles_code(rt: HostRuntime) -> Result<(), Fail> {
-    let cases: [(&str, &[u32]); 4] = [
-        ("mov r0, #0\n mov r7, #1 @ exit\nsvc #0", LEAVE),
-        ("", &[]),
-        (".data\nhere:\n.text\n", &[]),
-        (
-            "loop: subs r2, r2, #1\nbne loop\n.word loop\n",
-            &[0xe252_2001, 0x1aff_fffd, 0x0000_1000],
-        ),
+fn assembles_texts(rt: HostRuntime) -> Result<(), Fail> {
+    let cases: [(&str, &str, &[u32]); 3] = [
+        ("asm --flat p", LEAVE_TEXT, LEAVE),
+        ("asm p", LEAVE_TEXT, LEAVE_FILE),
+        ("asm --flat p", "", &[]),
     ];
-    for (text, code) in cases {
-        let (status, host) = assembled(rt.alloc(), text.as_bytes(), &[])?;
-        assert_eq!(rt; status, 0, "for {text}");
-        let bytes = bytes_of(rt.alloc(), code)?;
+    for (words, text, program) in cases {
+        let file = text.as_bytes().to_vec(rt.alloc())?;
+        let (status, host) = called(rt.alloc(), words, file, &[], 200)?;
+        assert_eq!(rt; status, 0, "for {words}");
+        let bytes = bytes_of(rt.alloc(), program)?;
         assert_eq!(rt; host.written(), bytes.as_slice());
     }
     Ok(())
 }
 
 #[test]
-fn refuses_texts(rt: HostRuntime) -> Result<(), Fail> {
-    let cases: [(&str, &str); 12] = [
-        ("nop\n: nop", "llsc: line 2 Syntax\n"),
-        ("\n\nfly r0", "llsc: line 3 Mnemonic\n"),
-        ("mov r0", "llsc: line 1 Operand\n"),
-        ("b nowhere", "llsc: line 1 Label\n"),
-        ("a: nop\na: nop", "llsc: line 2 Repeated\n"),
-        ("nop\nmov r0, #257", "llsc: line 2 Range\n"),
-        // data where there can be none, and none where there is to be some
-        (".byte 1", "llsc: line 1 Syntax\n"),
-        (".data\n.byte 256", "llsc: line 2 Range\n"),
-        (".data\nnop", "llsc: line 2 Syntax\n"),
-        (".data\n.byte 1", "llsc: FlatData\n"),
-        (".data\n.space 4\n.text\nnop", "llsc: FlatData\n"),
-        // the fault of a text comes before its data
-        (".data\n.byte 1\nfly", "llsc: line 3 Syntax\n"),
-    ];
-    for (text, refusal) in cases {
-        let (status, host) = assembled(rt.alloc(), text.as_bytes(), &[])?;
-        assert_eq!(rt; status, 4, "for {text}");
-        assert_eq!(rt; host.written(), refusal.as_bytes(), "for {text}");
-    }
+fn runs_what_it_assembles(rt: HostRuntime) -> Result<(), Fail> {
+    // loads its data, and leaves with it as the code
+    let text = "mov r1, #8192\nldr r0, [r1]\nmov r7, #1\nsvc #0\n.data\n.word 5\n.space 4\n";
+    let file = text.as_bytes().to_vec(rt.alloc())?;
+    let (status, host) = called(rt.alloc(), "asm p", file, &[], 200)?;
+    assert_eq!(rt; status, 0);
+    let file = host.written().to_vec(rt.alloc())?;
+    let (status, host) = called(rt.alloc(), "solo p", file, &[], 100)?;
+    assert_eq!(rt; status, 1);
+    let report = "thread 0 stop exit 5 steps 4 out 0\n\nreads 1 writes 0 fails 0\n";
+    assert_eq!(rt; host.written(), report.as_bytes());
     Ok(())
 }
 
 #[test]
-fn refuses_files_of_texts(rt: HostRuntime) -> Result<(), Fail> {
-    // a byte that begins no character, after the text of an instruction
-    let (status, host) = assembled(rt.alloc(), b"nop\n\xff", &[])?;
-    assert_eq!(rt; status, 4);
-    assert_eq!(rt; host.written(), b"llsc: NotText\n".as_slice());
+fn refuses_texts(rt: HostRuntime) -> Result<(), Fail> {
+    let cases: [(&[u8], &str); 6] = [
+        (b"nop\nmov r0, #257", "llsc: line 2 Range\n"),
+        (b"b nowhere", "llsc: line 1 Label\n"),
+        // the fault of a text comes before its data
+        (b".data\n.byte 1\nfly", "llsc: line 3 Syntax\n"),
+        (b".data\n.byte 1", "llsc: FlatData\n"),
+        (b".data\n.space 4\n.text\nnop", "llsc: FlatData\n"),
+        // a byte that begins no character, after the text of an instruction
+        (b"nop\n\xff", "llsc: NotText\n"),
+    ];
+    for (text, refusal) in cases {
+        let file = text.to_vec(rt.alloc())?;
+        let (status, host) = called(rt.alloc(), "asm --flat p", file, &[], 100)?;
+        assert_eq!(rt; status, 4, "for {refusal}");
+        assert_eq!(rt; host.written(), refusal.as_bytes());
+    }
 
-    // a text of a byte more than the most, and one with a word more than the most
+    // a byte more than the most
     let long = vec![in rt.alloc(); b' '; 4_194_305]?;
-    let (status, host) = assembled(rt.alloc(), long.as_slice(), &[])?;
+    let (status, host) = called(rt.alloc(), "asm p", long, &[], 100)?;
     assert_eq!(rt; status, 4);
     assert_eq!(rt; host.written(), b"llsc: FileTooLong\n".as_slice());
-    let (status, host) = assembled(rt.alloc(), &long.as_slice()[1..], &[])?;
-    assert_eq!(rt; status, 0);
-    assert_eq!(rt; host.written(), b"".as_slice());
-    let mut words = Vec::new(rt.alloc());
-    for _ in 0..65_537 {
-        words.extend_from_slice(b"nop\n")?;
-    }
-    let (status, host) = assembled(rt.alloc(), words.as_slice(), &[])?;
-    assert_eq!(rt; status, 4);
-    assert_eq!(rt; host.written(), b"llsc: line 65537 TooLong\n".as_slice());
     Ok(())
 }
 
 #[test]
 fn answers_failures_of_texts(rt: HostRuntime) -> Result<(), Fail> {
-    let cases: [(&str, (u64, u32), u8, &[u8]); 4] = [
-        ("nop", (0, 0), 3, b"llsc: read failed\n"),
-        ("nop", (1, 3), 5, b"\x00\xf0\x20"),
-        ("fly", (1, 6), 5, b"llsc: "),
-        ("nop", (2, 0), 0, b"\x00\xf0\x20\xe3"),
+    let cases: [(&str, &str, &[u8]); 3] = [
+        ("asm --flat p", "nop", b"\x00\xf0\x20"),
+        ("asm p", "nop", b"\x7fEL"),
+        ("asm p", "fly", b"lls"),
     ];
-    for (text, failing, want, written) in cases {
-        let (status, host) = assembled(rt.alloc(), text.as_bytes(), &[failing])?;
-        assert_eq!(rt; status, want, "for {text}");
+    for (words, text, written) in cases {
+        let file = text.as_bytes().to_vec(rt.alloc())?;
+        let (status, host) = called(rt.alloc(), words, file, &[(1, 3)], 200)?;
+        assert_eq!(rt; status, 5, "for {text}");
         assert_eq!(rt; host.written(), written);
-    }
-    Ok(())
-}
-
-#[test]
-fn refuses_words_of_texts(rt: HostRuntime) -> Result<(), Fail> {
-    let cases: [&[&str]; 8] = [
-        &["asm"],
-        &["asm", "p"],
-        &["asm", "--flat"],
-        &["asm", "--flat", "-p"],
-        &["asm", "--flat", "--flat", "p"],
-        &["asm", "--flat", "--mem", "65536", "p"],
-        &["asm", "--budget", "1", "--flat", "p"],
-        &["asm", "--flat", "p", "p"],
-    ];
-    for words in cases {
-        let mut host = host_of(rt.alloc(), b"nop".to_vec(rt.alloc())?, &[], 100)?;
-        let words = owned(rt.alloc(), words)?;
-        assert_eq!(rt; llsc(rt.alloc(), words.as_slice(), &mut host).status, 2);
-        assert_eq!(rt; host.written(), b"llsc: words\n".as_slice());
     }
     Ok(())
 }

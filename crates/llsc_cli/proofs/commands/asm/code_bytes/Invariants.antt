@@ -1,6 +1,6 @@
 -- The bytes of the words so far.
 use Rattle.std.proofs.Common.{◌≡◌, take}
-use Rattle.llsc_cli.specs.Assembly.{code_bytes}
+use Rattle.elf32.specs.Units.{code_bytes}
 use Rattle.llsc_cli.proofs.commands.asm.code_bytes.Given as goal
 
 abbrev pub invariant-loop-word : goal.invariant-loop-word

@@ -9,12 +9,12 @@ pub returns-in-Ok-clause-ends : goal.returns-in-Ok-clause-ends
 returns-in-Ok-clause-ends g c =
     let loaded = c.in-Ok.ensures in
     let gives = rw loaded.silent at c.show.ensures.gives in
-    ends_given (dis_answer c.args.mem) (g.H.Host.file c.args.host.now c.args.file.now) (g.H.Host.written c.args.host.now) (g.H.Host.written c.show.new.host) c.show.result.status
-    loaded.image.0 loaded.image.1.0 (dis_done c.args.mem loaded.image.0)
+    ends_given (dis_answer c.args.format c.args.mem) (g.H.Host.file c.args.host.now c.args.file.now) (g.H.Host.written c.args.host.now) (g.H.Host.written c.show.new.host) c.show.result.status
+    loaded.image.0 loaded.image.1.0 (dis_done c.args.format c.args.mem loaded.image.0)
     (subst (λ a. Gives a (g.H.Host.written c.args.host.now) (g.H.Host.written c.show.new.host) c.show.result.status)
-    (dis_shown c.args.mem loaded.image.0 c.in-Ok.loaded.image loaded.image.1.1.0 loaded.image.1.1.1) gives)
+    (dis_shown c.args.format c.args.mem loaded.image.0 c.in-Ok.loaded.image loaded.image.1.1.0 loaded.image.1.1.1) gives)
 
 pub returns-in-Err-clause-ends : goal.returns-in-Err-clause-ends
 returns-in-Err-clause-ends g c =
     ends_as (g.H.Host.file c.args.host.now c.args.file.now) (g.H.Host.written c.args.host.now) (g.H.Host.written c.load.new.host) c.in-Err.ended.status
-    (dis_refused c.args.mem) (λ failed. failed) c.in-Err.ensures.ends
+    (dis_refused c.args.format c.args.mem) (λ failed. failed) c.in-Err.ensures.ends

@@ -9,7 +9,7 @@ returns-in-Ok-clause-ends g c =
     let done = rw loaded.silent at ran.done in
     let cut = rw loaded.silent at ran.cut in
     let memory = rw loaded.silent at ran.memory in
-    ends_run c.args.mem c.args.budget loaded.image.0 c.in-Ok.loaded.size c.in-Ok.loaded.image (g.H.Host.file c.args.host.now c.args.file.now)
+    ends_run c.args.format c.args.mem c.args.budget loaded.image.0 c.in-Ok.loaded.size c.in-Ok.loaded.image (g.H.Host.file c.args.host.now c.args.file.now)
     (g.H.Host.written c.args.host.now) (g.H.Host.written c.run.new.host) c.run.result.status
     loaded.image.1.0 loaded.image.1.1.0 loaded.size loaded.image.1.1.1
     ran.ended done (λ five. let told = cut five in (told.1, told.2)) memory
@@ -17,4 +17,4 @@ returns-in-Ok-clause-ends g c =
 pub returns-in-Err-clause-ends : goal.returns-in-Err-clause-ends
 returns-in-Err-clause-ends g c =
     ends_as (g.H.Host.file c.args.host.now c.args.file.now) (g.H.Host.written c.args.host.now) (g.H.Host.written c.load.new.host) c.in-Err.ended.status
-    (solo_refused c.args.mem c.args.budget) (λ failed. failed) c.in-Err.ensures.ends
+    (solo_refused c.args.format c.args.mem c.args.budget) (λ failed. failed) c.in-Err.ensures.ends

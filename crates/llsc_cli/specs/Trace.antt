@@ -1,0 +1,44 @@
+-- What `trace` answers for the bytes of a file.
+use Rattle.std.specs.Prelude.{◌≡◌, ℕ, ◌==◌, ◌⊎◌, if◌then◌else◌, Bool, List, codes}
+use Rattle.std.specs.List.{list_all}
+use Rattle.llsc_base.specs.Images.{Program}
+use Rattle.llsc_base.specs.Sizes.{Numbers}
+use Rattle.a32_instr.specs.declared.outside.Stop.{Stop}
+use Rattle.a32_instr.specs.declared.outside.Stop.TheVariants as stop
+use Rattle.guest_thread.specs.declared.ends.GuestEnd.{GuestEnd}
+use Rattle.guest_machine.specs.Traces.{AreEnds, IsTraceRecord}
+use Rattle.guest_machine.specs.Turns.{IsTooLong}
+use Rattle.run_record.specs.Text.{record_text}
+use Rattle.run_record.specs.declared.records.RunRecord.{RunRecord}
+use Rattle.llsc_cli.specs.declared.formats.Format.{Format}
+use Rattle.llsc_cli.specs.Programs.{image_of, program_refusal}
+use Rattle.llsc_cli.specs.Refusals.{machine_of, refusal_text, Unless}
+
+-- 0 where a thread left by an exit call with code 0, else 1
+abbrev pub status_of : Stop → ℕ
+status_of (stop.Exit code) = if code == 0 then 0 else 1
+status_of _ = 1
+
+-- 0 where each thread did, else 1
+abbrev pub have_left : List GuestEnd → Bool
+have_left ends = list_all (λ end. status_of end.stop == 0) ends
+
+abbrev pub status_of_all : List GuestEnd → ℕ
+status_of_all ends = if have_left ends then 0 else 1
+
+-- the record of a program's trace with its status, which is by the ends of the threads; or that the trace has too many accesses
+abbrev pub IsRecorded : Program → Numbers → ℕ → ℕ → ℕ → List ℕ → Type 0
+IsRecorded program size seed budget status text =
+    (run : RunRecord) × (ends : List GuestEnd)
+    × (IsTraceRecord program size seed budget run × (AreEnds program size budget run.accesses ends × ((status ≡ status_of_all ends) × (text ≡ record_text run))))
+
+abbrev pub Traces : Program → Numbers → ℕ → ℕ → ℕ → List ℕ → Type 0
+Traces program size seed budget status text =
+    IsRecorded program size seed budget status text
+    ⊎ (IsTooLong program size seed budget × ((status ≡ 4) × (text ≡ refusal_text (codes "TooLong"))))
+
+-- the status and the text for a format, so many threads, so much memory, a seed, a budget and the bytes of the file
+abbrev pub AnswersTrace : Format → (threads mem seed budget : ℕ) → List ℕ → ℕ → List ℕ → Type 0
+AnswersTrace format threads mem seed budget file status text =
+    let size = machine_of threads mem in
+    Unless (program_refusal format size file) (Traces (image_of format file size) size seed budget) status text

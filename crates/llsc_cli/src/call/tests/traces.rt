@@ -1,0 +1,68 @@
+//! Runs of all threads on one, as records.
+use super::runs::{EXCLUSIVES, UNMARKED};
+use super::*;
+
+// Stores the thread's number at 0x2000, loads what is there, and leaves with code 0.
+pub const EACH: &[u32] = &[
+    0xe3a02a02, 0xe5820000, 0xe5921000, 0xe3a00000, 0xe3a07001, 0xef000000,
+];
+
+// The record of two such threads by the seed 0: the first turns are those of threads 1, 0 and 1.
+pub const TURNS: &str = "llsc-run 1 threads 2 budget 10000 accesses 4\n\
+    1 store 4 00002000 0000000000000001\n\
+    0 store 4 00002000 0000000000000000\n\
+    1 load 4 00002000 0000000000000000\n\
+    0 load 4 00002000 0000000000000000\n";
+
+#[test]
+fn records_runs(rt: HostRuntime) -> Result<(), Fail> {
+    let exclusives = "llsc-run 1 threads 1 budget 10000 accesses 2\n\
+                      0 loadex 4 00002000 0000000000000000\n\
+                      0 storeex 4 00002000 0000000000000007\n";
+    let unmarked = "llsc-run 1 threads 1 budget 9 accesses 1\n\
+                    0 fail 4 00002000 0000000000000000\n";
+    let cases: [(&str, &[u32], u8, &str); 4] = [
+        ("trace --flat --threads 1 p", EXCLUSIVES, 0, exclusives),
+        ("trace --flat p", EACH, 0, TURNS),
+        ("trace --seed 0 --threads 2 --flat p", EACH, 0, TURNS),
+        (
+            "trace --flat --budget 9 --threads 1 p",
+            UNMARKED,
+            1,
+            unmarked,
+        ),
+    ];
+    for (words, program, status, text) in cases {
+        let file = bytes_of(rt.alloc(), program)?;
+        let (ended, host) = called(rt.alloc(), words, file, &[], 200)?;
+        assert_eq!(rt; ended, status, "for {words}");
+        assert_eq!(rt; host.written(), text.as_bytes(), "for {words}");
+    }
+    Ok(())
+}
+
+#[test]
+fn refuses_traces(rt: HostRuntime) -> Result<(), Fail> {
+    let cases: [(&str, u8, &str); 7] = [
+        ("trace --flat --threads 0 p", 4, "llsc: Threads\n"),
+        ("trace --flat --threads 0 --mem 65537 p", 4, "llsc: Mem\n"),
+        // the size is refused before the file is read
+        ("trace --threads 17 q", 4, "llsc: Threads\n"),
+        ("trace --threads 16 q", 3, "llsc: read failed\n"),
+        // no room is left below the stacks
+        (
+            "trace --flat --threads 16 --mem 65536 p",
+            4,
+            "llsc: TooLong\n",
+        ),
+        ("trace p", 4, "llsc: Short\n"),
+        ("trace --seed 00 p", 2, "llsc: words\n"),
+    ];
+    for (words, status, text) in cases {
+        let file = bytes_of(rt.alloc(), LEAVE)?;
+        let (ended, host) = called(rt.alloc(), words, file, &[], 200)?;
+        assert_eq!(rt; ended, status, "for {words}");
+        assert_eq!(rt; host.written(), text.as_bytes(), "for {words}");
+    }
+    Ok(())
+}

@@ -1,0 +1,95 @@
+//! Words that ask for something, and words that don't.
+use super::*;
+
+#[test]
+fn reads_options(rt: HostRuntime) -> Result<(), Fail> {
+    let over = "thread 0 stop budget 2 steps 2 out 0\n\nreads 0 writes 0 fails 0\n";
+    let cases: [(&str, u8, &str); 10] = [
+        ("solo --flat --budget 2 p", 1, over),
+        ("solo --budget 3 --flat p", 0, LEFT),
+        ("solo --mem 65536 --budget 1000000000000 --flat p", 0, LEFT),
+        ("solo --flat --mem 16777216 p", 0, LEFT),
+        ("solo --flat --mem 65537 p", 4, "llsc: Mem\n"),
+        ("dis --flat --mem 18446744073709551615 p", 4, "llsc: Mem\n"),
+        // the size is refused before the file is read
+        ("solo --flat --mem 1 q", 4, "llsc: Mem\n"),
+        ("solo --flat --mem 65536 q", 3, "llsc: read failed\n"),
+        ("asm q", 3, "llsc: read failed\n"),
+        ("dis --flat q", 3, "llsc: read failed\n"),
+    ];
+    for (words, status, text) in cases {
+        let file = bytes_of(rt.alloc(), LEAVE)?;
+        let (ended, host) = called(rt.alloc(), words, file, &[], 100)?;
+        assert_eq!(rt; ended, status, "for {words}");
+        assert_eq!(rt; host.written(), text.as_bytes(), "for {words}");
+    }
+    Ok(())
+}
+
+#[test]
+fn refuses_words(rt: HostRuntime) -> Result<(), Fail> {
+    let cases = [
+        // no command, one that there isn't, and no file
+        "",
+        "run --flat p",
+        "solo",
+        "solo --flat",
+        "solo --budget p",
+        // numbers out of range and out of form
+        "solo --budget 0 p",
+        "solo --budget 1000000000001 p",
+        "solo --mem 18446744073709551616 p",
+        "solo --budget 03 p",
+        "solo --budget +3 p",
+        "solo --budget  p",
+        // options that are unknown, given twice, joined to their value, or behind the file
+        "solo --seed 3 p",
+        "solo --flat --flat p",
+        "solo --mem 65536 --mem 65536 p",
+        "solo --budget=3 p",
+        "solo p --flat",
+        "solo p p",
+        // options that other commands have
+        "asm --mem 65536 p",
+        "asm --budget 1 p",
+        "dis --budget 1 p",
+        "solo --threads 1 p",
+        "asm --seed 0 p",
+        "dis --threads 1 p",
+        "check --threads 1 p r",
+        "check --seed 0 p r",
+        // traces and records
+        "trace p p",
+        "trace --threads 2 --threads 2 p",
+        "trace --budget 0 p",
+        "trace --budget 1000000000001 p",
+        "check p",
+        "check p -",
+        "check p r p",
+    ];
+    for words in cases {
+        let file = bytes_of(rt.alloc(), LEAVE)?;
+        let (status, host) = called(rt.alloc(), words, file, &[], 100)?;
+        assert_eq!(rt; status, 2, "for {words}");
+        assert_eq!(rt; host.written(), b"llsc: words\n".as_slice());
+    }
+    Ok(())
+}
+
+#[test]
+fn answers_failures(rt: HostRuntime) -> Result<(), Fail> {
+    let cases: [(Failing, u32, u8, &str); 4] = [
+        // the read fails, the first write of the report, the second one, and one for want of space
+        ((0, 0), 100, 3, "llsc: read failed\n"),
+        ((1, 6), 100, 5, "thread"),
+        ((2, 0), 100, 5, "thread 0 stop exit 0 steps 3 out 0\n"),
+        ((9, 0), 0, 5, ""),
+    ];
+    for (failing, space, status, text) in cases {
+        let file = bytes_of(rt.alloc(), LEAVE)?;
+        let (ended, host) = called(rt.alloc(), "solo --flat p", file, &[failing], space)?;
+        assert_eq!(rt; ended, status, "for {text}");
+        assert_eq!(rt; host.written(), text.as_bytes());
+    }
+    Ok(())
+}

@@ -1,0 +1,130 @@
+//! `trace`: a run of all threads in an order that a number fixes, as a record.
+ghost use Rattle.std.specs.Prelude.{◌≡◌, ◌≢◌, ◌⊎◌, ◌≤◌, None, codes, length};
+ghost use Rattle.guest_machine.specs.Traces.{AreEnds, IsTraceRecord};
+ghost use Rattle.run_record.specs.Limits.{IsRecord};
+ghost use Rattle.run_record.specs.Text.{record_text};
+ghost use Rattle.llsc_cli.specs.Host.{Adds, AddsFront, Rose};
+ghost use Rattle.llsc_cli.specs.Refusals.{machine_of, refusal_text, size_refusal};
+ghost use Rattle.llsc_cli.specs.Trace.{have_left, status_of_all, AnswersTrace, Traces};
+ghost use Rattle.llsc_cli.specs.Reads.{Answered, Ends};
+
+use crate::ended::{Ended, out_of_memory, say, status};
+use crate::files::load;
+use crate::formats::Format;
+use crate::host::Host;
+use crate::words::TraceNumbers;
+use guest_machine::{TraceFault, Traced, trace};
+use guest_thread::GuestEnd;
+use llsc_base::{Image, MachineSize};
+use run_record::print_record;
+use std::alloc::Global;
+
+/// Whether each thread left by an exit call with code 0.
+fn have_left(ends: &[GuestEnd]) -> bool
+    ensures { result ≡ have_left ends.now }
+{
+    ends.iter().all(|end| status(end.stop) == 0)
+}
+
+/// 0 where each thread left by an exit call with code 0, else 1.
+fn status_of_all(ends: &[GuestEnd]) -> u8
+    ensures value { result ≡ status_of_all ends.now }
+    ensures bound { (result ≡ 0) ⊎ (result ≡ 1) }
+{
+    if have_left(ends) {
+        return 0;
+    }
+    1
+}
+
+/// Writes the record of a trace.
+fn print<H: Host>(alloc: Global, host: &mut H, traced: &Traced) -> Ended
+    requires { IsRecord traced.now.run }
+    ensures ended { (result.status ≡ status_of_all traced.now.ends.items) ⊎ ((result.status ≡ 5) ⊎ (result.status ≡ 6)) }
+    ensures said { result.status ≡ status_of_all traced.now.ends.items → Adds (H.written host.old) (H.written host.new) (record_text traced.now.run) }
+    ensures cut { result.status ≡ 5 → Rose (H.write_faults host.old) (H.write_faults host.new) × AddsFront (H.written host.old) (H.written host.new) (record_text traced.now.run) }
+    ensures memory { result.status ≡ 6 → H.written host.new ≡ H.written host.old }
+    ensures write_answered { result.status ≢ 5 → H.write_faults host.new ≡ H.write_faults host.old }
+    ensures files { H.file host.new ≡ H.file host.old }
+    ensures read_faults { H.read_faults host.new ≡ H.read_faults host.old }
+    ensures lost { H.lost host.new ≡ H.lost host.old }
+{
+    let status = status_of_all(traced.ends.as_slice());
+    match print_record(alloc, &traced.run) {
+        Ok(text) => say(host, text.as_slice(), status),
+        Err(_) => out_of_memory(),
+    }
+}
+
+/// Answers for a trace that there isn't.
+fn refuse_trace<H: Host>(host: &mut H, fault: TraceFault) -> Ended
+    ensures ended { (result.status ≡ 4) ⊎ ((result.status ≡ 5) ⊎ (result.status ≡ 6)) }
+    ensures memory_alone { fault ≡ TraceFault.Memory → result.status ≡ 6 }
+    ensures said { result.status ≡ 4 → Adds (H.written host.old) (H.written host.new) (refusal_text (codes "TooLong")) }
+    ensures cut { result.status ≡ 5 → Rose (H.write_faults host.old) (H.write_faults host.new) × AddsFront (H.written host.old) (H.written host.new) (refusal_text (codes "TooLong")) }
+    ensures memory { result.status ≡ 6 → H.written host.new ≡ H.written host.old }
+    ensures write_answered { result.status ≢ 5 → H.write_faults host.new ≡ H.write_faults host.old }
+    ensures files { H.file host.new ≡ H.file host.old }
+    ensures read_faults { H.read_faults host.new ≡ H.read_faults host.old }
+    ensures lost { H.lost host.new ≡ H.lost host.old }
+{
+    match fault {
+        TraceFault::TooLong => say(host, b"llsc: TooLong\n", 4),
+        TraceFault::Memory => out_of_memory(),
+    }
+}
+
+/// Runs an image and writes the record.
+fn run<H: Host>(
+    alloc: Global,
+    host: &mut H,
+    size: &MachineSize,
+    image: &Image,
+    seed: u64,
+    budget: u64,
+) -> Ended
+    requires whole { length image.now.bytes ≡ size.now.mem }
+    requires some { 1 ≤ budget }
+    requires budget { budget ≤ 1000000000000 }
+    ensures answered { Answered (Traces image.now size.now seed budget) (H.written host.old) (H.written host.new) result.status }
+    ensures write { result.status ≡ 5 → Rose (H.write_faults host.old) (H.write_faults host.new) }
+    ensures write_answered { result.status ≢ 5 → H.write_faults host.new ≡ H.write_faults host.old }
+    ensures files { H.file host.new ≡ H.file host.old }
+    ensures read_faults { H.read_faults host.new ≡ H.read_faults host.old }
+    ensures lost { H.lost host.new ≡ H.lost host.old }
+{
+    match trace(alloc, image, size, seed, budget) {
+        Ok(traced) => print(alloc, host, &traced),
+        Err(fault) => refuse_trace(host, fault),
+    }
+}
+
+/// Traces the file of a name by these numbers.
+pub fn answer<H: Host>(
+    alloc: Global,
+    host: &mut H,
+    file: &str,
+    format: Format,
+    numbers: TraceNumbers,
+) -> Ended
+    requires some { 1 ≤ numbers.budget }
+    requires budget { numbers.budget ≤ 1000000000000 }
+    ensures ends { Ends (AnswersTrace format numbers.threads numbers.mem numbers.seed numbers.budget) (H.file host.old file.now)
+        (Rose (H.read_faults host.old) (H.read_faults host.new) × (H.lost host.new ≡ file.now) × (size_refusal (machine_of numbers.threads numbers.mem) ≡ None))
+        (H.written host.old) (H.written host.new) result.status }
+    ensures write { result.status ≡ 5 → Rose (H.write_faults host.old) (H.write_faults host.new) }
+    ensures write_answered { result.status ≢ 5 → H.write_faults host.new ≡ H.write_faults host.old }
+    ensures read_answered { result.status ≢ 3 → result.status ≢ 5 → H.read_faults host.new ≡ H.read_faults host.old }
+{
+    match load(alloc, host, numbers.threads, numbers.mem, file, format) {
+        Ok(loaded) => run(
+            alloc,
+            host,
+            &loaded.size,
+            &loaded.image,
+            numbers.seed,
+            numbers.budget,
+        ),
+        Err(ended) => ended,
+    }
+}

@@ -1,0 +1,8 @@
+/// The format of a program's file.
+#[derive(Clone, Copy, Debug, PartialEq, Eq)]
+pub enum Format {
+    /// A 32-bit ELF executable for Arm.
+    Elf,
+    /// A flat image: instruction words and nothing else.
+    Flat,
+}
