@@ -259,38 +259,65 @@ mod tests {
         }
     }
 
+    // Thread 0's load-exclusive and its store-exclusive of a word, as that answers.
+    fn loaded() -> Access {
+        access(0, Deed::LoadEx, 0x2000, Size::B4, 0)
+    }
+
+    fn succeeds() -> Access {
+        access(0, Deed::StoreEx, 0x2000, Size::B4, 9)
+    }
+
+    fn fails() -> Access {
+        access(0, Deed::StoreFail, 0x2000, Size::B4, 9)
+    }
+
     #[test]
-    fn exclusive_accesses_of_two_threads(rt: HostRuntime) {
-        let alloc = rt.alloc();
-        let changed_and_changed_back = [
-            access(0, Deed::LoadEx, 0x2000, Size::B4, 0),
+    fn fails_where_the_word_changed_and_changed_back(rt: HostRuntime) {
+        let accesses = [
+            loaded(),
             access(1, Deed::Store, 0x2000, Size::B4, 5),
             access(1, Deed::Store, 0x2000, Size::B4, 0),
-            access(0, Deed::StoreFail, 0x2000, Size::B4, 9),
+            fails(),
             access(0, Deed::Load, 0x2000, Size::B4, 0),
         ];
-        let last_byte_of_the_row = [
-            access(0, Deed::LoadEx, 0x2000, Size::B4, 0),
-            access(1, Deed::Store, 0x2007, Size::B1, 1),
-            access(0, Deed::StoreFail, 0x2000, Size::B4, 9),
-        ];
-        let next_row = [
-            access(0, Deed::LoadEx, 0x2000, Size::B4, 0),
-            access(1, Deed::Store, 0x2008, Size::B8, 1),
-            access(0, Deed::StoreEx, 0x2000, Size::B4, 9),
-        ];
-        let another_row = [
-            access(0, Deed::LoadEx, 0x2000, Size::B4, 0),
-            access(1, Deed::Store, 0x3000, Size::B4, 1),
-            access(0, Deed::StoreEx, 0x2000, Size::B4, 9),
-        ];
-        let own_store_in_the_row = [
-            access(0, Deed::LoadEx, 0x2000, Size::B4, 0),
+        assert_eq!(rt; all_answer(rt.alloc(), &accesses), Ok(true));
+    }
+
+    #[test]
+    fn fails_after_a_store_in_the_row_alone(rt: HostRuntime) {
+        let last_byte = access(1, Deed::Store, 0x2007, Size::B1, 1);
+        let next_row = access(1, Deed::Store, 0x2008, Size::B8, 1);
+        let another_row = access(1, Deed::Store, 0x3000, Size::B4, 1);
+        let alloc = rt.alloc();
+        assert_eq!(rt;
+            all_answer(alloc, &[loaded(), last_byte, fails()]),
+            Ok(true)
+        );
+        assert_eq!(rt;
+            all_answer(alloc, &[loaded(), next_row, succeeds()]),
+            Ok(true)
+        );
+        assert_eq!(rt;
+            all_answer(alloc, &[loaded(), another_row, succeeds()]),
+            Ok(true)
+        );
+    }
+
+    #[test]
+    fn fails_after_an_own_store_in_the_row(rt: HostRuntime) {
+        let accesses = [
+            loaded(),
             access(1, Deed::Store, 0x2000, Size::B4, 4),
             access(0, Deed::Store, 0x2004, Size::B4, 1),
-            access(0, Deed::StoreFail, 0x2000, Size::B4, 9),
+            fails(),
         ];
-        let halves_of_a_doubleword = [
+        assert_eq!(rt; all_answer(rt.alloc(), &accesses), Ok(true));
+    }
+
+    #[test]
+    fn sees_the_halves_of_a_doubleword(rt: HostRuntime) {
+        let accesses = [
             access(0, Deed::LoadEx, 0x2000, Size::B8, 0),
             access(1, Deed::Store, 0x2006, Size::B2, 0xbeef),
             access(0, Deed::StoreFail, 0x2000, Size::B8, 1),
@@ -299,17 +326,15 @@ mod tests {
             access(0, Deed::LoadEx, 0x2000, Size::B8, 0xbeef_0000_0000_0000),
             access(0, Deed::StoreEx, 0x2000, Size::B8, 1),
         ];
-        let cleared = [
-            access(0, Deed::LoadEx, 0x2000, Size::B4, 0),
-            access(0, Deed::Clear, 0, Size::B1, 0),
-            access(0, Deed::StoreFail, 0x2000, Size::B4, 9),
-        ];
-        assert_eq!(rt; all_answer(alloc, &changed_and_changed_back), Ok(true));
-        assert_eq!(rt; all_answer(alloc, &last_byte_of_the_row), Ok(true));
-        assert_eq!(rt; all_answer(alloc, &next_row), Ok(true));
-        assert_eq!(rt; all_answer(alloc, &another_row), Ok(true));
-        assert_eq!(rt; all_answer(alloc, &own_store_in_the_row), Ok(true));
-        assert_eq!(rt; all_answer(alloc, &halves_of_a_doubleword), Ok(true));
-        assert_eq!(rt; all_answer(alloc, &cleared), Ok(true));
+        assert_eq!(rt; all_answer(rt.alloc(), &accesses), Ok(true));
+    }
+
+    #[test]
+    fn fails_once_cleared(rt: HostRuntime) {
+        let clear = access(0, Deed::Clear, 0, Size::B1, 0);
+        assert_eq!(rt;
+            all_answer(rt.alloc(), &[loaded(), clear, fails()]),
+            Ok(true)
+        );
     }
 }

@@ -3,6 +3,7 @@ use super::*;
 use a32_step::Wanted;
 use llsc_base::{Image, MachineSize};
 use std::alloc::Global;
+use std::process::Abort;
 use std::test::Fail;
 
 // r0 of a core whose call isn't answered.
@@ -32,123 +33,127 @@ fn made(alloc: Global, ask: CallAsk, count: u32, mem: u32) -> Result<(CallStep, 
     Ok((step, cpu.reg(0)))
 }
 
-#[test]
-fn makes_each_call(rt: HostRuntime) -> Result<(), Fail> {
-    // the number, the immediate, r0, r1 and r2, the bytes written before and those of memory; the step, and r0
-    let cases: [((u32, u32, u32, u32, u32), u32, u32, CallStep, u32); 24] = [
-        ((1, 0, 0, 0, 0), 0, 100, CallStep::Exit(0), KEPT),
-        ((1, 0, 0x1ff, 0, 0), 0, 100, CallStep::Exit(255), KEPT),
-        ((1, 0, 256, 0, 0), 0, 100, CallStep::Exit(0), KEPT),
-        ((1, 1, 0, 0, 0), 0, 100, CallStep::Answered, 0xffff_ffda),
-        (
-            (4, 0, 0, 1000, 1000),
-            0,
-            100,
-            CallStep::Answered,
-            0xffff_fff7,
-        ),
-        ((4, 0, 3, 0, 0), 0, 100, CallStep::Answered, 0xffff_fff7),
-        (
-            (4, 0, 0xffff_ffff, 0, 1),
-            0,
-            100,
-            CallStep::Answered,
-            0xffff_fff7,
-        ),
-        ((4, 0, 1, 0xffff_ffff, 0), 0, 100, CallStep::Answered, 0),
-        ((4, 0, 2, 5, 0), 65_536, 100, CallStep::Answered, 0),
-        (
-            (4, 0, 1, 99, 1),
-            0,
-            100,
-            CallStep::Bytes { from: 99, len: 1 },
-            KEPT,
-        ),
-        (
-            (4, 0, 2, 0, 100),
-            0,
-            100,
-            CallStep::Bytes { from: 0, len: 100 },
-            KEPT,
-        ),
-        ((4, 0, 1, 100, 1), 0, 100, CallStep::Answered, 0xffff_fff2),
-        ((4, 0, 1, 1, 100), 0, 100, CallStep::Answered, 0xffff_fff2),
-        (
-            (4, 0, 1, 0xffff_ffff, 1),
-            0,
-            0xffff_ffff,
-            CallStep::Answered,
-            0xffff_fff2,
-        ),
-        (
-            (4, 0, 1, 0xffff_ffff, 2),
-            0,
-            100,
-            CallStep::Answered,
-            0xffff_fff2,
-        ),
-        (
-            (4, 0, 1, 90, 11),
-            65_536,
-            100,
-            CallStep::Answered,
-            0xffff_fff2,
-        ),
-        (
-            (4, 0, 1, 0, 1),
-            65_535,
-            100,
-            CallStep::Bytes { from: 0, len: 1 },
-            KEPT,
-        ),
-        (
-            (4, 0, 1, 0, 2),
-            65_535,
-            100,
-            CallStep::Answered,
-            0xffff_ffe4,
-        ),
-        (
-            (4, 0, 2, 0, 1),
-            65_536,
-            100,
-            CallStep::Answered,
-            0xffff_ffe4,
-        ),
-        (
-            (4, 0, 1, 8, 65_536),
-            0,
-            100_000,
-            CallStep::Bytes {
-                from: 8,
-                len: 65_536,
-            },
-            KEPT,
-        ),
-        (
-            (4, 0, 1, 8, 65_537),
-            0,
-            100_000,
-            CallStep::Answered,
-            0xffff_ffe4,
-        ),
-        ((4, 7, 1, 0, 1), 0, 100, CallStep::Answered, 0xffff_ffda),
-        ((158, 0, 5, 6, 7), 0, 100, CallStep::Answered, 0),
-        ((3, 0, 0, 0, 0), 0, 100, CallStep::Answered, 0xffff_ffda),
-    ];
-    for ((number, imm, a, b, c), count, mem, step, r0) in cases {
-        let ask = CallAsk {
-            imm,
-            number,
-            a,
-            b,
-            c,
-        };
+// A call, the bytes written before and those of memory; what becomes of it, and r0 afterwards.
+#[derive(Clone, Copy)]
+struct Case {
+    ask: CallAsk,
+    written: u32,
+    mem: u32,
+    step: CallStep,
+    r0: u32,
+}
+
+// The call of a number by an immediate, with r0, r1 and r2.
+fn call(number: u32, imm: u32, a: u32, b: u32, c: u32) -> CallAsk {
+    CallAsk {
+        imm,
+        number,
+        a,
+        b,
+        c,
+    }
+}
+
+// The write of so many bytes from an address up.
+fn write_of(descriptor: u32, from: u32, len: u32) -> CallAsk {
+    call(4, 0, descriptor, from, len)
+}
+
+// A call that ends the thread.
+fn exits(ask: CallAsk, code: u8) -> Case {
+    Case {
+        ask,
+        written: 0,
+        mem: 100,
+        step: CallStep::Exit(code),
+        r0: KEPT,
+    }
+}
+
+// A call that is answered.
+fn answers(ask: CallAsk, written: u32, mem: u32, r0: u32) -> Case {
+    Case {
+        ask,
+        written,
+        mem,
+        step: CallStep::Answered,
+        r0,
+    }
+}
+
+// A write that wants its bytes.
+fn wants_bytes(ask: CallAsk, written: u32, mem: u32, from: u32, len: u32) -> Case {
+    Case {
+        ask,
+        written,
+        mem,
+        step: CallStep::Bytes { from, len },
+        r0: KEPT,
+    }
+}
+
+// Makes the call of each case.
+fn make(rt: &impl Abort, alloc: Global, cases: &[Case]) -> Result<(), Fail> {
+    for case in cases {
+        let (ask, want) = (case.ask, (case.step, case.r0));
+        let (number, imm, a, b, c) = (ask.number, ask.imm, ask.a, ask.b, ask.c);
         assert_eq!(rt;
-            made(rt.alloc(), ask, count, mem)?,
-            (step, r0),
+            made(alloc, ask, case.written, case.mem)?,
+            want,
             "call {number} of SVC #{imm} with {a}, {b} and {c}"
         );
     }
     Ok(())
+}
+
+#[test]
+fn exits_with_the_low_byte(rt: HostRuntime) -> Result<(), Fail> {
+    let cases = [
+        exits(call(1, 0, 0, 0, 0), 0),
+        exits(call(1, 0, 0x1ff, 0, 0), 255),
+        exits(call(1, 0, 256, 0, 0), 0),
+    ];
+    make(&rt, rt.alloc(), &cases)
+}
+
+#[test]
+fn answers_a_write_without_its_bytes(rt: HostRuntime) -> Result<(), Fail> {
+    let cases = [
+        answers(write_of(0, 1000, 1000), 0, 100, 0xffff_fff7),
+        answers(write_of(3, 0, 0), 0, 100, 0xffff_fff7),
+        answers(write_of(0xffff_ffff, 0, 1), 0, 100, 0xffff_fff7),
+        answers(write_of(1, 0xffff_ffff, 0), 0, 100, 0),
+        answers(write_of(2, 5, 0), 65_536, 100, 0),
+        answers(write_of(1, 100, 1), 0, 100, 0xffff_fff2),
+        answers(write_of(1, 1, 100), 0, 100, 0xffff_fff2),
+        answers(write_of(1, 0xffff_ffff, 1), 0, 0xffff_ffff, 0xffff_fff2),
+        answers(write_of(1, 0xffff_ffff, 2), 0, 100, 0xffff_fff2),
+        answers(write_of(1, 90, 11), 65_536, 100, 0xffff_fff2),
+        answers(write_of(1, 0, 2), 65_535, 100, 0xffff_ffe4),
+        answers(write_of(2, 0, 1), 65_536, 100, 0xffff_ffe4),
+        answers(write_of(1, 8, 65_537), 0, 100_000, 0xffff_ffe4),
+    ];
+    make(&rt, rt.alloc(), &cases)
+}
+
+#[test]
+fn wants_the_bytes_of_a_write(rt: HostRuntime) -> Result<(), Fail> {
+    let cases = [
+        wants_bytes(write_of(1, 99, 1), 0, 100, 99, 1),
+        wants_bytes(write_of(2, 0, 100), 0, 100, 0, 100),
+        wants_bytes(write_of(1, 0, 1), 65_535, 100, 0, 1),
+        wants_bytes(write_of(1, 8, 65_536), 0, 100_000, 8, 65_536),
+    ];
+    make(&rt, rt.alloc(), &cases)
+}
+
+#[test]
+fn answers_other_calls(rt: HostRuntime) -> Result<(), Fail> {
+    let cases = [
+        answers(call(1, 1, 0, 0, 0), 0, 100, 0xffff_ffda),
+        answers(call(4, 7, 1, 0, 1), 0, 100, 0xffff_ffda),
+        answers(call(158, 0, 5, 6, 7), 0, 100, 0),
+        answers(call(3, 0, 0, 0, 0), 0, 100, 0xffff_ffda),
+    ];
+    make(&rt, rt.alloc(), &cases)
 }
