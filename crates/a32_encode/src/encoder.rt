@@ -3,7 +3,6 @@ ghost use Rattle.std.specs.Result.{IfOk};
 ghost use Rattle.a32_instr.specs.Table.{table, meaning};
 ghost use Rattle.a32_encode.specs.Encoding.{encoding_of};
 
-use crate::same::same;
 use crate::words::candidate;
 use a32_decode::decode;
 use a32_instr::Instr;
@@ -33,7 +32,7 @@ pub fn encode(i: &Instr) -> Result<u32, EncodeFault>
     }
     let word = sum as u32;
     match decode(word) {
-        Ok(meant) if same(*i, meant) => Ok(word),
+        Ok(meant) if meant == *i => Ok(word),
         _ => Err(EncodeFault::NoEncoding),
     }
 }

@@ -14,8 +14,6 @@
 mod encoder;
 mod fields;
 pub mod laws;
-mod same;
-mod same_accesses;
 mod words;
 
 pub use encoder::{EncodeFault, encode};

@@ -1,9 +1,10 @@
-use Rattle.std.proofs.Common.{rules, ◌≡◌, ◌<◌, ◌^◌, Bool, true, false, Result, Ok, Err, arith, refl, sym}
+use Rattle.std.proofs.Common.{rules, ◌≡◌, ◌<◌, Bool, true, false, Result, Ok, Err, arith, refl, sym, ◌∙◌}
 use Rattle.a32_instr.specs.Table.{table, meaning}
 use Rattle.a32_instr.specs.declared.instructions.Instr.{Instr}
 use Rattle.a32_instr.specs.declared.instructions.DecodeFault.{DecodeFault}
 use Rattle.a32_encode.proofs.Rows.{sum_is, sum_means}
 use Rattle.a32_encode.proofs.Encodings.{means_encoding, no_word_encoding}
+use Rattle.a32_encode.proofs.Same.{equal_is_same, same_is_equal}
 use Rattle.a32_encode.proofs.encoder.encode.Goals as goal
 
 -- no word is so large
@@ -12,6 +13,12 @@ returns-then-sum-gt4294967295-clause-none c = λ fault other small means.
     let is : c.candidate-sum.result ≡ other = sum_is c.candidate-sum.result c.args.i.now other c.candidate-sum.ensures small means in
     let large : 4294967295 < c.candidate-sum.result = search rules in
     omega (arith, is, large, small)
+
+-- the instruction that the decoder reads is the one that is encoded
+pub returns-in-Ok-clause-word : goal.returns-in-Ok-clause-word
+returns-in-Ok-clause-word c =
+    let is : c.in-Ok.meant ≡ c.args.i.now = equal_is_same c.args.i.now c.in-Ok.meant (sym c.eq.ensures ∙ c.if-eq.true) in
+    search rules
 
 -- another word that means the instruction is its sum
 pub returns-in-Ok-clause-only : goal.returns-in-Ok-clause-only
@@ -32,8 +39,8 @@ meant_none answer by_table fault i decoded is means = cc
 
 pub returns-in_default-clause-none : goal.returns-in_default-clause-none
 returns-in_default-clause-none c = λ fault other small means.
-    meant_other c.decode.result (meaning table c.candidate-sum.result) c.in-Ok.meant c.args.i.now c.same.result c.decode.ensures c.in-Ok.is
-    (sum_means c.candidate-sum.result c.args.i.now other c.candidate-sum.ensures small means) c.same.ensures.no c.if-same.false
+    meant_other c.decode.result (meaning table c.candidate-sum.result) c.in-Ok.meant c.args.i.now c.eq.result c.decode.ensures c.in-Ok.is
+    (sum_means c.candidate-sum.result c.args.i.now other c.candidate-sum.ensures small means) (λ is. c.eq.ensures ∙ same_is_equal c.args.i.now c.in-Ok.meant is) c.if-eq.false
 
 pub returns-in_default-2-clause-none : goal.returns-in_default-2-clause-none
 returns-in_default-2-clause-none c = λ fault other small means.
@@ -46,7 +53,7 @@ returns-then-sum-gt4294967295-clause-no_encoding c = λ fault. no_word_encoding 
 
 pub returns-in-Ok-clause-encoding : goal.returns-in-Ok-clause-encoding
 returns-in-Ok-clause-encoding c =
-    let word : (c.candidate-sum.result < 2 ^ 32) × (meaning table c.candidate-sum.result ≡ Ok c.args.i.now) = search rules in
+    let word = returns-in-Ok-clause-word c in
     means_encoding c.args.i.now c.candidate-sum.result word.0 word.1
 
 pub returns-in_default-clause-no_encoding : goal.returns-in_default-clause-no_encoding
