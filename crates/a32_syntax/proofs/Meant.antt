@@ -56,43 +56,13 @@ nonzero n = grind arith
 -- a turn and back
 turn_back : (x turn : ℕ) → turn < 16 → x < 256 → turned_back (rotated_right x (2 * turn)) turn ≡ x
 unfolding turned_back turned
-turn_back x zero h small = omega arith
-turn_back x (suc zero) h small = omega arith
-turn_back x (suc (suc zero)) h small = omega arith
-turn_back x (suc (suc (suc zero))) h small = omega arith
-turn_back x (suc (suc (suc (suc zero)))) h small = omega arith
-turn_back x (suc (suc (suc (suc (suc zero))))) h small = omega arith
-turn_back x (suc (suc (suc (suc (suc (suc zero)))))) h small = omega arith
-turn_back x (suc (suc (suc (suc (suc (suc (suc zero))))))) h small = omega arith
-turn_back x (suc (suc (suc (suc (suc (suc (suc (suc zero)))))))) h small = omega arith
-turn_back x (suc (suc (suc (suc (suc (suc (suc (suc (suc zero))))))))) h small = omega arith
-turn_back x (suc (suc (suc (suc (suc (suc (suc (suc (suc (suc zero)))))))))) h small = omega arith
-turn_back x (suc (suc (suc (suc (suc (suc (suc (suc (suc (suc (suc zero))))))))))) h small = omega arith
-turn_back x (suc (suc (suc (suc (suc (suc (suc (suc (suc (suc (suc (suc zero)))))))))))) h small = omega arith
-turn_back x (suc (suc (suc (suc (suc (suc (suc (suc (suc (suc (suc (suc (suc zero))))))))))))) h small = omega arith
-turn_back x (suc (suc (suc (suc (suc (suc (suc (suc (suc (suc (suc (suc (suc (suc zero)))))))))))))) h small = omega arith
-turn_back x (suc (suc (suc (suc (suc (suc (suc (suc (suc (suc (suc (suc (suc (suc (suc zero))))))))))))))) h small = omega arith
 turn_back x (suc (suc (suc (suc (suc (suc (suc (suc (suc (suc (suc (suc (suc (suc (suc (suc turn)))))))))))))))) h small = absurd (omega arith)
+turn_back x turn h small = omega arith
 
 pub number_small : (x turn : ℕ) → turn < 16 → x < 256 → immediate_number turn x < 2 ^ 32
 unfolding turned
-number_small x zero h small = omega arith
-number_small x (suc zero) h small = omega arith
-number_small x (suc (suc zero)) h small = omega arith
-number_small x (suc (suc (suc zero))) h small = omega arith
-number_small x (suc (suc (suc (suc zero)))) h small = omega arith
-number_small x (suc (suc (suc (suc (suc zero))))) h small = omega arith
-number_small x (suc (suc (suc (suc (suc (suc zero)))))) h small = omega arith
-number_small x (suc (suc (suc (suc (suc (suc (suc zero))))))) h small = omega arith
-number_small x (suc (suc (suc (suc (suc (suc (suc (suc zero)))))))) h small = omega arith
-number_small x (suc (suc (suc (suc (suc (suc (suc (suc (suc zero))))))))) h small = omega arith
-number_small x (suc (suc (suc (suc (suc (suc (suc (suc (suc (suc zero)))))))))) h small = omega arith
-number_small x (suc (suc (suc (suc (suc (suc (suc (suc (suc (suc (suc zero))))))))))) h small = omega arith
-number_small x (suc (suc (suc (suc (suc (suc (suc (suc (suc (suc (suc (suc zero)))))))))))) h small = omega arith
-number_small x (suc (suc (suc (suc (suc (suc (suc (suc (suc (suc (suc (suc (suc zero))))))))))))) h small = omega arith
-number_small x (suc (suc (suc (suc (suc (suc (suc (suc (suc (suc (suc (suc (suc (suc zero)))))))))))))) h small = omega arith
-number_small x (suc (suc (suc (suc (suc (suc (suc (suc (suc (suc (suc (suc (suc (suc (suc zero))))))))))))))) h small = omega arith
 number_small x (suc (suc (suc (suc (suc (suc (suc (suc (suc (suc (suc (suc (suc (suc (suc (suc turn)))))))))))))))) h small = absurd (omega arith)
+number_small x turn h small = omega arith
 
 -- the least turn is this one
 least_is : (turn : ℕ) (least : Option ℕ) → is_turn turn least ≡ true → least ≡ Some turn

@@ -3,11 +3,11 @@ use Rattle.std.proofs.Common.{◌≡◌, ℕ, ◌<◌, ◌==◌, ◌||◌, not, 
 use Rattle.std.specs.List.{range_with_len}
 use Rattle.std.proofs.lemmas.Bool.{both_ways, and_parts, eqb-true, ltb-true}
 use Rattle.std.proofs.lemmas.List.FromFn.{get_or-map-range_with_len}
-use Rattle.a32_instr.specs.declared.instructions.AluOp.TheVariants.{And, Eor, Sub, Rsb, Add, Adc, Sbc, Rsc, Tst, Teq, Cmp, Cmn, Orr, Mov, Bic, Mvn}
-use Rattle.a32_instr.specs.declared.instructions.LongKind.TheVariants.{Umull, Umlal, Smull, Smlal}
-use Rattle.a32_instr.specs.declared.instructions.HalfKind.TheVariants.{Strh, Ldrh, Ldrsb, Ldrsh}
-use Rattle.a32_instr.specs.declared.instructions.BarrierKind.TheVariants.{Dsb, Dmb, Isb}
-use Rattle.llsc_base.specs.declared.access.Size.TheVariants.{B1, B2, B4, B8}
+use Rattle.a32_instr.specs.declared.instructions.AluOp.TheVariants.{And, Tst, Teq, Cmp, Cmn}
+use Rattle.a32_instr.specs.declared.instructions.LongKind.TheVariants.{Umull}
+use Rattle.a32_instr.specs.declared.instructions.HalfKind.TheVariants.{Strh}
+use Rattle.a32_instr.specs.declared.instructions.BarrierKind.TheVariants.{Dsb}
+use Rattle.llsc_base.specs.declared.access.Size.TheVariants.{B1}
 use Rattle.a32_forms.specs.Names.{place_from}
 use Rattle.a32_syntax.specs.declared.operations.Operation.{Operation}
 use Rattle.a32_syntax.specs.declared.operations.Operation.TheVariants.{Alu, Movw, Movt, Nop, Yield, Mul, Mla, Mls, Long, Clz, Rev, Extend, Word, Half, Block, Branch, BranchReg, Svc, LoadEx, StoreEx, Clrex, Barrier}
@@ -27,210 +27,44 @@ AreRead operation set_flags =
 
 plain_read : (operation : Operation) → IsTrue (may_have_condition operation) → AreRead operation false
 unfolding read_among as_operation with_flags place_from
-plain_read (Alu And) h = refl
-plain_read (Alu Eor) h = refl
-plain_read (Alu Sub) h = refl
-plain_read (Alu Rsb) h = refl
-plain_read (Alu Add) h = refl
-plain_read (Alu Adc) h = refl
-plain_read (Alu Sbc) h = refl
-plain_read (Alu Rsc) h = refl
-plain_read (Alu Tst) h = refl
-plain_read (Alu Teq) h = refl
-plain_read (Alu Cmp) h = refl
-plain_read (Alu Cmn) h = refl
-plain_read (Alu Orr) h = refl
-plain_read (Alu Mov) h = refl
-plain_read (Alu Bic) h = refl
-plain_read (Alu Mvn) h = refl
-plain_read Movw h = refl
-plain_read Movt h = refl
-plain_read Nop h = refl
-plain_read Yield h = refl
-plain_read Mul h = refl
-plain_read Mla h = refl
-plain_read Mls h = refl
-plain_read (Long Umull) h = refl
-plain_read (Long Umlal) h = refl
-plain_read (Long Smull) h = refl
-plain_read (Long Smlal) h = refl
-plain_read Clz h = refl
-plain_read Rev h = refl
-plain_read (Extend false false) h = refl
-plain_read (Extend false true) h = refl
-plain_read (Extend true false) h = refl
-plain_read (Extend true true) h = refl
-plain_read (Word false false) h = refl
-plain_read (Word false true) h = refl
-plain_read (Word true false) h = refl
-plain_read (Word true true) h = refl
-plain_read (Half Strh) h = refl
-plain_read (Half Ldrh) h = refl
-plain_read (Half Ldrsb) h = refl
-plain_read (Half Ldrsh) h = refl
-plain_read (Block false false false) h = refl
-plain_read (Block false false true) h = refl
-plain_read (Block false true false) h = refl
-plain_read (Block false true true) h = refl
-plain_read (Block true false false) h = refl
-plain_read (Block true false true) h = refl
-plain_read (Block true true false) h = refl
-plain_read (Block true true true) h = refl
-plain_read (Branch false) h = refl
-plain_read (Branch true) h = refl
-plain_read (BranchReg false) h = refl
-plain_read (BranchReg true) h = refl
-plain_read Svc h = refl
-plain_read (LoadEx B1) h = refl
-plain_read (LoadEx B2) h = refl
-plain_read (LoadEx B4) h = refl
-plain_read (LoadEx B8) h = refl
-plain_read (StoreEx B1) h = refl
-plain_read (StoreEx B2) h = refl
-plain_read (StoreEx B4) h = refl
-plain_read (StoreEx B8) h = refl
 plain_read Clrex h = absurd (both_ways false refl h)
-plain_read (Barrier Dsb) h = absurd (both_ways false refl h)
-plain_read (Barrier Dmb) h = absurd (both_ways false refl h)
-plain_read (Barrier Isb) h = absurd (both_ways false refl h)
+plain_read (Barrier kind) h = absurd (both_ways false refl h)
+plain_read (Alu And) h = refl
+plain_read (Long Umull) h = refl
+plain_read (Extend false false) h = refl
+plain_read (Extend true false) h = refl
+plain_read (Word false false) h = refl
+plain_read (Word true false) h = refl
+plain_read (Half Strh) h = refl
+plain_read (Block false false false) h = refl
+plain_read (Block false true false) h = refl
+plain_read (Block true false false) h = refl
+plain_read (Block true true false) h = refl
+plain_read (Branch false) h = refl
+plain_read (BranchReg false) h = refl
+plain_read (LoadEx B1) h = refl
+plain_read (StoreEx B1) h = refl
+plain_read operation h = refl
 
 flags_read : (operation : Operation) → IsTrue (may_set_flags operation) → AreRead operation true
 unfolding read_among as_operation with_flags place_from
-flags_read (Alu And) h = refl
-flags_read (Alu Eor) h = refl
-flags_read (Alu Sub) h = refl
-flags_read (Alu Rsb) h = refl
-flags_read (Alu Add) h = refl
-flags_read (Alu Adc) h = refl
-flags_read (Alu Sbc) h = refl
-flags_read (Alu Rsc) h = refl
 flags_read (Alu Tst) h = absurd (both_ways false refl h)
 flags_read (Alu Teq) h = absurd (both_ways false refl h)
 flags_read (Alu Cmp) h = absurd (both_ways false refl h)
 flags_read (Alu Cmn) h = absurd (both_ways false refl h)
-flags_read (Alu Orr) h = refl
-flags_read (Alu Mov) h = refl
-flags_read (Alu Bic) h = refl
-flags_read (Alu Mvn) h = refl
-flags_read Movw h = absurd (both_ways false refl h)
-flags_read Movt h = absurd (both_ways false refl h)
-flags_read Nop h = absurd (both_ways false refl h)
-flags_read Yield h = absurd (both_ways false refl h)
+flags_read (Alu op) h = refl
 flags_read Mul h = refl
 flags_read Mla h = refl
-flags_read Mls h = absurd (both_ways false refl h)
 flags_read (Long Umull) h = refl
-flags_read (Long Umlal) h = refl
-flags_read (Long Smull) h = refl
-flags_read (Long Smlal) h = refl
-flags_read Clz h = absurd (both_ways false refl h)
-flags_read Rev h = absurd (both_ways false refl h)
-flags_read (Extend false false) h = absurd (both_ways false refl h)
-flags_read (Extend false true) h = absurd (both_ways false refl h)
-flags_read (Extend true false) h = absurd (both_ways false refl h)
-flags_read (Extend true true) h = absurd (both_ways false refl h)
-flags_read (Word false false) h = absurd (both_ways false refl h)
-flags_read (Word false true) h = absurd (both_ways false refl h)
-flags_read (Word true false) h = absurd (both_ways false refl h)
-flags_read (Word true true) h = absurd (both_ways false refl h)
-flags_read (Half Strh) h = absurd (both_ways false refl h)
-flags_read (Half Ldrh) h = absurd (both_ways false refl h)
-flags_read (Half Ldrsb) h = absurd (both_ways false refl h)
-flags_read (Half Ldrsh) h = absurd (both_ways false refl h)
-flags_read (Block false false false) h = absurd (both_ways false refl h)
-flags_read (Block false false true) h = absurd (both_ways false refl h)
-flags_read (Block false true false) h = absurd (both_ways false refl h)
-flags_read (Block false true true) h = absurd (both_ways false refl h)
-flags_read (Block true false false) h = absurd (both_ways false refl h)
-flags_read (Block true false true) h = absurd (both_ways false refl h)
-flags_read (Block true true false) h = absurd (both_ways false refl h)
-flags_read (Block true true true) h = absurd (both_ways false refl h)
-flags_read (Branch false) h = absurd (both_ways false refl h)
-flags_read (Branch true) h = absurd (both_ways false refl h)
-flags_read (BranchReg false) h = absurd (both_ways false refl h)
-flags_read (BranchReg true) h = absurd (both_ways false refl h)
-flags_read Svc h = absurd (both_ways false refl h)
-flags_read (LoadEx B1) h = absurd (both_ways false refl h)
-flags_read (LoadEx B2) h = absurd (both_ways false refl h)
-flags_read (LoadEx B4) h = absurd (both_ways false refl h)
-flags_read (LoadEx B8) h = absurd (both_ways false refl h)
-flags_read (StoreEx B1) h = absurd (both_ways false refl h)
-flags_read (StoreEx B2) h = absurd (both_ways false refl h)
-flags_read (StoreEx B4) h = absurd (both_ways false refl h)
-flags_read (StoreEx B8) h = absurd (both_ways false refl h)
-flags_read Clrex h = absurd (both_ways false refl h)
-flags_read (Barrier Dsb) h = absurd (both_ways false refl h)
-flags_read (Barrier Dmb) h = absurd (both_ways false refl h)
-flags_read (Barrier Isb) h = absurd (both_ways false refl h)
+flags_read (Long kind) h = refl
+flags_read operation h = absurd (both_ways false refl h)
 
 bare_read : (operation : Operation) → may_have_condition operation ≡ false → again operation false 14 ≡ Some (mnemonic operation false 14)
 unfolding read_among as_operation with_flags place_from
-bare_read (Alu And) h = absurd (both_ways true h refl)
-bare_read (Alu Eor) h = absurd (both_ways true h refl)
-bare_read (Alu Sub) h = absurd (both_ways true h refl)
-bare_read (Alu Rsb) h = absurd (both_ways true h refl)
-bare_read (Alu Add) h = absurd (both_ways true h refl)
-bare_read (Alu Adc) h = absurd (both_ways true h refl)
-bare_read (Alu Sbc) h = absurd (both_ways true h refl)
-bare_read (Alu Rsc) h = absurd (both_ways true h refl)
-bare_read (Alu Tst) h = absurd (both_ways true h refl)
-bare_read (Alu Teq) h = absurd (both_ways true h refl)
-bare_read (Alu Cmp) h = absurd (both_ways true h refl)
-bare_read (Alu Cmn) h = absurd (both_ways true h refl)
-bare_read (Alu Orr) h = absurd (both_ways true h refl)
-bare_read (Alu Mov) h = absurd (both_ways true h refl)
-bare_read (Alu Bic) h = absurd (both_ways true h refl)
-bare_read (Alu Mvn) h = absurd (both_ways true h refl)
-bare_read Movw h = absurd (both_ways true h refl)
-bare_read Movt h = absurd (both_ways true h refl)
-bare_read Nop h = absurd (both_ways true h refl)
-bare_read Yield h = absurd (both_ways true h refl)
-bare_read Mul h = absurd (both_ways true h refl)
-bare_read Mla h = absurd (both_ways true h refl)
-bare_read Mls h = absurd (both_ways true h refl)
-bare_read (Long Umull) h = absurd (both_ways true h refl)
-bare_read (Long Umlal) h = absurd (both_ways true h refl)
-bare_read (Long Smull) h = absurd (both_ways true h refl)
-bare_read (Long Smlal) h = absurd (both_ways true h refl)
-bare_read Clz h = absurd (both_ways true h refl)
-bare_read Rev h = absurd (both_ways true h refl)
-bare_read (Extend false false) h = absurd (both_ways true h refl)
-bare_read (Extend false true) h = absurd (both_ways true h refl)
-bare_read (Extend true false) h = absurd (both_ways true h refl)
-bare_read (Extend true true) h = absurd (both_ways true h refl)
-bare_read (Word false false) h = absurd (both_ways true h refl)
-bare_read (Word false true) h = absurd (both_ways true h refl)
-bare_read (Word true false) h = absurd (both_ways true h refl)
-bare_read (Word true true) h = absurd (both_ways true h refl)
-bare_read (Half Strh) h = absurd (both_ways true h refl)
-bare_read (Half Ldrh) h = absurd (both_ways true h refl)
-bare_read (Half Ldrsb) h = absurd (both_ways true h refl)
-bare_read (Half Ldrsh) h = absurd (both_ways true h refl)
-bare_read (Block false false false) h = absurd (both_ways true h refl)
-bare_read (Block false false true) h = absurd (both_ways true h refl)
-bare_read (Block false true false) h = absurd (both_ways true h refl)
-bare_read (Block false true true) h = absurd (both_ways true h refl)
-bare_read (Block true false false) h = absurd (both_ways true h refl)
-bare_read (Block true false true) h = absurd (both_ways true h refl)
-bare_read (Block true true false) h = absurd (both_ways true h refl)
-bare_read (Block true true true) h = absurd (both_ways true h refl)
-bare_read (Branch false) h = absurd (both_ways true h refl)
-bare_read (Branch true) h = absurd (both_ways true h refl)
-bare_read (BranchReg false) h = absurd (both_ways true h refl)
-bare_read (BranchReg true) h = absurd (both_ways true h refl)
-bare_read Svc h = absurd (both_ways true h refl)
-bare_read (LoadEx B1) h = absurd (both_ways true h refl)
-bare_read (LoadEx B2) h = absurd (both_ways true h refl)
-bare_read (LoadEx B4) h = absurd (both_ways true h refl)
-bare_read (LoadEx B8) h = absurd (both_ways true h refl)
-bare_read (StoreEx B1) h = absurd (both_ways true h refl)
-bare_read (StoreEx B2) h = absurd (both_ways true h refl)
-bare_read (StoreEx B4) h = absurd (both_ways true h refl)
-bare_read (StoreEx B8) h = absurd (both_ways true h refl)
 bare_read Clrex h = refl
 bare_read (Barrier Dsb) h = refl
-bare_read (Barrier Dmb) h = refl
-bare_read (Barrier Isb) h = refl
+bare_read (Barrier kind) h = refl
+bare_read operation h = absurd (both_ways true h refl)
 
 -- one of the conditions
 one_of : (f g : ℕ → Option Mnemonic) → map f (range_with_len 0 15) ≡ map g (range_with_len 0 15) → (cond : ℕ) → cond < 15 → f cond ≡ g cond

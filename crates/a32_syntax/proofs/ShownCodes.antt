@@ -4,12 +4,12 @@ use Rattle.std.specs.List.{list_all}
 use Rattle.std.specs.Fmt.{decimal}
 use Rattle.std.proofs.lemmas.Bool.{and_parts, and_from, both_ways, ltb-true}
 use Rattle.std.proofs.lemmas.Bool.Decides.{nat_tests}
-use Rattle.a32_instr.specs.declared.instructions.AluOp.TheVariants.{And, Eor, Sub, Rsb, Add, Adc, Sbc, Rsc, Tst, Teq, Cmp, Cmn, Orr, Mov, Bic, Mvn}
-use Rattle.a32_instr.specs.declared.instructions.LongKind.TheVariants.{Umull, Umlal, Smull, Smlal}
-use Rattle.a32_instr.specs.declared.instructions.HalfKind.TheVariants.{Strh, Ldrh, Ldrsb, Ldrsh}
-use Rattle.a32_instr.specs.declared.instructions.BarrierKind.TheVariants.{Dsb, Dmb, Isb}
+use Rattle.a32_instr.specs.declared.instructions.AluOp.TheVariants.{And}
+use Rattle.a32_instr.specs.declared.instructions.LongKind.TheVariants.{Umull}
+use Rattle.a32_instr.specs.declared.instructions.HalfKind.TheVariants.{Strh}
+use Rattle.a32_instr.specs.declared.instructions.BarrierKind.TheVariants.{Dsb}
 use Rattle.a32_instr.specs.declared.instructions.Instr.{Instr}
-use Rattle.llsc_base.specs.declared.access.Size.TheVariants.{B1, B2, B4, B8}
+use Rattle.llsc_base.specs.declared.access.Size.TheVariants.{B1}
 use Rattle.number_text.specs.Hexadecimal.{word_text}
 use Rattle.a32_instr.specs.Block.{registers_of}
 use Rattle.a32_forms.specs.Text.{is_wordy}
@@ -20,7 +20,7 @@ use Rattle.a32_forms.specs.Written.{written, number_text, sign_text, has_number,
 use Rattle.a32_forms.specs.Fits.{fits_form, fits_sign}
 use Rattle.a32_forms.proofs.WordParts.{is_word, decimal_is_word, word_is_word}
 use Rattle.a32_syntax.specs.declared.operations.Operation.{Operation}
-use Rattle.a32_syntax.specs.declared.operations.Operation.TheVariants.{Alu, Movw, Movt, Nop, Yield, Mul, Mla, Mls, Long, Clz, Rev, Extend, Word, Half, Block, Branch, BranchReg, Svc, LoadEx, StoreEx, Clrex, Barrier}
+use Rattle.a32_syntax.specs.declared.operations.Operation.TheVariants.{Alu, Long, Extend, Word, Half, Block, Branch, BranchReg, LoadEx, StoreEx, Barrier}
 use Rattle.a32_syntax.specs.Mnemonics.{mnemonic_text}
 use Rattle.a32_syntax.specs.Operands.{operands_of}
 use Rattle.a32_syntax.specs.Shown.{showing_of, operands_text, instruction_text, is_shown_code}
@@ -119,71 +119,22 @@ written_shown (sign ∷ form) numbers h fits =
 
 forms_shown : (operation : Operation) → IsTrue (list_all (λ form. list_all is_shown_code form) (forms_in (operands_of operation)))
 forms_shown (Alu And) = refl
-forms_shown (Alu Eor) = refl
-forms_shown (Alu Sub) = refl
-forms_shown (Alu Rsb) = refl
-forms_shown (Alu Add) = refl
-forms_shown (Alu Adc) = refl
-forms_shown (Alu Sbc) = refl
-forms_shown (Alu Rsc) = refl
-forms_shown (Alu Tst) = refl
-forms_shown (Alu Teq) = refl
-forms_shown (Alu Cmp) = refl
-forms_shown (Alu Cmn) = refl
-forms_shown (Alu Orr) = refl
-forms_shown (Alu Mov) = refl
-forms_shown (Alu Bic) = refl
-forms_shown (Alu Mvn) = refl
-forms_shown Movw = refl
-forms_shown Movt = refl
-forms_shown Nop = refl
-forms_shown Yield = refl
-forms_shown Mul = refl
-forms_shown Mla = refl
-forms_shown Mls = refl
 forms_shown (Long Umull) = refl
-forms_shown (Long Umlal) = refl
-forms_shown (Long Smull) = refl
-forms_shown (Long Smlal) = refl
-forms_shown Clz = refl
-forms_shown Rev = refl
 forms_shown (Extend false false) = refl
-forms_shown (Extend false true) = refl
 forms_shown (Extend true false) = refl
-forms_shown (Extend true true) = refl
 forms_shown (Word false false) = refl
-forms_shown (Word false true) = refl
 forms_shown (Word true false) = refl
-forms_shown (Word true true) = refl
 forms_shown (Half Strh) = refl
-forms_shown (Half Ldrh) = refl
-forms_shown (Half Ldrsb) = refl
-forms_shown (Half Ldrsh) = refl
 forms_shown (Block false false false) = refl
-forms_shown (Block false false true) = refl
 forms_shown (Block false true false) = refl
-forms_shown (Block false true true) = refl
 forms_shown (Block true false false) = refl
-forms_shown (Block true false true) = refl
 forms_shown (Block true true false) = refl
-forms_shown (Block true true true) = refl
 forms_shown (Branch false) = refl
-forms_shown (Branch true) = refl
 forms_shown (BranchReg false) = refl
-forms_shown (BranchReg true) = refl
-forms_shown Svc = refl
 forms_shown (LoadEx B1) = refl
-forms_shown (LoadEx B2) = refl
-forms_shown (LoadEx B4) = refl
-forms_shown (LoadEx B8) = refl
 forms_shown (StoreEx B1) = refl
-forms_shown (StoreEx B2) = refl
-forms_shown (StoreEx B4) = refl
-forms_shown (StoreEx B8) = refl
-forms_shown Clrex = refl
 forms_shown (Barrier Dsb) = refl
-forms_shown (Barrier Dmb) = refl
-forms_shown (Barrier Isb) = refl
+forms_shown operation = refl
 
 form_shown : (operation : Operation) (form : ℕ) → AreShown (form_in (operands_of operation) form)
 form_shown operation form = passes_at (λ form. list_all is_shown_code form) (forms_in (operands_of operation)) form refl (forms_shown operation)

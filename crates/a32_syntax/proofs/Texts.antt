@@ -2,17 +2,17 @@
 use Rattle.std.proofs.Common.{◌≡◌, ℕ, zero, suc, ◌≤◌, nat_le, IsTrue, Bool, true, false, List, [], ◌∷◌, ◌++◌, length, slice_index_or, arith, refl}
 use Rattle.std.specs.List.{list_all}
 use Rattle.std.proofs.lemmas.Bool.{and_parts, and_from, leb-true}
-use Rattle.a32_instr.specs.declared.instructions.AluOp.TheVariants.{And, Eor, Sub, Rsb, Add, Adc, Sbc, Rsc, Tst, Teq, Cmp, Cmn, Orr, Mov, Bic, Mvn}
-use Rattle.a32_instr.specs.declared.instructions.LongKind.TheVariants.{Umull, Umlal, Smull, Smlal}
-use Rattle.a32_instr.specs.declared.instructions.HalfKind.TheVariants.{Strh, Ldrh, Ldrsb, Ldrsh}
-use Rattle.a32_instr.specs.declared.instructions.BarrierKind.TheVariants.{Dsb, Dmb, Isb}
-use Rattle.llsc_base.specs.declared.access.Size.TheVariants.{B1, B2, B4, B8}
+use Rattle.a32_instr.specs.declared.instructions.AluOp.TheVariants.{And}
+use Rattle.a32_instr.specs.declared.instructions.LongKind.TheVariants.{Umull}
+use Rattle.a32_instr.specs.declared.instructions.HalfKind.TheVariants.{Strh}
+use Rattle.a32_instr.specs.declared.instructions.BarrierKind.TheVariants.{Dsb}
+use Rattle.llsc_base.specs.declared.access.Size.TheVariants.{B1}
 use Rattle.a32_forms.specs.Text.{is_wordy, is_name, begins_wordy, front_word, after_word}
 use Rattle.a32_forms.specs.Names.{names_in}
 use Rattle.a32_forms.specs.Forms.{forms_in, form_in}
 use Rattle.a32_forms.specs.Fits.{form_room}
 use Rattle.a32_syntax.specs.declared.operations.Operation.{Operation}
-use Rattle.a32_syntax.specs.declared.operations.Operation.TheVariants.{Alu, Movw, Movt, Nop, Yield, Mul, Mla, Mls, Long, Clz, Rev, Extend, Word, Half, Block, Branch, BranchReg, Svc, LoadEx, StoreEx, Clrex, Barrier}
+use Rattle.a32_syntax.specs.declared.operations.Operation.TheVariants.{Alu, Long, Extend, Word, Half, Block, Branch, BranchReg, LoadEx, StoreEx, Barrier}
 use Rattle.a32_syntax.specs.Mnemonics.{base_of, flags_text, condition_name, conditions, mnemonic_text}
 use Rattle.a32_syntax.specs.declared.operations.Mnemonic.{Mnemonic}
 use Rattle.a32_syntax.specs.Shown.{operands_text}
@@ -26,140 +26,42 @@ passes_at test (text ∷ texts) (suc at) none all = passes_at test texts at none
 
 pub base_short : (operation : Operation) → length (base_of operation) ≤ 6
 base_short (Alu And) = omega arith
-base_short (Alu Eor) = omega arith
-base_short (Alu Sub) = omega arith
-base_short (Alu Rsb) = omega arith
-base_short (Alu Add) = omega arith
-base_short (Alu Adc) = omega arith
-base_short (Alu Sbc) = omega arith
-base_short (Alu Rsc) = omega arith
-base_short (Alu Tst) = omega arith
-base_short (Alu Teq) = omega arith
-base_short (Alu Cmp) = omega arith
-base_short (Alu Cmn) = omega arith
-base_short (Alu Orr) = omega arith
-base_short (Alu Mov) = omega arith
-base_short (Alu Bic) = omega arith
-base_short (Alu Mvn) = omega arith
-base_short Movw = omega arith
-base_short Movt = omega arith
-base_short Nop = omega arith
-base_short Yield = omega arith
-base_short Mul = omega arith
-base_short Mla = omega arith
-base_short Mls = omega arith
 base_short (Long Umull) = omega arith
-base_short (Long Umlal) = omega arith
-base_short (Long Smull) = omega arith
-base_short (Long Smlal) = omega arith
-base_short Clz = omega arith
-base_short Rev = omega arith
 base_short (Extend false false) = omega arith
-base_short (Extend false true) = omega arith
 base_short (Extend true false) = omega arith
-base_short (Extend true true) = omega arith
 base_short (Word false false) = omega arith
-base_short (Word false true) = omega arith
 base_short (Word true false) = omega arith
-base_short (Word true true) = omega arith
 base_short (Half Strh) = omega arith
-base_short (Half Ldrh) = omega arith
-base_short (Half Ldrsb) = omega arith
-base_short (Half Ldrsh) = omega arith
 base_short (Block false false false) = omega arith
-base_short (Block false false true) = omega arith
 base_short (Block false true false) = omega arith
-base_short (Block false true true) = omega arith
 base_short (Block true false false) = omega arith
-base_short (Block true false true) = omega arith
 base_short (Block true true false) = omega arith
-base_short (Block true true true) = omega arith
 base_short (Branch false) = omega arith
-base_short (Branch true) = omega arith
 base_short (BranchReg false) = omega arith
-base_short (BranchReg true) = omega arith
-base_short Svc = omega arith
 base_short (LoadEx B1) = omega arith
-base_short (LoadEx B2) = omega arith
-base_short (LoadEx B4) = omega arith
-base_short (LoadEx B8) = omega arith
 base_short (StoreEx B1) = omega arith
-base_short (StoreEx B2) = omega arith
-base_short (StoreEx B4) = omega arith
-base_short (StoreEx B8) = omega arith
-base_short Clrex = omega arith
 base_short (Barrier Dsb) = omega arith
-base_short (Barrier Dmb) = omega arith
-base_short (Barrier Isb) = omega arith
+base_short operation = omega arith
 
 -- the longest of the forms of an operation
 forms_short : (operation : Operation) → IsTrue (list_all (λ form. nat_le (form_room form) 73) (forms_in (operands_of operation)))
 forms_short (Alu And) = refl
-forms_short (Alu Eor) = refl
-forms_short (Alu Sub) = refl
-forms_short (Alu Rsb) = refl
-forms_short (Alu Add) = refl
-forms_short (Alu Adc) = refl
-forms_short (Alu Sbc) = refl
-forms_short (Alu Rsc) = refl
-forms_short (Alu Tst) = refl
-forms_short (Alu Teq) = refl
-forms_short (Alu Cmp) = refl
-forms_short (Alu Cmn) = refl
-forms_short (Alu Orr) = refl
-forms_short (Alu Mov) = refl
-forms_short (Alu Bic) = refl
-forms_short (Alu Mvn) = refl
-forms_short Movw = refl
-forms_short Movt = refl
-forms_short Nop = refl
-forms_short Yield = refl
-forms_short Mul = refl
-forms_short Mla = refl
-forms_short Mls = refl
 forms_short (Long Umull) = refl
-forms_short (Long Umlal) = refl
-forms_short (Long Smull) = refl
-forms_short (Long Smlal) = refl
-forms_short Clz = refl
-forms_short Rev = refl
 forms_short (Extend false false) = refl
-forms_short (Extend false true) = refl
 forms_short (Extend true false) = refl
-forms_short (Extend true true) = refl
 forms_short (Word false false) = refl
-forms_short (Word false true) = refl
 forms_short (Word true false) = refl
-forms_short (Word true true) = refl
 forms_short (Half Strh) = refl
-forms_short (Half Ldrh) = refl
-forms_short (Half Ldrsb) = refl
-forms_short (Half Ldrsh) = refl
 forms_short (Block false false false) = refl
-forms_short (Block false false true) = refl
 forms_short (Block false true false) = refl
-forms_short (Block false true true) = refl
 forms_short (Block true false false) = refl
-forms_short (Block true false true) = refl
 forms_short (Block true true false) = refl
-forms_short (Block true true true) = refl
 forms_short (Branch false) = refl
-forms_short (Branch true) = refl
 forms_short (BranchReg false) = refl
-forms_short (BranchReg true) = refl
-forms_short Svc = refl
 forms_short (LoadEx B1) = refl
-forms_short (LoadEx B2) = refl
-forms_short (LoadEx B4) = refl
-forms_short (LoadEx B8) = refl
 forms_short (StoreEx B1) = refl
-forms_short (StoreEx B2) = refl
-forms_short (StoreEx B4) = refl
-forms_short (StoreEx B8) = refl
-forms_short Clrex = refl
 forms_short (Barrier Dsb) = refl
-forms_short (Barrier Dmb) = refl
-forms_short (Barrier Isb) = refl
+forms_short operation = refl
 
 pub form_short : (operation : Operation) (form : ℕ) → form_room (form_in (operands_of operation) form) ≤ 73
 form_short operation form =
@@ -176,71 +78,22 @@ wordy_join (code ∷ x) y h g =
 
 base_wordy : (operation : Operation) → IsTrue (list_all is_wordy (base_of operation))
 base_wordy (Alu And) = refl
-base_wordy (Alu Eor) = refl
-base_wordy (Alu Sub) = refl
-base_wordy (Alu Rsb) = refl
-base_wordy (Alu Add) = refl
-base_wordy (Alu Adc) = refl
-base_wordy (Alu Sbc) = refl
-base_wordy (Alu Rsc) = refl
-base_wordy (Alu Tst) = refl
-base_wordy (Alu Teq) = refl
-base_wordy (Alu Cmp) = refl
-base_wordy (Alu Cmn) = refl
-base_wordy (Alu Orr) = refl
-base_wordy (Alu Mov) = refl
-base_wordy (Alu Bic) = refl
-base_wordy (Alu Mvn) = refl
-base_wordy Movw = refl
-base_wordy Movt = refl
-base_wordy Nop = refl
-base_wordy Yield = refl
-base_wordy Mul = refl
-base_wordy Mla = refl
-base_wordy Mls = refl
 base_wordy (Long Umull) = refl
-base_wordy (Long Umlal) = refl
-base_wordy (Long Smull) = refl
-base_wordy (Long Smlal) = refl
-base_wordy Clz = refl
-base_wordy Rev = refl
 base_wordy (Extend false false) = refl
-base_wordy (Extend false true) = refl
 base_wordy (Extend true false) = refl
-base_wordy (Extend true true) = refl
 base_wordy (Word false false) = refl
-base_wordy (Word false true) = refl
 base_wordy (Word true false) = refl
-base_wordy (Word true true) = refl
 base_wordy (Half Strh) = refl
-base_wordy (Half Ldrh) = refl
-base_wordy (Half Ldrsb) = refl
-base_wordy (Half Ldrsh) = refl
 base_wordy (Block false false false) = refl
-base_wordy (Block false false true) = refl
 base_wordy (Block false true false) = refl
-base_wordy (Block false true true) = refl
 base_wordy (Block true false false) = refl
-base_wordy (Block true false true) = refl
 base_wordy (Block true true false) = refl
-base_wordy (Block true true true) = refl
 base_wordy (Branch false) = refl
-base_wordy (Branch true) = refl
 base_wordy (BranchReg false) = refl
-base_wordy (BranchReg true) = refl
-base_wordy Svc = refl
 base_wordy (LoadEx B1) = refl
-base_wordy (LoadEx B2) = refl
-base_wordy (LoadEx B4) = refl
-base_wordy (LoadEx B8) = refl
 base_wordy (StoreEx B1) = refl
-base_wordy (StoreEx B2) = refl
-base_wordy (StoreEx B4) = refl
-base_wordy (StoreEx B8) = refl
-base_wordy Clrex = refl
 base_wordy (Barrier Dsb) = refl
-base_wordy (Barrier Dmb) = refl
-base_wordy (Barrier Isb) = refl
+base_wordy operation = refl
 
 flags_wordy : (set_flags : Bool) → IsTrue (list_all is_wordy (flags_text set_flags))
 flags_wordy true = refl
@@ -282,71 +135,22 @@ operands_behind mnemonic form numbers = (front_is (mnemonic_text mnemonic) (oper
 -- a mnemonic begins with a letter
 base_is_name : (operation : Operation) (rest : List ℕ) → is_name (base_of operation ++ rest) ≡ true
 base_is_name (Alu And) rest = refl
-base_is_name (Alu Eor) rest = refl
-base_is_name (Alu Sub) rest = refl
-base_is_name (Alu Rsb) rest = refl
-base_is_name (Alu Add) rest = refl
-base_is_name (Alu Adc) rest = refl
-base_is_name (Alu Sbc) rest = refl
-base_is_name (Alu Rsc) rest = refl
-base_is_name (Alu Tst) rest = refl
-base_is_name (Alu Teq) rest = refl
-base_is_name (Alu Cmp) rest = refl
-base_is_name (Alu Cmn) rest = refl
-base_is_name (Alu Orr) rest = refl
-base_is_name (Alu Mov) rest = refl
-base_is_name (Alu Bic) rest = refl
-base_is_name (Alu Mvn) rest = refl
-base_is_name Movw rest = refl
-base_is_name Movt rest = refl
-base_is_name Nop rest = refl
-base_is_name Yield rest = refl
-base_is_name Mul rest = refl
-base_is_name Mla rest = refl
-base_is_name Mls rest = refl
 base_is_name (Long Umull) rest = refl
-base_is_name (Long Umlal) rest = refl
-base_is_name (Long Smull) rest = refl
-base_is_name (Long Smlal) rest = refl
-base_is_name Clz rest = refl
-base_is_name Rev rest = refl
 base_is_name (Extend false false) rest = refl
-base_is_name (Extend false true) rest = refl
 base_is_name (Extend true false) rest = refl
-base_is_name (Extend true true) rest = refl
 base_is_name (Word false false) rest = refl
-base_is_name (Word false true) rest = refl
 base_is_name (Word true false) rest = refl
-base_is_name (Word true true) rest = refl
 base_is_name (Half Strh) rest = refl
-base_is_name (Half Ldrh) rest = refl
-base_is_name (Half Ldrsb) rest = refl
-base_is_name (Half Ldrsh) rest = refl
 base_is_name (Block false false false) rest = refl
-base_is_name (Block false false true) rest = refl
 base_is_name (Block false true false) rest = refl
-base_is_name (Block false true true) rest = refl
 base_is_name (Block true false false) rest = refl
-base_is_name (Block true false true) rest = refl
 base_is_name (Block true true false) rest = refl
-base_is_name (Block true true true) rest = refl
 base_is_name (Branch false) rest = refl
-base_is_name (Branch true) rest = refl
 base_is_name (BranchReg false) rest = refl
-base_is_name (BranchReg true) rest = refl
-base_is_name Svc rest = refl
 base_is_name (LoadEx B1) rest = refl
-base_is_name (LoadEx B2) rest = refl
-base_is_name (LoadEx B4) rest = refl
-base_is_name (LoadEx B8) rest = refl
 base_is_name (StoreEx B1) rest = refl
-base_is_name (StoreEx B2) rest = refl
-base_is_name (StoreEx B4) rest = refl
-base_is_name (StoreEx B8) rest = refl
-base_is_name Clrex rest = refl
 base_is_name (Barrier Dsb) rest = refl
-base_is_name (Barrier Dmb) rest = refl
-base_is_name (Barrier Isb) rest = refl
+base_is_name operation rest = refl
 
 pub mnemonic_is_name : (mnemonic : Mnemonic) → is_name (mnemonic_text mnemonic) ≡ true
 mnemonic_is_name mnemonic = base_is_name mnemonic.operation (flags_text mnemonic.set_flags ++ condition_name mnemonic.cond)

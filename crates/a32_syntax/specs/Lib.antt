@@ -7,3 +7,4 @@ pub mod Shown
 pub mod Formed
 pub mod Worked
 pub mod WorkedShown
+pub mod Classes

@@ -1,6 +1,7 @@
 //! What is shown of an instruction: its mnemonic, and one of the forms of its operands with numbers.
-ghost use Rattle.std.specs.Prelude.{◌≡◌, ◌<◌, ◌≤◌, ◌^◌, false, length};
+ghost use Rattle.std.specs.Prelude.{◌≡◌, ◌<◌, ◌≤◌, ◌^◌, IsTrue, false, length};
 ghost use Rattle.a32_instr.specs.Branch.{target_of};
+ghost use Rattle.a32_syntax.specs.Classes.{is_access, is_data, is_multiply, is_synchronization};
 ghost use Rattle.a32_syntax.specs.Shown.{always, flag, load_exclusive_numbers, showing, showing_of, store_exclusive_numbers};
 
 use crate::operations::{Mnemonic, Operation};
@@ -79,6 +80,20 @@ fn plain(operation: Operation, cond: Cond, numbers: &[u64]) -> Showing
     in_form(operation, false, cond, 0, Numbers::of(numbers))
 }
 
+// An operation of registers alone, by its first form.
+fn of_registers(operation: Operation, set_flags: bool, cond: Cond, registers: &[Reg]) -> Showing
+    requires { length registers.now ≤ 8 }
+    ensures { result ≡ showing operation set_flags cond 0 registers.now }
+{
+    in_form(
+        operation,
+        set_flags,
+        cond,
+        0,
+        Numbers::of_registers(registers),
+    )
+}
+
 // The condition of an instruction that is always carried out.
 fn always() -> Cond
     ensures { result ≡ always }
@@ -148,9 +163,10 @@ fn store_exclusive(size: Size, rn: Reg, rd: Reg, rt: Reg) -> Numbers
     }
 }
 
-/// What is shown of an instruction at an address.
+// Data processing, MOVW and MOVT, CLZ, REV and the extends (DDI 0406C A5.2, A5.4).
 #[tactic(auto, unfolding(crate::specs::Shown::showing_of))]
-pub fn showing_of(instruction: &Instr, here: u32) -> Showing
+fn data(instruction: &Instr, here: u32) -> Showing
+    requires { IsTrue (is_data instruction.now) }
     ensures { result ≡ showing_of instruction.now here }
 {
     match *instruction {
@@ -168,54 +184,8 @@ pub fn showing_of(instruction: &Instr, here: u32) -> Showing
         Instr::Movt { cond, rd, imm } => {
             plain(Operation::Movt, cond, &[register(rd), u64::from(imm)])
         }
-        Instr::Nop { cond } => plain(Operation::Nop, cond, &[]),
-        Instr::Yield { cond } => plain(Operation::Yield, cond, &[]),
-        Instr::Mul {
-            cond,
-            s,
-            rd,
-            rn,
-            rm,
-        } => {
-            let numbers = Numbers::of(&[register(rd), register(rn), register(rm)]);
-            in_form(Operation::Mul, s, cond, 0, numbers)
-        }
-        Instr::Mla {
-            cond,
-            s,
-            rd,
-            rn,
-            rm,
-            ra,
-        } => {
-            let numbers = Numbers::of(&[register(rd), register(rn), register(rm), register(ra)]);
-            in_form(Operation::Mla, s, cond, 0, numbers)
-        }
-        Instr::Mls {
-            cond,
-            rd,
-            rn,
-            rm,
-            ra,
-        } => plain(
-            Operation::Mls,
-            cond,
-            &[register(rd), register(rn), register(rm), register(ra)],
-        ),
-        Instr::Long {
-            cond,
-            kind,
-            s,
-            lo,
-            hi,
-            rn,
-            rm,
-        } => {
-            let numbers = Numbers::of(&[register(lo), register(hi), register(rn), register(rm)]);
-            in_form(Operation::Long(kind), s, cond, 0, numbers)
-        }
-        Instr::Clz { cond, rd, rm } => plain(Operation::Clz, cond, &[register(rd), register(rm)]),
-        Instr::Rev { cond, rd, rm } => plain(Operation::Rev, cond, &[register(rd), register(rm)]),
+        Instr::Clz { cond, rd, rm } => of_registers(Operation::Clz, false, cond, &[rd, rm]),
+        Instr::Rev { cond, rd, rm } => of_registers(Operation::Rev, false, cond, &[rd, rm]),
         Instr::Extend {
             cond,
             unsigned,
@@ -224,6 +194,59 @@ pub fn showing_of(instruction: &Instr, here: u32) -> Showing
             rm,
             turn,
         } => extend(cond, unsigned, half, rd, rm, turn, here),
+        _ => unreachable!(),
+    }
+}
+
+// Multiplications (DDI 0406C A5.2.5).
+#[tactic(auto, unfolding(crate::specs::Shown::showing_of))]
+fn multiplication(instruction: &Instr, here: u32) -> Showing
+    requires { IsTrue (is_multiply instruction.now) }
+    ensures { result ≡ showing_of instruction.now here }
+{
+    match *instruction {
+        Instr::Mul {
+            cond,
+            s,
+            rd,
+            rn,
+            rm,
+        } => of_registers(Operation::Mul, s, cond, &[rd, rn, rm]),
+        Instr::Mla {
+            cond,
+            s,
+            rd,
+            rn,
+            rm,
+            ra,
+        } => of_registers(Operation::Mla, s, cond, &[rd, rn, rm, ra]),
+        Instr::Mls {
+            cond,
+            rd,
+            rn,
+            rm,
+            ra,
+        } => of_registers(Operation::Mls, false, cond, &[rd, rn, rm, ra]),
+        Instr::Long {
+            cond,
+            kind,
+            s,
+            lo,
+            hi,
+            rn,
+            rm,
+        } => of_registers(Operation::Long(kind), s, cond, &[lo, hi, rn, rm]),
+        _ => unreachable!(),
+    }
+}
+
+// Loads and stores of one register that aren't exclusive (DDI 0406C A5.2.8, A5.3).
+#[tactic(auto, unfolding(crate::specs::Shown::showing_of))]
+fn access(instruction: &Instr, here: u32) -> Showing
+    requires { IsTrue (is_access instruction.now) }
+    ensures { result ≡ showing_of instruction.now here }
+{
+    match *instruction {
         Instr::Word {
             cond,
             load,
@@ -233,14 +256,9 @@ pub fn showing_of(instruction: &Instr, here: u32) -> Showing
             rt,
             ref offset,
         } => {
+            let form = word_form(index, offset);
             let numbers = access_numbers(index, offset, rt, rn);
-            in_form(
-                Operation::Word { load, byte },
-                false,
-                cond,
-                word_form(index, offset),
-                numbers,
-            )
+            in_form(Operation::Word { load, byte }, false, cond, form, numbers)
         }
         Instr::Half {
             cond,
@@ -250,35 +268,21 @@ pub fn showing_of(instruction: &Instr, here: u32) -> Showing
             rt,
             ref offset,
         } => {
+            let form = half_form(index, offset);
             let numbers = access_numbers(index, offset, rt, rn);
-            in_form(
-                Operation::Half(kind),
-                false,
-                cond,
-                half_form(index, offset),
-                numbers,
-            )
+            in_form(Operation::Half(kind), false, cond, form, numbers)
         }
-        Instr::Block {
-            cond,
-            load,
-            before,
-            up,
-            wback,
-            rn,
-            list,
-        } => plain(
-            Operation::Block { load, before, up },
-            cond,
-            &[register(rn), flag(wback), u64::from(list)],
-        ),
-        Instr::Branch { cond, link, words } => {
-            plain(Operation::Branch { link }, cond, &[target(here, words)])
-        }
-        Instr::BranchReg { cond, link, rm } => {
-            plain(Operation::BranchReg { link }, cond, &[register(rm)])
-        }
-        Instr::Svc { cond, imm } => plain(Operation::Svc, cond, &[u64::from(imm)]),
+        _ => unreachable!(),
+    }
+}
+
+// Exclusives, CLREX and the barriers (DDI 0406C A5.2.10, A5.7.1).
+#[tactic(auto, unfolding(crate::specs::Shown::showing_of))]
+fn synchronization(instruction: &Instr, here: u32) -> Showing
+    requires { IsTrue (is_synchronization instruction.now) }
+    ensures { result ≡ showing_of instruction.now here }
+{
+    match *instruction {
         Instr::LoadEx { cond, size, rn, rt } => {
             let numbers = load_exclusive(size, rn, rt);
             in_form(Operation::LoadEx(size), false, cond, 0, numbers)
@@ -297,5 +301,47 @@ pub fn showing_of(instruction: &Instr, here: u32) -> Showing
         Instr::Barrier { kind, option } => {
             plain(Operation::Barrier(kind), always(), &[u64::from(option)])
         }
+        _ => unreachable!(),
+    }
+}
+
+/// What is shown of an instruction at an address.
+#[tactic(auto, unfolding(crate::specs::Shown::showing_of))]
+pub fn showing_of(instruction: &Instr, here: u32) -> Showing
+    ensures { result ≡ showing_of instruction.now here }
+{
+    match *instruction {
+        Instr::Alu { .. }
+        | Instr::Movw { .. }
+        | Instr::Movt { .. }
+        | Instr::Clz { .. }
+        | Instr::Rev { .. }
+        | Instr::Extend { .. } => data(instruction, here),
+        Instr::Mul { .. } | Instr::Mla { .. } | Instr::Mls { .. } | Instr::Long { .. } =>
+            multiplication(instruction, here),
+        Instr::Word { .. } | Instr::Half { .. } => access(instruction, here),
+        Instr::LoadEx { .. } | Instr::StoreEx { .. } | Instr::Clrex | Instr::Barrier { .. } =>
+            synchronization(instruction, here),
+        Instr::Nop { cond } => plain(Operation::Nop, cond, &[]),
+        Instr::Yield { cond } => plain(Operation::Yield, cond, &[]),
+        Instr::Block {
+            cond,
+            load,
+            before,
+            up,
+            wback,
+            rn,
+            list,
+        } => {
+            let numbers = [register(rn), flag(wback), u64::from(list)];
+            plain(Operation::Block { load, before, up }, cond, &numbers)
+        }
+        Instr::Branch { cond, link, words } => {
+            plain(Operation::Branch { link }, cond, &[target(here, words)])
+        }
+        Instr::BranchReg { cond, link, rm } => {
+            plain(Operation::BranchReg { link }, cond, &[register(rm)])
+        }
+        Instr::Svc { cond, imm } => plain(Operation::Svc, cond, &[u64::from(imm)]),
     }
 }

@@ -47,6 +47,18 @@ impl Numbers {
         all
     }
 
+    /// The numbers of these registers.
+    pub fn of_registers(registers: &[Reg]) -> Numbers
+        requires { length registers.now ≤ 8 }
+        ensures { result ≡ registers.now }
+    {
+        let mut all = Numbers::new();
+        for reg in registers {
+            all.push(register(*reg));
+        }
+        all
+    }
+
     /// Adds a number behind the others.
     pub fn push(&mut self, number: u64)
         requires { length self.old < 8 }
