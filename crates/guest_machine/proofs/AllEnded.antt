@@ -1,17 +1,15 @@
 -- Each thread of a trace has ended.
-use Rattle.std.proofs.Common.{◌≡◌, ◌≢◌, ◌⊎◌, ℕ, ◌+◌, ◌<◌, Bool, true, false, List, [], ◌∷◌, ◌++◌, refl, sym, ◌∙◌, ap, subst, inl, inr, arith, zero-add}
+use Rattle.std.proofs.Common.{◌≡◌, ◌≢◌, ◌⊎◌, ℕ, ◌<◌, true, List, [], ◌∷◌, ◌++◌, sym, ◌∙◌, subst, inl, inr, arith}
 use Rattle.std.proofs.lemmas.Bool.{cases_eq}
-use Rattle.std.specs.List.{range_with_len}
 use Rattle.llsc_base.specs.Images.{Program}
 use Rattle.llsc_base.specs.Sizes.{Numbers}
 use Rattle.history.specs.declared.entry.Access.{Access}
 use Rattle.a32_instr.specs.declared.outside.Ask.{Ask}
-use Rattle.guest_calls.specs.Run.{Pair, Asks, Ends}
-use Rattle.guest_calls.proofs.Asked.{asks_or_ends}
+use Rattle.guest_calls.specs.Run.{Ends}
 use Rattle.guest_thread.specs.Accesses.{pairs_in}
 use Rattle.guest_thread.specs.Start.{thread_start}
 use Rattle.guest_machine.specs.Seats.{is_one_of}
-use Rattle.guest_machine.specs.Turns.{access_by, monitor_of, drawn, turn_of, without, Takes, begins, makes, stops, IsTrace}
+use Rattle.guest_machine.specs.Turns.{access_by, monitor_of, drawn, without, Takes, begins, makes, stops, IsTrace}
 use Rattle.guest_machine.specs.Laws.{HasEnded}
 use Rattle.guest_machine.proofs.Pushed.{other_push}
 use Rattle.guest_machine.proofs.Seated.{turn_live, left_in, in_range}

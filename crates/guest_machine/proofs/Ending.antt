@@ -1,5 +1,5 @@
 -- The ends of threads that have all stopped.
-use Rattle.std.proofs.Common.{◌≡◌, ℕ, zero, suc, ◌+◌, ◌<◌, ◌≤◌, Bool, true, false, List, [], ◌∷◌, ◌++◌, drop, take, get_or, length, Option, Some, None, IsSome, slice_index_or, slice_get, refl, sym, ◌∙◌, ap, subst, arith}
+use Rattle.std.proofs.Common.{◌≡◌, ℕ, zero, suc, ◌+◌, ◌<◌, ◌≤◌, false, List, [], ◌∷◌, ◌++◌, drop, take, get_or, length, Option, Some, None, IsSome, slice_index_or, slice_get, refl, sym, ◌∙◌, ap, subst, arith}
 use Rattle.std.specs.Option.{is_none}
 use Rattle.std.proofs.lemmas.List.{drop_more, length_push, get_or_push, get_or-take, take_at, take-take}
 use Rattle.llsc_base.specs.Images.{Program}
@@ -9,11 +9,10 @@ use Rattle.history.specs.Parts.{entries_of}
 use Rattle.history.specs.declared.entry.Access.{Access}
 use Rattle.a32_instr.specs.declared.outside.Stop.{Stop}
 use Rattle.a32_step.specs.Machine.{Machine}
-use Rattle.guest_calls.specs.Run.{Pair, Ends}
+use Rattle.guest_calls.specs.Run.{Ends}
 use Rattle.guest_thread.specs.Accesses.{history_of, pairs_in}
 use Rattle.guest_thread.specs.Counts.{reads_of, writes_of, fails_of}
 use Rattle.guest_thread.specs.End.{IsEndIn}
-use Rattle.guest_thread.specs.Standing.{Standing}
 use Rattle.guest_thread.specs.Start.{thread_start}
 use Rattle.guest_thread.specs.declared.ends.GuestEnd.{GuestEnd}
 use Rattle.guest_machine.specs.Seats.{first_seat, is_one_of, StandsBy, IsSeated, HaveTurned, IsEndOf, AreEndsOf, HaveStopped}

@@ -1,8 +1,8 @@
 -- Turns are one: from where the threads are, a turn leads to one place at most.
-use Rattle.std.proofs.Common.{◌≡◌, ◌⊎◌, ℕ, zero, suc, ◌+◌, ◌/◌, ◌%◌, ◌^◌, ◌<◌, ◌≤◌, List, [], ◌∷◌, ◌++◌, length, Option, Some, None, slice_get, refl, sym, ◌∙◌, ap, subst, inl, inr, arith}
+use Rattle.std.proofs.Common.{◌≡◌, ℕ, zero, suc, ◌<◌, ◌≤◌, List, [], ◌∷◌, ◌++◌, length, Option, Some, None, refl, sym, ◌∙◌, ap, subst, inl, inr, arith}
 use Rattle.std.specs.List.{range_with_len}
 use Rattle.std.proofs.lemmas.List.{length-append}
-use Rattle.std.proofs.lemmas.Bool.{cases_order, cases_lt}
+use Rattle.std.proofs.lemmas.Bool.{cases_lt}
 use Rattle.llsc_base.specs.Images.{Program}
 use Rattle.llsc_base.specs.Sizes.{Numbers}
 use Rattle.history.specs.declared.entry.Access.{Access}
@@ -10,10 +10,10 @@ use Rattle.a32_instr.specs.declared.outside.Ask.{Ask}
 use Rattle.a32_instr.specs.declared.outside.Stop.{Stop}
 use Rattle.guest_calls.specs.Run.{Asks, Ends}
 use Rattle.guest_calls.proofs.Asked.{one_ask, asks_or_ends}
-use Rattle.a32_step.specs.Machine.{Machine}
 use Rattle.guest_thread.specs.Accesses.{pairs_in}
 use Rattle.guest_thread.specs.Start.{thread_start}
-use Rattle.guest_machine.specs.Turns.{access_by, monitor_of, drawn, turn_of, without, Takes, begins, makes, stops, IsTrace, most_accesses, IsTooLong}
+use Rattle.run_record.specs.Limits.{most_accesses}
+use Rattle.guest_machine.specs.Turns.{access_by, monitor_of, drawn, turn_of, without, Takes, begins, makes, stops, IsTrace, IsTooLong}
 
 -- where the threads are: the last number, the threads that have not stopped, and the accesses so far
 pub record Spot : Type 0 where

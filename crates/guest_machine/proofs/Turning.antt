@@ -1,5 +1,5 @@
 -- One turn: the threads after an access of one, and after one has stopped.
-use Rattle.std.proofs.Common.{◌≡◌, ◌≢◌, ℕ, ◌+◌, ◌<◌, ◌≤◌, Bool, true, false, List, [], ◌∷◌, ◌++◌, All, map, set, get_or, length, Option, Some, None, slice_index_or, refl, sym, ◌∙◌, ap, subst, inl, inr, arith, length-set, get_or-set_same, get_or-set_other, zero-add}
+use Rattle.std.proofs.Common.{◌≡◌, ◌≢◌, ℕ, ◌<◌, true, List, [], ◌∷◌, ◌++◌, All, map, set, length, Option, Some, None, slice_index_or, refl, sym, ◌∙◌, ap, subst, inl, inr, arith, length-set, get_or-set_same, get_or-set_other, zero-add}
 use Rattle.std.specs.Option.{is_none}
 use Rattle.std.specs.List.{range_with_len}
 use Rattle.std.proofs.lemmas.Bool.{cases_eq}
@@ -14,18 +14,17 @@ use Rattle.history.specs.declared.entry.Access.{Access}
 use Rattle.history.proofs.Appends.{IsArmLegal-push}
 use Rattle.a32_instr.specs.declared.outside.Ask.{Ask}
 use Rattle.a32_instr.specs.declared.outside.Stop.{Stop}
-use Rattle.a32_step.specs.Machine.{Machine}
 use Rattle.guest_calls.specs.Run.{Pair, Reaches, Asks, Ends}
-use Rattle.guest_thread.specs.Accesses.{entry_of, history_of, pairs_in}
+use Rattle.guest_thread.specs.Accesses.{entry_of, history_of, pairs_in, reply_of}
 use Rattle.guest_thread.specs.Standing.{Standing, IsReadyIn, IsWaitingIn}
 use Rattle.guest_thread.specs.Start.{thread_start}
 use Rattle.guest_thread.specs.Under.{HasCome, Awaits}
-use Rattle.run_record.specs.Limits.{IsAccess}
-use Rattle.guest_machine.specs.Turns.{access_by, monitor_of, drawn, turn_of, without, Takes, begins, makes, stops, most_accesses, IsTooLong}
-use Rattle.guest_machine.specs.Serving.{reply_of}
+use Rattle.run_record.specs.Limits.{IsAccess, most_accesses}
+use Rattle.guest_machine.specs.Turns.{access_by, monitor_of, drawn, turn_of, without, Takes, begins, makes, stops, IsTooLong}
 use Rattle.guest_machine.specs.Seats.{first_seat, is_one_of, StandsBy, IsSeated, HaveTurned}
 use Rattle.guest_machine.specs.declared.seats.Seat.{Seat}
-use Rattle.guest_machine.proofs.Pushed.{history_push, monitor_push, own_push, other_push}
+use Rattle.guest_thread.proofs.Pushed.{history_push}
+use Rattle.guest_machine.proofs.Pushed.{monitor_push, own_push, other_push}
 use Rattle.guest_machine.proofs.Seated.{turn_live, turn_below, taken_out, left_in, still_below, in_range, range_below}
 
 -- ---- the thread whose turn it is

@@ -1,6 +1,7 @@
 pub mod Turns
-pub mod Serving
 pub mod Counting
 pub mod Seats
 pub mod Traces
+pub mod Alone
+pub mod Working
 pub mod Laws

@@ -12,21 +12,18 @@ use Rattle.guest_calls.specs.Run.{Pair, Ends}
 use Rattle.a32_step.specs.Machine.{Machine}
 use Rattle.guest_thread.specs.Accesses.{history_of, pairs_in}
 use Rattle.guest_thread.specs.Standing.{Standing, IsReadyIn}
-use Rattle.guest_thread.specs.Start.{thread_start}
+use Rattle.guest_thread.specs.Start.{first_standing, thread_start}
 use Rattle.guest_thread.specs.Under.{HasCome}
-use Rattle.run_record.specs.Limits.{IsAccess}
 use Rattle.guest_thread.specs.declared.ends.GuestEnd.{GuestEnd}
 use Rattle.guest_machine.specs.Counting.{AreCounts}
-use Rattle.guest_machine.specs.Turns.{Takes, monitor_of, most_accesses}
+use Rattle.run_record.specs.Limits.{IsAccess, most_accesses}
+use Rattle.guest_machine.specs.Turns.{Takes, monitor_of}
 use Rattle.guest_machine.specs.declared.seats.Seat.{Seat}
 use Rattle.guest_machine.specs.declared.turns.Turns.{Turns}
 
 -- a thread at its start
 abbrev pub first_seat : Program → Numbers → ℕ → Seat
-first_seat program size t = record {
-  guest = record { cpu = thread_start program size t; steps = 0; output = []; printing = None };
-  stop = None;
-}
+first_seat program size t = record { guest = first_standing program size t; stop = None }
 
 -- a thread is one of some
 abbrev pub is_one_of : List ℕ → ℕ → Bool
@@ -73,7 +70,7 @@ pub record IsEndOf (accesses : List Access) (t : ℕ) (seat : Seat) (end : Guest
   pub stopped : seat.stop ≡ Some end.stop
   pub steps : end.steps ≡ seat.guest.steps
   pub output : end.out ≡ seat.guest.output
-  pub counts : AreCounts t accesses (record { reads = end.reads; writes = end.writes; fails = end.fails })
+  pub counts : AreCounts t (history_of accesses) (record { reads = end.reads; writes = end.writes; fails = end.fails })
 
 -- the ends of threads from one on, each of which has stopped
 abbrev pub AreEndsOf : List Access → ℕ → List Seat → List GuestEnd → Type 0

@@ -1,5 +1,5 @@
 -- What is given of a trace.
-use Rattle.std.specs.Prelude.{◌≡◌, ℕ, ◌<◌, Some, List, length, slice_get, codes}
+use Rattle.std.specs.Prelude.{◌≡◌, ℕ, Some, List, length, slice_get, codes}
 use Rattle.llsc_base.specs.Images.{Program}
 use Rattle.llsc_base.specs.Sizes.{Numbers}
 use Rattle.history.specs.ArmLegal.{IsArmLegal}

@@ -4,7 +4,6 @@ use Rattle.std.specs.List.{range_with_len}
 use Rattle.llsc_base.specs.Memory.{row_of, value_at}
 use Rattle.llsc_base.specs.Images.{Program}
 use Rattle.llsc_base.specs.Sizes.{Numbers}
-use Rattle.llsc_base.specs.declared.access.Size.TheVariants.{B1}
 use Rattle.history.specs.Monitor.{Monitor, at_rest, is_on, marked_row, monitor_after}
 use Rattle.history.specs.declared.entry.Access.{Access}
 use Rattle.history.specs.declared.entry.Deed.TheVariants as deed
@@ -14,6 +13,7 @@ use Rattle.a32_instr.specs.declared.outside.Stop.{Stop}
 use Rattle.guest_calls.specs.Run.{Asks, Ends}
 use Rattle.guest_thread.specs.Accesses.{history_of, pairs_in}
 use Rattle.guest_thread.specs.Start.{thread_start}
+use Rattle.run_record.specs.Limits.{most_accesses, nowhere}
 
 -- The access that memory makes of what a thread asks: a load has the value of its place, and a store-exclusive stores
 -- just where the thread is marked on the row. CLREX has the place of one byte at address 0.
@@ -27,7 +27,7 @@ access_by monitor t (StoreEx place value) = record {
   place = place;
   value = value;
 }
-access_by monitor t Clear = record { thread = t; deed = deed.Clear; place = record { addr = 0; size = B1 }; value = 0 }
+access_by monitor t Clear = record { thread = t; deed = deed.Clear; place = nowhere; value = 0 }
 
 -- memory and its monitors after these accesses of so many threads
 abbrev pub monitor_of : Program → Numbers → List Access → Monitor
@@ -64,9 +64,6 @@ abbrev pub IsTrace : Program → Numbers → ℕ → ℕ → List Access → Typ
 IsTrace program size seed budget accesses = (x : ℕ) × Takes program size seed budget x [] accesses
 
 -- the run has more accesses than a record may have
-abbrev pub most_accesses : ℕ
-most_accesses = 1000000
-
 abbrev pub IsTooLong : Program → Numbers → ℕ → ℕ → Type 0
 IsTooLong program size seed budget =
     (x : ℕ) × (live : List ℕ) × (accesses : List Access) × (Takes program size seed budget x live accesses × (most_accesses < length accesses))

@@ -1,6 +1,8 @@
 //! How many accesses of each kind a thread made.
-ghost use Rattle.std.specs.Prelude.{◌≡◌, ◌==◌, ◌&&◌, count_by};
-ghost use Rattle.guest_machine.specs.Counting.{AreCounts, is_fail, is_of, is_read, is_write};
+ghost use Rattle.std.specs.Prelude.{◌≡◌, ◌<◌, ◌≤◌, ◌+◌, ◌^◌};
+ghost use Rattle.guest_thread.specs.Accesses.{entry_of, history_of};
+ghost use Rattle.guest_thread.specs.Counts.{fails_in, reads_in, writes_in};
+ghost use Rattle.guest_machine.specs.Counting.{AreCounts, sum_of};
 
 use history::{Access, Deed};
 
@@ -12,59 +14,45 @@ pub(crate) struct Counts {
     pub(crate) fails: u64,
 }
 
-/// The counts of a thread in these accesses.
-#[tactic(auto, using(crate::proofs::Counted::reads_are, crate::proofs::Counted::writes_are, crate::proofs::Counted::fails_are))]
-pub(crate) fn counts_of(accesses: &[Access], thread: u32) -> Counts
-    ensures { AreCounts thread accesses.now result }
-{
-    Counts {
-        reads: reads(accesses, thread),
-        writes: writes(accesses, thread),
-        fails: fails(accesses, thread),
+impl Counts {
+    /// The counts before the first access.
+    pub(crate) fn none() -> Counts
+        ensures { result ≡ record { reads = 0; writes = 0; fails = 0 } }
+    {
+        Counts {
+            reads: 0,
+            writes: 0,
+            fails: 0,
+        }
+    }
+
+    /// One more access. CLREX counts for nothing.
+    #[inline(always)]
+    pub(crate) fn count(&mut self, access: &Access)
+        requires few { sum_of self.old < 2 ^ 63 }
+        ensures reads { self.new.reads ≡ self.old.reads + reads_in (entry_of access.now) }
+        ensures writes { self.new.writes ≡ self.old.writes + writes_in (entry_of access.now) }
+        ensures fails { self.new.fails ≡ self.old.fails + fails_in (entry_of access.now) }
+        ensures sum { sum_of self.new ≤ sum_of self.old + 1 }
+    {
+        match access.deed {
+            Deed::Load | Deed::LoadEx => self.reads += 1,
+            Deed::Store | Deed::StoreEx => self.writes += 1,
+            Deed::StoreFail => self.fails += 1,
+            Deed::Clear => {}
+        }
     }
 }
 
-fn reads(accesses: &[Access], thread: u32) -> u64
-    ensures { result ≡ count_by (is_of thread is_read) accesses.now }
+/// The counts of a thread in these accesses.
+pub(crate) fn counts_of(accesses: &[Access], thread: u32) -> Counts
+    ensures { AreCounts thread (history_of accesses.now) result }
 {
-    accesses
-        .iter()
-        .filter(|access| access.thread == thread && is_read(access.deed))
-        .count() as u64
-}
-
-fn writes(accesses: &[Access], thread: u32) -> u64
-    ensures { result ≡ count_by (is_of thread is_write) accesses.now }
-{
-    accesses
-        .iter()
-        .filter(|access| access.thread == thread && is_write(access.deed))
-        .count() as u64
-}
-
-fn fails(accesses: &[Access], thread: u32) -> u64
-    ensures { result ≡ count_by (is_of thread is_fail) accesses.now }
-{
-    accesses
-        .iter()
-        .filter(|access| access.thread == thread && is_fail(access.deed))
-        .count() as u64
-}
-
-fn is_read(deed: Deed) -> bool
-    ensures { result ≡ is_read deed }
-{
-    matches!(deed, Deed::Load | Deed::LoadEx)
-}
-
-fn is_write(deed: Deed) -> bool
-    ensures { result ≡ is_write deed }
-{
-    matches!(deed, Deed::Store | Deed::StoreEx)
-}
-
-fn is_fail(deed: Deed) -> bool
-    ensures { result ≡ is_fail deed }
-{
-    matches!(deed, Deed::StoreFail)
+    let mut counts = Counts::none();
+    for access in accesses {
+        if access.thread == thread {
+            counts.count(access);
+        }
+    }
+    counts
 }

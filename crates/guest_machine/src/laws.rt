@@ -1,10 +1,14 @@
-//! The laws of traces, each a function of no effect whose contract is the law.
+//! The laws of traces and of a thread alone, each a function of no effect whose contract is the law.
 ghost use Rattle.std.specs.Prelude.{◌≡◌, ◌≤◌, ◌<◌, ℕ, List, length};
 ghost use Rattle.llsc_base.specs.Images.{Program};
 ghost use Rattle.llsc_base.specs.Sizes.{Numbers};
 ghost use Rattle.history.specs.declared.entry.Access.{Access};
+ghost use Rattle.a32_step.specs.Machine.{Machine};
+ghost use Rattle.guest_thread.specs.declared.ends.GuestEnd.{GuestEnd};
+ghost use Rattle.run_record.specs.Limits.{most_accesses};
+ghost use Rattle.guest_machine.specs.Alone.{IsEndAlone, IsSoloEnd};
 ghost use Rattle.guest_machine.specs.Laws.{HasEnded};
-ghost use Rattle.guest_machine.specs.Turns.{IsTooLong, IsTrace, most_accesses};
+ghost use Rattle.guest_machine.specs.Turns.{IsTooLong, IsTrace};
 
 /// A program, a machine, a number and a budget have one trace at most.
 pub fn traces_are_one()
@@ -28,4 +32,13 @@ pub fn traces_end_each_thread()
 pub fn one_thread_needs_no_seed()
     ensures { (program : Program) (size : Numbers) (seed other budget : ℕ) (accesses : List Access) → size.threads ≡ 1 →
         IsTrace program size seed budget accesses → IsTrace program size other budget accesses }
+{}
+
+/// A thread alone has one end at most: its stop, its steps, its output, and how many loads, stores and failed
+/// store-exclusives it made follow from its program, its budget, its start and its memory at first.
+pub fn threads_alone_have_one_end()
+    ensures any_start { (program : Program) (budget : ℕ) (start : Machine) (bytes : List ℕ) (end other : GuestEnd) →
+        IsEndAlone program budget start bytes end → IsEndAlone program budget start bytes other → end ≡ other }
+    ensures solo { (program : Program) (size : Numbers) (budget : ℕ) (end other : GuestEnd) →
+        IsSoloEnd program size budget end → IsSoloEnd program size budget other → end ≡ other }
 {}

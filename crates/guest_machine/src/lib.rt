@@ -1,9 +1,12 @@
-//! All guest threads of a program, run on one host thread in an order that a number fixes.
+//! The guest threads of a program on one host thread: one alone, or all in an order that a number fixes.
 //!
-//! [`trace`] gives the accesses of such a run as a record, and how each thread ended. `specs/Turns.antt` says whose turn
-//! it is and what a turn does; `laws` that there is one run at most for a program, a machine, a number and a budget.
+//! [`solo`] runs a program's one thread on a memory of its own; `specs/Alone.antt` says what its end is. [`trace`] gives
+//! the accesses of a run of all threads as a record, and how each thread ended; `specs/Turns.antt` says whose turn it is
+//! and what a turn does. [`laws`] has that there is one end of a thread alone, and one trace at most for a program, a
+//! machine, a number and a budget.
 #![tactic(auto)]
 
+mod alone;
 mod counts;
 mod drawing;
 mod ends;
@@ -13,4 +16,5 @@ mod serving;
 mod traces;
 mod turns;
 
+pub use alone::solo;
 pub use traces::{TraceFault, Traced, trace};

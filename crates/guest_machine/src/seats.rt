@@ -1,10 +1,9 @@
 //! The threads of a trace.
-ghost use Rattle.std.specs.Prelude.{◌≡◌, ◌<◌, IfOk, map};
+ghost use Rattle.std.specs.Prelude.{◌≡◌, IfOk, map};
 ghost use Rattle.std.specs.List.{range_with_len};
 ghost use Rattle.guest_machine.specs.Seats.{first_seat};
 
-use a32_step::{Cpu, Stop};
-use guest_calls::Output;
+use a32_step::Stop;
 use guest_thread::Guest;
 use llsc_base::{Image, MachineSize};
 use std::alloc::{AllocError, Global};
@@ -14,20 +13,6 @@ use std::alloc::{AllocError, Global};
 pub(crate) struct Seat {
     pub(crate) guest: Guest,
     pub(crate) stop: Option<Stop>,
-}
-
-/// A thread at its start.
-fn started(alloc: Global, image: &Image, size: &MachineSize, t: u32) -> Result<Seat, AllocError>
-    requires { t < size.now.threads }
-    ensures { IfOk result (λ seat. seat ≡ first_seat image.now size.now t) }
-{
-    let stack = size.room() + 4096 * (t + 1);
-    let cpu = Cpu::start(image.entry(), t, size.threads(), stack);
-    let output = Output::new(alloc)?;
-    Ok(Seat {
-        guest: Guest::new(cpu, output),
-        stop: None,
-    })
 }
 
 /// All threads at their start, in order of number.
@@ -40,7 +25,8 @@ pub(crate) fn seats(
 {
     let mut seats = Vec::with_capacity(alloc, size.threads() as usize)?;
     for t in 0..size.threads() {
-        seats.push(started(alloc, image, size, t)?)?;
+        let guest = Guest::start(alloc, image, size, t)?;
+        seats.push(Seat { guest, stop: None })?;
     }
     Ok(seats)
 }

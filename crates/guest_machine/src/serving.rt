@@ -4,10 +4,9 @@ ghost use Rattle.llsc_base.specs.Memory.{is_aligned, size_bytes};
 ghost use Rattle.history.specs.ArmLegal.{MayAccess};
 ghost use Rattle.history.specs.Monitor.{IsAsLarge, accessed};
 ghost use Rattle.run_record.specs.Limits.{IsAccess};
-ghost use Rattle.guest_thread.specs.Accesses.{entry_of};
+ghost use Rattle.guest_thread.specs.Accesses.{entry_of, reply_of};
 ghost use Rattle.guest_thread.specs.Standing.{IsAskIn, ReplyFits};
 ghost use Rattle.guest_machine.specs.Turns.{access_by};
-ghost use Rattle.guest_machine.specs.Serving.{reply_of};
 
 use a32_step::Ask;
 use history::{Access, Deed, PlainMemory};
@@ -20,6 +19,7 @@ const NOWHERE: Place = Place {
 };
 
 /// Makes the access that a thread asks for.
+#[inline(always)]
 pub(crate) fn serve(memory: &mut PlainMemory, t: u32, ask: Ask) -> Access
     requires known { t < length memory.old.marks }
     requires may { IsAskIn (length memory.old.memory) ask }
@@ -71,16 +71,5 @@ fn access(thread: u32, deed: Deed, place: Place, value: u64) -> Access
         deed,
         place,
         value,
-    }
-}
-
-/// The reply to an access: the value of a load, and whether a store-exclusive failed.
-pub(crate) fn reply_of(access: &Access) -> u64
-    ensures { result ≡ reply_of access.now }
-{
-    match access.deed {
-        Deed::Load | Deed::LoadEx => access.value,
-        Deed::StoreFail => 1,
-        Deed::Store | Deed::StoreEx | Deed::Clear => 0,
     }
 }

@@ -6,9 +6,9 @@ ghost use Rattle.guest_machine.specs.Turns.{IsTooLong};
 
 use crate::drawing::{drawn, take_out, turn_of};
 use crate::seats::{Seat, numbers, seats};
-use crate::serving::{reply_of, serve};
+use crate::serving::serve;
 use crate::traces::TraceFault;
-use guest_thread::Turn;
+use guest_thread::{Turn, reply_of};
 use history::{Access, PlainMemory};
 use llsc_base::{Image, MachineSize};
 use std::alloc::{AllocError, Global};

@@ -5,3 +5,4 @@ pub mod Printed
 pub mod Reached
 pub mod Tested
 pub mod Kept
+pub mod Pushed

@@ -8,9 +8,10 @@ use Rattle.history.specs.declared.entry.Entry.{Entry}
 use Rattle.history.specs.declared.entry.Entry.TheVariants as entry
 use Rattle.history.specs.declared.entry.Cause.TheVariants.{Absent}
 use Rattle.guest_calls.specs.Run.{Pair}
-use Rattle.guest_calls.specs.Pairs.{pairs_of}
+use Rattle.guest_calls.specs.Pairs.{pair_of, pairs_of}
 
--- an access as an entry of a history: on one host thread there is one cause of a failure, which is want of a mark
+-- an access as an entry of a history: a record keeps no cause of a failure, and Arm's memory asks for none, so it is
+-- written as want of a mark
 abbrev pub entry_by : Deed → ℕ → Place → ℕ → Entry
 entry_by deed.Load thread place value = entry.Read thread place value false
 entry_by deed.LoadEx thread place value = entry.Read thread place value true
@@ -21,6 +22,10 @@ entry_by deed.Clear thread place value = entry.Clear thread
 
 abbrev pub entry_of : Access → Entry
 entry_of access = entry_by access.deed access.thread access.place access.value
+
+-- the reply to an access, as a run of its thread has it
+abbrev pub reply_of : Access → ℕ
+reply_of access = (pair_of (entry_of access)).1
 
 -- accesses as a history
 abbrev pub history_of : List Access → List Entry

@@ -1,17 +1,19 @@
 //! A thread's turns.
-ghost use Rattle.std.specs.Prelude.{◌≡◌, ◌≤◌, ◌<◌, ◌+◌, ◌^◌, ℕ, List, [], None, ◌∷◌, ◌++◌, length, IfNone, IfSome, MatchOption};
+ghost use Rattle.std.specs.Prelude.{◌≡◌, ◌≤◌, ◌<◌, ◌+◌, ◌^◌, ℕ, List, [], None, ◌∷◌, ◌++◌, length, IfNone, IfOk, IfSome, MatchOption};
 ghost use Rattle.llsc_base.specs.Images.{Program};
 ghost use Rattle.a32_instr.specs.declared.outside.Ask.{Ask};
 ghost use Rattle.a32_step.specs.Machine.{Machine, IsReady, IsCalling};
 ghost use Rattle.guest_calls.specs.Run.{Pair, byte_load, effect_of_call};
 ghost use Rattle.guest_thread.specs.Progress.{HasKept, HasMoved, IsBounded};
 ghost use Rattle.guest_thread.specs.Standing.{HasLeft, IsReadyIn, IsWaitingIn, IsPendingAfter, MayGive};
+ghost use Rattle.guest_thread.specs.Start.{first_standing, thread_start};
 ghost use Rattle.guest_thread.specs.Turns.{AfterCall, IsAtTurn, IsOneStepOn, after_byte};
 ghost use Rattle.guest_thread.specs.Under.{HasCome, Awaits, ComesTo};
 
 use a32_step::{Ask, CallAsk, Cpu, Stop, Wanted};
 use guest_calls::{CallStep, Output, guest_call};
-use llsc_base::{Image, Place, Size};
+use llsc_base::{Image, MachineSize, Place, Size};
+use std::alloc::{AllocError, Global};
 use std::marker::Model;
 
 /// A write in the middle of which a thread is: its bytes stand from an address up, and some of them were loaded.
@@ -50,8 +52,31 @@ impl Model for Guest {
 }
 
 impl Guest {
-    /// A thread at its start: its core between two instructions, and nothing written.
-    pub fn new(cpu: Cpu, output: Output) -> Guest
+    /// A thread of a program at its start: at the program's entry, with its number in r0, how many threads there are in
+    /// r1, and its stack pointer at the end of its own 4096 bytes at the top of memory. `t` is below the machine's threads.
+    ///
+    /// # Errors
+    ///
+    /// `AllocError` is want of memory for the output.
+    pub fn start(
+        alloc: Global,
+        image: &Image,
+        size: &MachineSize,
+        t: u32,
+    ) -> Result<Guest, AllocError>
+        requires { t < size.now.threads }
+        ensures state { IfOk result (λ guest. guest ≡ first_standing image.now size.now t) }
+        ensures ready { IfOk result (λ guest. (mem budget : ℕ) → IsReadyIn mem budget guest) }
+        ensures comes { IfOk result (λ guest. (budget : ℕ) → HasCome image.now budget (thread_start image.now size.now t) [] guest) }
+    {
+        let stack = size.room() + 4096 * (t + 1);
+        let cpu = Cpu::start(image.entry(), t, size.threads(), stack);
+        let output = Output::new(alloc)?;
+        Ok(Guest::new(cpu, output))
+    }
+
+    /// A thread whose core is between two instructions, and that has written nothing.
+    fn new(cpu: Cpu, output: Output) -> Guest
         ensures state { result ≡ record { cpu = cpu; steps = 0; output = output; printing = None } }
         ensures ready { IsReady cpu.phase → (mem budget : ℕ) → IsReadyIn mem budget result }
         ensures comes { output ≡ [] → (program : Program) (budget : ℕ) → HasCome program budget cpu [] result }
@@ -82,6 +107,8 @@ impl Guest {
 impl Guest {
     /// Goes on until the thread asks for an access or has ended: by a stop, by the exit call, or since it has made
     /// `budget` steps. The budget is at most 1,000,000,000,000 steps.
+    ///
+    /// No reply is awaited, and the image is that of the start. A thread that has ended isn't asked again.
     pub fn next(&mut self, image: &Image, budget: u64) -> Turn
         requires ready { IsReadyIn (length image.now.bytes) budget self.old }
         requires budget { budget ≤ 1000000000000 }
@@ -158,8 +185,9 @@ impl Guest {
 }
 
 impl Guest {
-    /// The reply to the access that is awaited.
-    #[inline]
+    /// The reply to the access that is awaited: any value of its size to a load, which is a byte for a byte of a write, 1 to
+    /// a store-exclusive that failed, and otherwise 0.
+    #[inline(always)]
     pub fn give(&mut self, reply: u64)
         requires { MayGive self.old reply }
         ensures ready { (mem budget : ℕ) → IsWaitingIn mem budget self.old → IsReadyIn mem budget self.new }

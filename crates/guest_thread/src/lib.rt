@@ -1,13 +1,15 @@
 //! One guest thread, whoever replies to its accesses.
 //!
-//! A [`Guest`] goes on by [`Guest::next`] until it asks for an access or has ended, and the caller replies by
-//! [`Guest::give`]. Instructions, guest calls and the loads of a write's bytes are all within it; what it asks, and how
-//! it ends, is the run of the thread (`guest_calls`, `specs/Run`); every reply takes it further, so that it comes to an end
-//! within its budget (`specs/Progress`). A [`GuestEnd`] is how a thread ended.
+//! A [`Guest`] begins by [`Guest::start`] and goes on by [`Guest::next`] until it asks for an access or has ended; the
+//! caller replies by [`Guest::give`]. Instructions, guest calls and the loads of a write's bytes are all within it; what it
+//! asks, and how it ends, is the run of the thread (`guest_calls`, `specs/Run`); every reply takes it further, so that it
+//! comes to an end within its budget (`specs/Progress`). A [`GuestEnd`] is how a thread ended.
 #![tactic(auto)]
 
 mod ends;
 mod guests;
+mod replies;
 
 pub use ends::GuestEnd;
 pub use guests::{Guest, Turn};
+pub use replies::reply_of;

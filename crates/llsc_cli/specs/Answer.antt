@@ -2,9 +2,9 @@
 use Rattle.std.specs.Prelude.{◌≡◌, ◌≢◌, ℕ, ◌⊎◌, List, [], ◌∷◌, All, map, Option, Some, None}
 use Rattle.llsc_base.specs.Sizes.{Numbers}
 use Rattle.llsc_base.specs.Images.{Program}
+use Rattle.guest_thread.specs.declared.ends.GuestEnd.{GuestEnd}
+use Rattle.guest_machine.specs.Alone.{IsSoloEnd}
 use Rattle.llsc_cli.specs.declared.formats.Format.{Format}
-use Rattle.llsc_cli.specs.declared.threads.Ran.{Ran}
-use Rattle.llsc_cli.specs.Solo.{IsSoloEnd}
 use Rattle.llsc_cli.specs.Report.{report_of}
 use Rattle.llsc_cli.specs.Host.{Rose, AreBytes, AddsFront}
 use Rattle.llsc_cli.specs.Request.{Request, Solo, Assemble, Disassemble, Trace, Check, files_of}
@@ -18,7 +18,7 @@ use Rattle.llsc_cli.specs.Programs.{image_of, program_refusal}
 -- a run of a program's one thread, with the report and the status by its stop
 abbrev pub IsReported : Program → Numbers → ℕ → ℕ → List ℕ → Type 0
 IsReported program size budget status text =
-    (ran : Ran) × IsSoloEnd program size budget ran × (status ≡ status_of ran.end.stop) × (text ≡ report_of budget ran)
+    (end : GuestEnd) × IsSoloEnd program size budget end × (status ≡ status_of end.stop) × (text ≡ report_of budget end)
 
 -- the status and the text for a format, so much memory, a budget and the bytes of the file
 abbrev pub AnswersSolo : Format → ℕ → ℕ → List ℕ → ℕ → List ℕ → Type 0

@@ -3,10 +3,6 @@ pub mod MemoryHost
 pub mod MemoryHostInside
 pub mod Options
 pub mod Request
-pub mod Serving
-pub mod Solo
-pub mod Working
-pub mod Calls
 pub mod Report
 pub mod ReportText
 pub mod Refusals

@@ -41,11 +41,11 @@ machine_of threads mem = numbers mem threads 4096 (2 ^ 62)
 abbrev pub solo_size : ℕ → Numbers
 solo_size mem = machine_of 1 mem
 
--- What stands against a request has a name. What stands against a file of more bytes than that is its length:
+-- what stands against a file of more bytes than so many: its length
 abbrev pub too_long : ℕ → List ℕ → Option (List ℕ)
 too_long most file = if nat_lt most (length file) then Some (codes "FileTooLong") else None
 
--- and against a machine of these numbers, that there is none.
+-- what stands against a machine of these numbers: that there is none
 abbrev pub size_refusal : Numbers → Option (List ℕ)
 size_refusal size = option_map size_fault_name (size_fault size)
 

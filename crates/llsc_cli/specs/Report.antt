@@ -4,8 +4,7 @@ use Rattle.std.specs.Fmt.{decimal}
 use Rattle.number_text.specs.Hexadecimal.{word_text}
 use Rattle.a32_instr.specs.declared.outside.Stop.{Stop}
 use Rattle.a32_instr.specs.declared.outside.Stop.TheVariants.{Exit, Undefined, Unpredictable, Alignment, Outside, ReadOnly, Thumb, Budget, TagLimit}
-use Rattle.llsc_cli.specs.declared.threads.ThreadEnd.{ThreadEnd}
-use Rattle.llsc_cli.specs.declared.threads.Ran.{Ran}
+use Rattle.guest_thread.specs.declared.ends.GuestEnd.{GuestEnd}
 
 -- a stop by its name and its number: a code, an address, or for the budget the budget itself
 abbrev pub stop_text : ℕ → Stop → List ℕ
@@ -19,16 +18,16 @@ stop_text budget (Thumb pc) = codes "thumb " ++ word_text pc
 stop_text budget Budget = codes "budget " ++ decimal budget
 stop_text budget (TagLimit addr) = codes "taglimit " ++ word_text addr
 
--- the line of a thread, whose output has so many bytes
-abbrev pub head_line : ℕ → ℕ → ThreadEnd → ℕ → List ℕ
-head_line thread budget end count =
-    codes "thread " ++ (decimal thread ++ (codes " stop " ++ (stop_text budget end.stop ++ (codes " steps " ++ (decimal end.steps ++ (codes " out " ++ (decimal count ++ codes "\n")))))))
+-- the line of a thread, with how many bytes its output has
+abbrev pub head_line : ℕ → GuestEnd → List ℕ
+head_line budget end =
+    codes "thread " ++ (decimal end.thread ++ (codes " stop " ++ (stop_text budget end.stop ++ (codes " steps " ++ (decimal end.steps ++ (codes " out " ++ (decimal (length end.out) ++ codes "\n")))))))
 
 -- the line of the counts
-abbrev pub last_line : ThreadEnd → List ℕ
+abbrev pub last_line : GuestEnd → List ℕ
 last_line end =
     codes "reads " ++ (decimal end.reads ++ (codes " writes " ++ (decimal end.writes ++ (codes " fails " ++ (decimal end.fails ++ codes "\n")))))
 
--- the report of thread 0: its line, its output and the end of that line, and the counts
-abbrev pub report_of : ℕ → Ran → List ℕ
-report_of budget ran = head_line 0 budget ran.end (length ran.output) ++ (ran.output ++ (codes "\n" ++ last_line ran.end))
+-- the report of a thread: its line, its output and the end of that line, and the counts
+abbrev pub report_of : ℕ → GuestEnd → List ℕ
+report_of budget end = head_line budget end ++ (end.out ++ (codes "\n" ++ last_line end))

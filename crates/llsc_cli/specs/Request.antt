@@ -2,15 +2,16 @@
 use Rattle.std.specs.Prelude.{ℕ, ◌≤◌, Bool, ◌&&◌, nat_le, List, [], ◌∷◌, Option, Some, None, if◌then◌else◌, codes}
 use Rattle.std.specs.Option.{option_and_then, unwrap_or}
 use Rattle.std.specs.Str.{bytes_eq}
+use Rattle.run_record.specs.Limits.{most_budget}
 use Rattle.llsc_cli.specs.declared.formats.Format.{Format}
 use Rattle.llsc_cli.specs.declared.words.Request.{Request as Call}
 use Rattle.llsc_cli.specs.declared.words.Request.TheVariants as call
 use Rattle.llsc_cli.specs.Options.{Given, given_of, no_options, format_of, has_mem_at_most, has_no_values, is_alone, second_file}
 
 -- what a call asks for: to run the file of that name, of that format, as one thread, with so many bytes of memory and so
--- many steps; to assemble the text of that name as a file of that format; to disassemble it, in so many bytes of memory; to
--- run it as so many threads on one, in the order that a seed fixes, and to record the run; or to check such a record, which
--- is the second file
+-- many steps; to assemble the text of that name as a file of that format; to show a file as text, in so many bytes of memory;
+-- to run a file as so many guest threads on one host thread, in the order that a seed fixes, and to record that; or to check
+-- such a record, the second file, against a program
 pub data Request : Type 0 where
   Solo : (file : List ℕ) (format : Format) (mem budget : ℕ) → Request
   Assemble : (file : List ℕ) (format : Format) → Request
@@ -46,7 +47,7 @@ trace_budget = 10000
 
 -- a budget is 1 to 1,000,000,000,000 steps
 abbrev pub is_budget : ℕ → Bool
-is_budget budget = nat_le 1 budget && nat_le budget 1000000000000
+is_budget budget = nat_le 1 budget && nat_le budget most_budget
 
 -- Each command has options of its own and one file, or two, and asks for nothing where others are given.
 
@@ -110,6 +111,6 @@ asked (call.Check file recorded format mem) = Check file.now recorded.now format
 
 -- a request's budget is in its range
 abbrev pub HasBudget : Call → Type 0
-HasBudget (call.Solo file format mem budget) = budget ≤ 1000000000000
-HasBudget (call.Trace file format numbers) = (1 ≤ numbers.budget) × (numbers.budget ≤ 1000000000000)
+HasBudget (call.Solo file format mem budget) = budget ≤ most_budget
+HasBudget (call.Trace file format numbers) = (1 ≤ numbers.budget) × (numbers.budget ≤ most_budget)
 HasBudget _ = Unit {0}

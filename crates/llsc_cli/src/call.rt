@@ -14,7 +14,7 @@ use std::alloc::Global;
 /// The one call of the program: answers the words with a status and a text.
 ///
 /// The words are those behind the program's name. The text is added to what the host has written,
-/// whole or, where a write failed, a front of it; where memory is wanting, nothing is added.
+/// whole or, where a write failed, a front of it; where memory is wanting, nothing is added. [`Ended`] has the statuses.
 pub fn llsc<H: Host>(alloc: Global, words: &[String], host: &mut H) -> Ended
     ensures ended { IsDone result.status ⊎ ((result.status ≡ 2) ⊎ ((result.status ≡ 3) ⊎ ((result.status ≡ 5) ⊎ (result.status ≡ 6)))) }
 

@@ -7,14 +7,12 @@ mod ended;
 mod files;
 mod formats;
 mod host;
-mod laws;
 mod memory_host;
 mod options;
 mod pages;
 mod programs;
 mod real_host;
 mod report;
-mod threads;
 mod words;
 
 use crate::call::llsc;

@@ -6,9 +6,9 @@ ghost use Rattle.llsc_cli.specs.Report.{head_line, last_line, report_of};
 ghost use Rattle.llsc_cli.specs.ReportText.{text_of};
 
 use crate::host::{Failed, Host};
-use crate::threads::{Ran, ThreadEnd};
 use a32_step::Stop;
 use guest_calls::Output;
+use guest_thread::GuestEnd;
 use std::alloc::{AllocError, Global};
 use std::fmt;
 
@@ -104,28 +104,24 @@ impl fmt::Display for StopText {
     }
 }
 
-/// The line of a thread, whose output has so many bytes.
-fn head(
-    alloc: Global,
-    thread: u32,
-    budget: u64,
-    end: &ThreadEnd,
-    count: usize,
-) -> Result<String, AllocError>
-    ensures { IfOk result (λ line. string_bytes line ≡ head_line thread budget end.now count) }
+/// The line of a thread, with how many bytes its output has.
+fn head(alloc: Global, budget: u64, end: &GuestEnd) -> Result<String, AllocError>
+    ensures { IfOk result (λ line. string_bytes line ≡ head_line budget end.now) }
 {
     let stop = StopText {
         stop: end.stop,
         budget,
     };
     format!(in alloc;
-        "thread {thread} stop {stop} steps {} out {count}\n",
-        end.steps
+        "thread {} stop {stop} steps {} out {}\n",
+        end.thread,
+        end.steps,
+        end.out.bytes().len()
     )
 }
 
 /// The line of the counts.
-fn last(alloc: Global, end: &ThreadEnd) -> Result<String, AllocError>
+fn last(alloc: Global, end: &GuestEnd) -> Result<String, AllocError>
     ensures { IfOk result (λ line. string_bytes line ≡ last_line end.now) }
 {
     format!(in alloc;
@@ -143,14 +139,14 @@ pub struct Report {
 }
 
 impl Report {
-    /// The report of thread 0 with this budget.
-    pub fn new(alloc: Global, budget: u64, ran: Ran) -> Result<Report, AllocError>
-        ensures { IfOk result (λ report. text_of report ≡ report_of budget ran) }
+    /// The report of a thread's end with this budget.
+    pub fn new(alloc: Global, budget: u64, end: GuestEnd) -> Result<Report, AllocError>
+        ensures { IfOk result (λ report. text_of report ≡ report_of budget end) }
     {
         Ok(Report {
-            head: head(alloc, 0, budget, &ran.end, ran.output.bytes().len())?,
-            last: last(alloc, &ran.end)?,
-            output: ran.output,
+            head: head(alloc, budget, &end)?,
+            last: last(alloc, &end)?,
+            output: end.out,
         })
     }
 

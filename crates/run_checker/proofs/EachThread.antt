@@ -12,7 +12,7 @@ use Rattle.guest_thread.specs.Start.{thread_start}
 use Rattle.guest_thread.specs.Under.{HasCome}
 use Rattle.run_checker.specs.Positions.{AreBrought, BringsOn, IsBrought}
 use Rattle.run_checker.specs.declared.checker.Checker.{Checker}
-use Rattle.run_checker.proofs.Pushed.{other_push}
+use Rattle.guest_thread.proofs.Pushed.{other_push}
 
 -- a fact of each element, by its index
 abbrev pub EachAt : {X : Type 0} → (ℕ → X → Type 0) → List X → Type 0

@@ -22,7 +22,7 @@ use Rattle.run_checker.specs.Verdict.{is_load, HasStopped, IsRight, AreRight, Ju
 use Rattle.run_checker.specs.declared.verdicts.Verdict.TheVariants as verdict
 use Rattle.run_checker.proofs.AskedPairs.{asked_inside}
 use Rattle.run_checker.proofs.Placed.{asks_placed}
-use Rattle.run_checker.proofs.Pushed.{monitor_push}
+use Rattle.guest_machine.proofs.Pushed.{monitor_push}
 
 -- a mark on a row is that row
 on_row : (row : ℕ) (mark : Option ℕ) → is_on row mark ≡ true → mark ≡ Some row

@@ -1,7 +1,6 @@
 pub mod Splits
 pub mod Right
 pub mod AskedPairs
-pub mod Pushed
 pub mod Passed
 pub mod Placed
 pub mod LegalRecords
@@ -9,3 +8,4 @@ pub mod Makes
 pub mod EachThread
 pub mod Judging
 pub mod GoodTraces
+pub mod TracesAlone

@@ -17,7 +17,8 @@ use Rattle.run_checker.specs.Verdict.{is_asked, AsksNext, HasWrongValue, LacksRe
 use Rattle.run_checker.specs.Serving.{IsServed}
 use Rattle.run_checker.specs.Positions.{BringsOn}
 use Rattle.run_checker.proofs.AskedPairs.{asked_pair}
-use Rattle.run_checker.proofs.Pushed.{monitor_push, own_push}
+use Rattle.guest_thread.proofs.Pushed.{own_push}
+use Rattle.guest_machine.proofs.Pushed.{monitor_push}
 
 pub brings_on : (program : Program) (size : Numbers) (budget : ℕ) (early : List Access) (access : Access) (asked : Ask) (reply : ℕ) (waits goes : Standing) (memory after : Monitor)
     → AsksNext program size budget early access.thread asked

@@ -10,11 +10,9 @@ ghost use Rattle.run_checker.specs.Verdict.{IsRight, IsWrong};
 ghost use Rattle.run_checker.specs.Positions.{AreBrought, BringsOn, HaveStopped, IsBrought, MayGoOn, SomeAsks};
 
 use crate::asked::is_asked;
-use crate::serving::{reply_to, serve};
+use crate::serving::serve;
 use crate::verdicts::Reason;
-use a32_step::Cpu;
-use guest_calls::Output;
-use guest_thread::{Guest, Turn};
+use guest_thread::{Guest, Turn, reply_of};
 use history::{Access, PlainMemory};
 use llsc_base::{Image, MachineSize};
 use std::alloc::{AllocError, Global};
@@ -34,13 +32,11 @@ impl Checker {
         ensures brought { IfOk result (λ checker. (budget : ℕ) → AreBrought image.now size.now budget [] checker) }
         ensures threads { IfOk result (λ checker. length checker.guests.items ≡ size.now.threads) }
     {
-        let threads = size.threads();
-        let room = size.room();
+        let (threads, mem) = (size.threads(), size.mem());
+        prove!(mem % 8 == 0);
         let mut guests = Vec::with_capacity(alloc, threads as usize)?;
         for t in 0..threads {
-            let stack = room + 4096 * (t + 1);
-            let cpu = Cpu::start(image.entry(), t, threads, stack);
-            guests.push(Guest::new(cpu, Output::new(alloc)?))?;
+            guests.push(Guest::start(alloc, image, size, t)?)?;
         }
         let memory = PlainMemory::new(alloc, image.bytes(), threads)?;
         Ok(Checker { guests, memory })
@@ -108,6 +104,6 @@ fn make(
     if let Some(reason) = serve(memory, access) {
         return Some(reason);
     }
-    guest.give(reply_to(access));
+    guest.give(reply_of(&access));
     None
 }

@@ -7,9 +7,13 @@ ghost use Rattle.history.specs.Monitor.{at_rest};
 ghost use Rattle.history.specs.declared.entry.Access.{Access};
 ghost use Rattle.a32_instr.specs.declared.outside.Stop.{Stop};
 ghost use Rattle.guest_calls.specs.Run.{Pair, Ends};
+ghost use Rattle.guest_machine.specs.Alone.{IsSoloEnd};
+ghost use Rattle.guest_machine.specs.Traces.{IsTraceRecord};
 ghost use Rattle.guest_machine.specs.Turns.{IsTrace};
 ghost use Rattle.guest_thread.specs.Accesses.{history_of};
+ghost use Rattle.guest_thread.specs.End.{IsEndIn};
 ghost use Rattle.guest_thread.specs.Start.{thread_start};
+ghost use Rattle.guest_thread.specs.declared.ends.GuestEnd.{GuestEnd};
 ghost use Rattle.run_record.specs.Limits.{IsRecord};
 ghost use Rattle.run_record.specs.declared.records.RunRecord.{RunRecord};
 ghost use Rattle.run_checker.specs.Verdict.{HasStopped, Judges};
@@ -40,7 +44,15 @@ pub fn traces_are_good()
         IsTrace program size seed budget accesses → Judges program size budget accesses Verdict.Good }
 {}
 
-/// A thread of a program that ends by itself, whatever replies to its accesses, isn't stopped for want of a tag.
+/// A trace of one thread ends as the thread does alone.
+pub fn one_threads_trace_ends_as_alone()
+    ensures { (program : Program) (size : Numbers) (seed : ℕ) (run : RunRecord) (end : GuestEnd) →
+        size.threads ≡ 1 → IsTraceRecord program size seed run.budget run → end.thread ≡ 0 →
+        IsEndIn program run.budget (thread_start program size 0) (history_of run.accesses) end →
+        IsSoloEnd program size run.budget end }
+{}
+
+/// No run of a thread ends since a class of rows has no write left: that is for memory to answer.
 pub fn threads_need_no_tag()
     ensures { (program : Program) (size : Numbers) (budget t : ℕ) (pairs : List Pair) (stop : Stop) (steps : ℕ) (output : List ℕ) (addr : ℕ) →
         Ends program budget (thread_start program size t) pairs stop steps output → stop ≢ Stop.TagLimit addr }

@@ -2,8 +2,6 @@
 ghost use Rattle.std.specs.Prelude.{◌≡◌, ◌≢◌, ◌≤◌, ◌+◌, IfSome, IfNone, length};
 ghost use Rattle.llsc_base.specs.Memory.{size_bytes};
 ghost use Rattle.history.specs.Monitor.{IsAsLarge, accessed};
-ghost use Rattle.guest_calls.specs.Pairs.{pair_of};
-ghost use Rattle.guest_thread.specs.Accesses.{entry_of};
 ghost use Rattle.run_record.specs.Limits.{IsAccess};
 ghost use Rattle.run_checker.specs.Serving.{IsRefused, IsServed};
 
@@ -50,15 +48,4 @@ fn wrong_value(has: u64, value: u64) -> Option<Reason>
         return None;
     }
     Some(Reason::WrongValue)
-}
-
-/// The reply that a thread has to an access: a load's value, 1 to a store-exclusive that failed, and otherwise 0.
-pub fn reply_to(access: Access) -> u64
-    ensures { result ≡ (pair_of (entry_of access)).1 }
-{
-    match access.deed {
-        Deed::Load | Deed::LoadEx => access.value,
-        Deed::Store | Deed::StoreEx | Deed::Clear => 0,
-        Deed::StoreFail => 1,
-    }
 }

@@ -1,8 +1,9 @@
 //! `solo`: a run of one thread.
 ghost use Rattle.std.specs.Prelude.{◌≡◌, ◌≢◌, ◌≤◌, ◌⊎◌, None, length};
+ghost use Rattle.guest_machine.specs.Alone.{IsSoloEnd};
+ghost use Rattle.guest_thread.specs.declared.ends.GuestEnd.{GuestEnd};
 ghost use Rattle.llsc_cli.specs.Host.{Adds, AddsFront, Rose};
 ghost use Rattle.llsc_cli.specs.Report.{report_of};
-ghost use Rattle.llsc_cli.specs.Solo.{IsSoloEnd};
 ghost use Rattle.llsc_cli.specs.Refusals.{size_refusal, solo_size};
 ghost use Rattle.llsc_cli.specs.Trace.{status_of};
 ghost use Rattle.llsc_cli.specs.Answer.{AnswersSolo};
@@ -13,7 +14,7 @@ use crate::files::load;
 use crate::formats::Format;
 use crate::host::Host;
 use crate::report::Report;
-use crate::threads::{Ran, solo};
+use guest_machine::solo;
 use llsc_base::{Image, MachineSize};
 use std::alloc::Global;
 
@@ -29,21 +30,21 @@ fn run<H: Host>(
     requires budget { budget ≤ 1000000000000 }
     requires whole { length image.now.bytes ≡ size.now.mem }
     ensures ended { (result.status ≡ 0) ⊎ ((result.status ≡ 1) ⊎ ((result.status ≡ 5) ⊎ (result.status ≡ 6))) }
-    ensures done { (result.status ≡ 0) ⊎ (result.status ≡ 1) → (ran : Ran) × (IsSoloEnd image.now size.now budget ran
-        × ((result.status ≡ status_of ran.end.stop) × Adds (H.written host.old) (H.written host.new) (report_of budget ran))) }
-    ensures cut { result.status ≡ 5 → Rose (H.write_faults host.old) (H.write_faults host.new) × (ran : Ran) × (IsSoloEnd image.now size.now budget ran
-        × AddsFront (H.written host.old) (H.written host.new) (report_of budget ran)) }
+    ensures done { (result.status ≡ 0) ⊎ (result.status ≡ 1) → (end : GuestEnd) × (IsSoloEnd image.now size.now budget end
+        × ((result.status ≡ status_of end.stop) × Adds (H.written host.old) (H.written host.new) (report_of budget end))) }
+    ensures cut { result.status ≡ 5 → Rose (H.write_faults host.old) (H.write_faults host.new) × (end : GuestEnd) × (IsSoloEnd image.now size.now budget end
+        × AddsFront (H.written host.old) (H.written host.new) (report_of budget end)) }
     ensures memory { result.status ≡ 6 → H.written host.new ≡ H.written host.old }
     ensures write_answered { result.status ≢ 5 → H.write_faults host.new ≡ H.write_faults host.old }
     ensures files { H.file host.new ≡ H.file host.old }
     ensures read_faults { H.read_faults host.new ≡ H.read_faults host.old }
     ensures lost { H.lost host.new ≡ H.lost host.old }
 {
-    let Ok(ran) = solo(alloc, image, size, budget) else {
+    let Ok(end) = solo(alloc, image, size, budget) else {
         return out_of_memory();
     };
-    let stop = ran.end.stop;
-    let Ok(report) = Report::new(alloc, budget, ran) else {
+    let stop = end.stop;
+    let Ok(report) = Report::new(alloc, budget, end) else {
         return out_of_memory();
     };
     match report.write(host) {

@@ -86,6 +86,13 @@ const LOAD_H: &str = "0 load 1 00001020 0000000000000048\n";
 
 const LOAD_I: &str = "0 load 1 00001021 0000000000000069\n";
 
+// Lines of whole records: one store-exclusive after another, and two threads that store and load, thread 1 or 0 first.
+const TWICE: &[&str] = &[LOAD, FAIL_0, STORE_0];
+
+const ONE_FIRST: &[&str] = &[STORE_BY_1, STORE_BY_0, LOAD_BY_1, LOAD_BY_0];
+
+const ZERO_FIRST: &[&str] = &[STORE_BY_0, STORE_BY_1, LOAD_BY_1, LOAD_BY_0];
+
 // What is said of a record of so many threads with these lines.
 fn verdict(
     alloc: Global,
@@ -116,68 +123,47 @@ const fn bad(index: u32, reason: Reason) -> Verdict {
 }
 
 #[test]
+fn judges_one_thread(rt: HostRuntime) -> Result<(), Fail> {
+    // the budget and the lines; the verdict
+    let cases: [(u64, &[&str], Verdict); 10] = [
+        (10_000, &[LOAD, STORE_7], Verdict::Good),
+        (10_000, &[LOAD, FAIL_7], Verdict::Good),
+        (10_000, &[STORE_7, LOAD], bad(0, Reason::NotAsked)),
+        (10_000, &[LOAD_OF_8], bad(0, Reason::NotAsked)),
+        (10_000, &[LOAD, FAIL_0], bad(1, Reason::NotAsked)),
+        (10_000, &[LOAD_OF_1, STORE_7], bad(0, Reason::WrongValue)),
+        (10_000, &[LOAD], bad(1, Reason::Unfinished)),
+        (10_000, &[LOAD, STORE_7, CLEAR], bad(2, Reason::AfterStop)),
+        (3, &[LOAD], Verdict::Good),
+        (3, &[LOAD, STORE_7], bad(1, Reason::AfterStop)),
+    ];
+    for (budget, lines, expected) in &cases {
+        let verdict = verdict(rt.alloc(), ADDS, 1, *budget, lines)?;
+        assert_eq!(rt; verdict, *expected);
+    }
+    Ok(())
+}
+
+#[test]
 fn judges_records(rt: HostRuntime) -> Result<(), Fail> {
-    // the words, the threads, the budget and the lines; the verdict
-    let cases: [(&[u32], u64, u64, &[&str], Verdict); 17] = [
-        (ADDS, 1, 10_000, &[LOAD, STORE_7], Verdict::Good),
-        (ADDS, 1, 10_000, &[LOAD, FAIL_7], Verdict::Good),
-        (ADDS, 1, 10_000, &[STORE_7, LOAD], bad(0, Reason::NotAsked)),
-        (ADDS, 1, 10_000, &[LOAD_OF_8], bad(0, Reason::NotAsked)),
-        (ADDS, 1, 10_000, &[LOAD, FAIL_0], bad(1, Reason::NotAsked)),
-        (
-            ADDS,
-            1,
-            10_000,
-            &[LOAD_OF_1, STORE_7],
-            bad(0, Reason::WrongValue),
-        ),
-        (ADDS, 1, 10_000, &[LOAD], bad(1, Reason::Unfinished)),
-        (
-            ADDS,
-            1,
-            10_000,
-            &[LOAD, STORE_7, CLEAR],
-            bad(2, Reason::AfterStop),
-        ),
-        (ADDS, 1, 3, &[LOAD], Verdict::Good),
-        (ADDS, 1, 3, &[LOAD, STORE_7], bad(1, Reason::AfterStop)),
-        (STORES, 1, 10_000, &[STORE_0], bad(0, Reason::NoReservation)),
-        (STORES, 1, 10_000, &[FAIL_0], Verdict::Good),
-        (
-            STORES_TWICE,
-            1,
-            10_000,
-            &[LOAD, FAIL_0, STORE_0],
-            bad(2, Reason::NoReservation),
-        ),
+    // the words, the threads and the lines; the verdict
+    let cases: [(&[u32], u64, &[&str], Verdict); 7] = [
+        (STORES, 1, &[STORE_0], bad(0, Reason::NoReservation)),
+        (STORES, 1, &[FAIL_0], Verdict::Good),
+        (STORES_TWICE, 1, TWICE, bad(2, Reason::NoReservation)),
+        (SHARES, 2, ONE_FIRST, Verdict::Good),
+        (SHARES, 2, ZERO_FIRST, bad(2, Reason::WrongValue)),
         (
             SHARES,
             2,
-            10_000,
-            &[STORE_BY_1, STORE_BY_0, LOAD_BY_1, LOAD_BY_0],
-            Verdict::Good,
-        ),
-        (
-            SHARES,
-            2,
-            10_000,
-            &[STORE_BY_0, STORE_BY_1, LOAD_BY_1, LOAD_BY_0],
-            bad(2, Reason::WrongValue),
-        ),
-        (
-            SHARES,
-            2,
-            10_000,
             &[STORE_BY_0, LOAD_BY_0],
             bad(2, Reason::Unfinished),
         ),
-        (WRITES, 1, 10_000, &[LOAD_H, LOAD_I], Verdict::Good),
+        (WRITES, 1, &[LOAD_H, LOAD_I], Verdict::Good),
     ];
-    for (words, threads, budget, lines, expected) in &cases {
-        assert_eq!(rt;
-            verdict(rt.alloc(), words, *threads, *budget, lines)?,
-            *expected
-        );
+    for (words, threads, lines, expected) in &cases {
+        let verdict = verdict(rt.alloc(), words, *threads, 10_000, lines)?;
+        assert_eq!(rt; verdict, *expected);
     }
     Ok(())
 }

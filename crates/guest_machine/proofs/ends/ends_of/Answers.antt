@@ -1,6 +1,6 @@
-use Rattle.std.proofs.Common.{◌≡◌, ◌+◌, ◌<◌, ◌≤◌, ◌∷◌, IsSome, length, sym, ◌∙◌, subst, arith}
+use Rattle.std.proofs.Common.{◌≡◌, ◌<◌, ◌≤◌, IsSome, length, sym, subst, arith}
 use Rattle.guest_machine.specs.Seats.{AreEndsOf, IsEndOf}
-use Rattle.guest_machine.proofs.Ending.{IsTaken, taken, one_more}
+use Rattle.guest_machine.proofs.Ending.{taken, one_more}
 use Rattle.guest_machine.proofs.ends.ends_of.Goals as goal
 
 pub end_of-requires : goal.end_of-requires

@@ -1,6 +1,5 @@
-use Rattle.std.proofs.Common.{◌≡◌, Bool, false, IsTrue, if◌then◌else◌, sym, ap, ◌∙◌}
-use Rattle.llsc_base.specs.Memory.{row_of}
-use Rattle.history.specs.Monitor.{accessed, is_on, marked_row}
+use Rattle.std.proofs.Common.{sym, ap, ◌∙◌}
+use Rattle.history.specs.Monitor.{accessed}
 use Rattle.history.specs.declared.entry.Cause.TheVariants.{Absent}
 use Rattle.guest_thread.specs.Accesses.{entry_of}
 use Rattle.guest_machine.proofs.serving.store_exclusive.Goals as goal

@@ -1,7 +1,7 @@
-use Rattle.std.proofs.Common.{◌≡◌, sym, subst}
+use Rattle.std.proofs.Common.{sym, subst}
 use Rattle.guest_machine.specs.Seats.{AreEndsOf}
 use Rattle.guest_machine.specs.Traces.{AreEnds}
-use Rattle.guest_machine.proofs.Ending.{are_ends, have_stopped}
+use Rattle.guest_machine.proofs.Ending.{are_ends}
 use Rattle.guest_machine.proofs.traces.trace.Goals as goal
 
 pub returns-clause-ends : goal.returns-clause-ends

@@ -26,48 +26,50 @@ fn reads_options(rt: HostRuntime) -> Result<(), Fail> {
     Ok(())
 }
 
+// Words that ask for nothing.
+const REFUSED: &[&str] = &[
+    // no command, one that there isn't, and no file
+    "",
+    "run --flat p",
+    "solo",
+    "solo --flat",
+    "solo --budget p",
+    // numbers out of range and out of form
+    "solo --budget 0 p",
+    "solo --budget 1000000000001 p",
+    "solo --mem 18446744073709551616 p",
+    "solo --budget 03 p",
+    "solo --budget +3 p",
+    "solo --budget  p",
+    // options that are unknown, given twice, joined to their value, or behind the file
+    "solo --seed 3 p",
+    "solo --flat --flat p",
+    "solo --mem 65536 --mem 65536 p",
+    "solo --budget=3 p",
+    "solo p --flat",
+    "solo p p",
+    // options that other commands have
+    "asm --mem 65536 p",
+    "asm --budget 1 p",
+    "dis --budget 1 p",
+    "solo --threads 1 p",
+    "asm --seed 0 p",
+    "dis --threads 1 p",
+    "check --threads 1 p r",
+    "check --seed 0 p r",
+    // traces and records
+    "trace p p",
+    "trace --threads 2 --threads 2 p",
+    "trace --budget 0 p",
+    "trace --budget 1000000000001 p",
+    "check p",
+    "check p -",
+    "check p r p",
+];
+
 #[test]
 fn refuses_words(rt: HostRuntime) -> Result<(), Fail> {
-    let cases = [
-        // no command, one that there isn't, and no file
-        "",
-        "run --flat p",
-        "solo",
-        "solo --flat",
-        "solo --budget p",
-        // numbers out of range and out of form
-        "solo --budget 0 p",
-        "solo --budget 1000000000001 p",
-        "solo --mem 18446744073709551616 p",
-        "solo --budget 03 p",
-        "solo --budget +3 p",
-        "solo --budget  p",
-        // options that are unknown, given twice, joined to their value, or behind the file
-        "solo --seed 3 p",
-        "solo --flat --flat p",
-        "solo --mem 65536 --mem 65536 p",
-        "solo --budget=3 p",
-        "solo p --flat",
-        "solo p p",
-        // options that other commands have
-        "asm --mem 65536 p",
-        "asm --budget 1 p",
-        "dis --budget 1 p",
-        "solo --threads 1 p",
-        "asm --seed 0 p",
-        "dis --threads 1 p",
-        "check --threads 1 p r",
-        "check --seed 0 p r",
-        // traces and records
-        "trace p p",
-        "trace --threads 2 --threads 2 p",
-        "trace --budget 0 p",
-        "trace --budget 1000000000001 p",
-        "check p",
-        "check p -",
-        "check p r p",
-    ];
-    for words in cases {
+    for words in REFUSED {
         let file = bytes_of(rt.alloc(), LEAVE)?;
         let (status, host) = called(rt.alloc(), words, file, &[], 100)?;
         assert_eq!(rt; status, 2, "for {words}");

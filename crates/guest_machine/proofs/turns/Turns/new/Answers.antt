@@ -1,4 +1,4 @@
-use Rattle.std.proofs.Common.{◌≡◌, ap, ◌∙◌}
+use Rattle.std.proofs.Common.{ap, ◌∙◌}
 use Rattle.std.specs.List.{range_with_len}
 use Rattle.history.specs.Monitor.{at_rest}
 use Rattle.guest_machine.proofs.Turning.{at_start}

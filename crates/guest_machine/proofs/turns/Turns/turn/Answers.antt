@@ -1,7 +1,7 @@
-use Rattle.std.proofs.Common.{◌≡◌, ◌⊎◌, ◌+◌, ◌<◌, Some, length, refl, sym, ◌∙◌, ap, subst, inl, arith}
-use Rattle.guest_machine.specs.Turns.{drawn, turn_of}
-use Rattle.guest_machine.proofs.Seated.{turn_below, turn_live, fewer}
-use Rattle.guest_machine.proofs.Turning.{IsChosen, chosen, turn_is, turned_as, access_made, after_stop, too_long}
+use Rattle.std.proofs.Common.{◌≡◌, ◌<◌, length, refl, sym, subst, inl, arith}
+use Rattle.guest_machine.specs.Turns.{drawn}
+use Rattle.guest_machine.proofs.Seated.{turn_live, fewer}
+use Rattle.guest_machine.proofs.Turning.{chosen, turn_is, turned_as, access_made, after_stop, too_long}
 use Rattle.guest_machine.proofs.turns.Turns.turn.Goals as goal
 
 pub next-requires-clause-ready : goal.next-requires-clause-ready

@@ -2,7 +2,6 @@ use Rattle.std.proofs.Common.{◌≡◌, ℕ, ◌+◌, None, [], ◌∷◌, ◌+
 use Rattle.std.proofs.lemmas.List.{length-replicate}
 use Rattle.std.proofs.lemmas.List.Elements.{All-push}
 use Rattle.history.specs.Monitor.{at_rest}
-use Rattle.a32_step.specs.Machine.{Machine, IsReady}
 use Rattle.guest_thread.specs.Standing.{Standing, IsReadyIn}
 use Rattle.guest_thread.specs.Start.{thread_start}
 use Rattle.guest_thread.specs.Under.{HasCome}
@@ -13,20 +12,18 @@ pub loop-t-preserved : goal.loop-t-preserved
 loop-t-preserved c =
     let was = c.loop-t.invariant in
     let guests = c.loop-t.guests.items in
-    let guest = c.new-in-loop-t.result in
+    let guest = c.in_ok-start.field-0 in
     let is : c.push.new.self.items ≡ guests ++ guest ∷ [] = c.in_ok-push.ensures.items in
     let more : length (guests ++ guest ∷ []) ≡ length guests + 1 = length-append guests (guest ∷ []) in
-    let phase : IsReady c.start-cpu.result.phase = subst (λ (m : Machine). IsReady m.phase) (sym c.start-cpu.ensures) tt in
-    let start : c.start-cpu.result ≡ thread_start c.args.image.now c.args.size.now (length guests) = cc in
     record {
       count = ap length is ∙ more ∙ ap (λ n. n + 1) was.count;
       ready = λ mem budget.
-          subst (All (IsReadyIn mem budget)) (sym is) (All-push (IsReadyIn mem budget) guests guest (was.ready mem budget) (c.new-in-loop-t.ensures.ready phase mem budget));
+          subst (All (IsReadyIn mem budget)) (sym is) (All-push (IsReadyIn mem budget) guests guest (was.ready mem budget) (c.in_ok-start.ensures.ready mem budget));
       start = λ budget.
           let P : ℕ → Standing → Type 0 = λ t guest. HasCome c.args.image.now budget (thread_start c.args.image.now c.args.size.now t) [] guest in
           subst (EachAt P) (sym is)
           (at_push P guests guest (was.start budget)
-          (subst (λ m. HasCome c.args.image.now budget m [] guest) start (c.new-in-loop-t.ensures.comes c.in_ok-new.ensures c.args.image.now budget)));
+          (subst (λ t. P t guest) (sym was.count) (c.in_ok-start.ensures.comes budget)));
     }
 
 pub returns-clause-ready : goal.returns-clause-ready

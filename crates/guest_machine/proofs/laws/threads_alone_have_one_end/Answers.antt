@@ -1,0 +1,10 @@
+use Rattle.guest_thread.specs.Start.{thread_start}
+use Rattle.guest_machine.proofs.OneEnd.{one_end_alone}
+use Rattle.guest_machine.proofs.laws.threads_alone_have_one_end.Goals as goal
+
+pub returns-clause-any_start : goal.returns-clause-any_start
+returns-clause-any_start c = one_end_alone
+
+pub returns-clause-solo : goal.returns-clause-solo
+returns-clause-solo c = λ program size budget end other one two.
+    one_end_alone program budget (thread_start program size 0) program.bytes end other one two
