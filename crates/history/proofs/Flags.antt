@@ -8,7 +8,7 @@ use Rattle.llsc_base.specs.declared.access.Place.{Place}
 use Rattle.history.specs.Entry.{is_in_class}
 use Rattle.history.specs.Since.{Since, since_last, watch_of}
 use Rattle.history.specs.Reservation.{reservation_of, reserved_since}
-use Rattle.history.specs.Cause.{is_begin, is_begin_of_another, is_start_of_another, is_write, later_of, since_watch, writes_of}
+use Rattle.history.specs.Cause.{is_begin, is_begin_of_another, is_start_of_another, is_write, later_of, since_watch, writes_in_class}
 use Rattle.history.specs.Standing.{Standing, is_of_class, joined, standing_after, standing_of}
 use Rattle.history.specs.declared.entry.Entry.{Entry}
 use Rattle.history.specs.declared.entry.Entry.TheVariants.{Read, Write, Fail, Clear, Watch, Miss, Begin, End}
@@ -195,14 +195,14 @@ writes_step classes row s (Begin thread place) count same = omega arith
 writes_step classes row s (End thread place) count same = omega arith
 
 -- how many Writes the class of a row has had
-pub writes_of-standing : (classes row : ℕ) (bytes : List ℕ) (history : List Entry)
-    → (standing_after classes (standing_of bytes) history).writes (class_of classes row) ≡ writes_of classes row history
-writes_of-standing classes row bytes history = by_ends (λ entries. (after classes bytes entries).writes (class_of classes row) ≡ writes_of classes row entries) refl more history
+pub writes_in_class-standing : (classes row : ℕ) (bytes : List ℕ) (history : List Entry)
+    → (standing_after classes (standing_of bytes) history).writes (class_of classes row) ≡ writes_in_class classes row history
+writes_in_class-standing classes row bytes history = by_ends (λ entries. (after classes bytes entries).writes (class_of classes row) ≡ writes_in_class classes row entries) refl more history
   where
-    more : (entries : List Entry) (e : Entry) → (after classes bytes entries).writes (class_of classes row) ≡ writes_of classes row entries
-        → (after classes bytes (entries ++ e ∷ [])).writes (class_of classes row) ≡ writes_of classes row (entries ++ e ∷ [])
+    more : (entries : List Entry) (e : Entry) → (after classes bytes entries).writes (class_of classes row) ≡ writes_in_class classes row entries
+        → (after classes bytes (entries ++ e ∷ [])).writes (class_of classes row) ≡ writes_in_class classes row (entries ++ e ∷ [])
     more entries e same =
-        let one : writes_of classes row (entries ++ e ∷ []) ≡ writes_of classes row entries + cond (is_write classes row e) 1 0 =
+        let one : writes_in_class classes row (entries ++ e ∷ []) ≡ writes_in_class classes row entries + cond (is_write classes row e) 1 0 =
         sum_by-append (λ (x : Entry). cond (is_write classes row x) 1 0) entries (e ∷ []) ∙ omega arith in
         rw (standing_after-push classes (standing_of bytes) entries e, one)
-        (writes_step classes row (after classes bytes entries) e (writes_of classes row entries) same)
+        (writes_step classes row (after classes bytes entries) e (writes_in_class classes row entries) same)

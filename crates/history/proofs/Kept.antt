@@ -1,14 +1,14 @@
 -- A row on which a thread is marked is as the marking load-exclusive found it.
 use Rattle.std.proofs.Common.{◌≡◌, ◌≢◌, ℕ, ◌+◌, ◌&&◌, Bool, true, false, if◌then◌else◌, List, [], ◌∷◌, ◌++◌, Option, Some, None, nat_eq, refl, sym, ap, subst, ◌∙◌, inl, inr, slice_index, append_assoc, length}
 use Rattle.std.proofs.lemmas.List.Folds.{list_any-append}
-use Rattle.std.proofs.lemmas.Bool.{and_parts, cases_Bool, cases_lt, eq-eqb, eqb-true, or_from}
+use Rattle.std.proofs.lemmas.Bool.{and_parts, cases_Bool, cases_lt, eq-eqb, eqb-true, ne_eqb, or_from}
 use Rattle.llsc_base.specs.Memory.{row_of, size_bytes, stored}
 use Rattle.llsc_base.specs.declared.access.Place.{Place}
 use Rattle.llsc_base.proofs.Cells.{row_of-byte}
 use Rattle.llsc_base.proofs.Stores.{stored-before, stored-past}
 use Rattle.history.specs.Monitor.{Monitor, accessed, at_rest, marked_row, monitor_after, unless_on}
 use Rattle.history.specs.ArmLegal.{IsArmLegal, IsSound, MayAccess}
-use Rattle.history.specs.Marked.{IsMarkedSince, KeepsRow, is_load_ex}
+use Rattle.history.specs.Marked.{IsMarkedSince, KeepsRow, is_load_ex, is_write_in}
 use Rattle.history.specs.Standing.{mark_after}
 use Rattle.history.specs.declared.entry.Entry.{Entry}
 use Rattle.history.specs.declared.entry.Entry.TheVariants.{Read, Write, Fail, Clear, Watch, Miss, Begin, End}
@@ -44,26 +44,26 @@ stored-keeps memory place value row thread threads sound elsewhere k here = elim
   ]
 ]
 
--- what an entry that isn't the thread's load-exclusive leaves of its mark
+-- what an entry that isn't the thread's load-exclusive leaves of its mark, and that it is no write in the row
 left : (m : Monitor) (e : Entry) (t row : ℕ) → MayAccess m e → is_load_ex t e ≡ false → mark_step t (marked_row m t) e ≡ Some row
-    → (marked_row m t ≡ Some row) × KeepsRow row m.memory (accessed m e).memory
+    → (marked_row m t ≡ Some row) × KeepsRow row m.memory (accessed m e).memory × (is_write_in row e ≡ false)
 left m (Read thread place value true) t row may other h = elim (cases_Bool (nat_eq thread t)) [
   | inl own ↦ absurd (let f : ⊥ = (let e : true ≡ false = rw own at other in cc) in f)
-  | inr another ↦ (rw another at h, λ k here. refl)
+  | inr another ↦ (rw another at h, (λ k here. refl), refl)
 ]
-left m (Read thread place value false) t row may other h = (h, λ k here. refl)
+left m (Read thread place value false) t row may other h = (h, (λ k here. refl), refl)
 left m (Write thread place value true) t row may other h =
     let was = kept_after (nat_eq thread t && true) (row_of place) (marked_row m t) row h in
-    (was.0, stored-keeps m.memory place value row thread (length m.marks) may.0 was.1)
+    (was.0, stored-keeps m.memory place value row thread (length m.marks) may.0 was.1, ne_eqb (row_of place) row was.1)
 left m (Write thread place value false) t row may other h =
     let was = kept_after (nat_eq thread t && false) (row_of place) (marked_row m t) row h in
-    (was.0, stored-keeps m.memory place value row thread (length m.marks) may.0 was.1)
-left m (Fail thread place value cause) t row may other h = (kept_if (nat_eq thread t) (marked_row m t) row h, λ k here. refl)
-left m (Clear thread) t row may other h = (kept_if (nat_eq thread t) (marked_row m t) row h, λ k here. refl)
-left m (Watch thread place) t row may other h = (h, λ k here. refl)
-left m (Miss thread place) t row may other h = (h, λ k here. refl)
-left m (Begin thread place) t row may other h = (h, λ k here. refl)
-left m (End thread place) t row may other h = (h, λ k here. refl)
+    (was.0, stored-keeps m.memory place value row thread (length m.marks) may.0 was.1, ne_eqb (row_of place) row was.1)
+left m (Fail thread place value cause) t row may other h = (kept_if (nat_eq thread t) (marked_row m t) row h, (λ k here. refl), refl)
+left m (Clear thread) t row may other h = (kept_if (nat_eq thread t) (marked_row m t) row h, (λ k here. refl), refl)
+left m (Watch thread place) t row may other h = (h, (λ k here. refl), refl)
+left m (Miss thread place) t row may other h = (h, (λ k here. refl), refl)
+left m (Begin thread place) t row may other h = (h, (λ k here. refl), refl)
+left m (End thread place) t row may other h = (h, (λ k here. refl), refl)
 
 -- ---- over a list
 
@@ -88,6 +88,7 @@ later start t row entries e before other legal marked =
       are = ap (λ (xs : List Entry). xs ++ e ∷ []) since.are ∙ append_assoc since.before (Read t since.place since.value true ∷ since.later) (e ∷ []);
       last = list_any-append (is_load_ex t) since.later (e ∷ []) ∙ or_from _ _ since.last (or_from _ _ other refl);
       of_row = since.of_row;
+      unwritten = list_any-append (is_write_in row) since.later (e ∷ []) ∙ or_from _ _ since.unwritten (or_from _ _ was.2 refl);
       kept = λ k at. ap (λ (x : Monitor). slice_index x.memory k) (sym after) ∙ was.1 k at ∙ since.kept k at;
     }
 
@@ -130,6 +131,7 @@ just_now start t row entries place value legal marked =
       are = refl;
       last = refl;
       of_row = cc;
+      unwritten = refl;
       kept = λ k at. ap (λ (x : Monitor). slice_index x.memory k) (sym after);
     }
 
@@ -142,10 +144,23 @@ more start t row entries e before = elim (cases_Bool (is_load_ex t e)) [
   | inr other ↦ later start t row entries e before other
 ]
 
--- where a thread is marked on a row after accesses that Arm allows, its last load-exclusive read the row, which hasn't changed since
+-- where a thread is marked on a row after accesses that Arm allows, its last load-exclusive read the row, in which nobody
+-- has written since
 pub marks_keep : (bytes : List ℕ) (threads t row : ℕ) (accesses : List Entry) → IsArmLegal (at_rest bytes threads) accesses
     → marked_row (monitor_after (at_rest bytes threads) accesses) t ≡ Some row → IsMarkedSince (at_rest bytes threads) accesses t row
 marks_keep bytes threads t row accesses = by_ends (MarksKeep (at_rest bytes threads) t row)
     (λ legal marked. absurd (let none : None ≡ Some row = sym (get_or-replicate_none threads t) ∙ marked in let f : ⊥ = cc in f))
     (more (at_rest bytes threads) t row)
     accesses
+
+-- where a store-exclusive succeeds its thread is marked on its row
+pub store_keeps : (bytes : List ℕ) (threads thread : ℕ) (place : Place) (value : ℕ) (front back : List Entry)
+    → IsArmLegal (at_rest bytes threads) (front ++ (Write thread place value true ∷ back))
+    → IsMarkedSince (at_rest bytes threads) front thread (row_of place)
+store_keeps bytes threads thread place value front back legal =
+    let start = at_rest bytes threads in
+    let e = Write thread place value true in
+    let whole : IsArmLegal start ((front ++ e ∷ []) ++ back) = subst (IsArmLegal start) (sym (append_assoc front (e ∷ []) back)) legal in
+    let with_it = IsArmLegal-front start (front ++ e ∷ []) back whole in
+    marks_keep bytes threads thread (row_of place) front (IsArmLegal-front start front (e ∷ []) with_it)
+    ((IsArmLegal-last start front e with_it).1 refl)

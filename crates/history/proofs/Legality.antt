@@ -23,7 +23,7 @@ use Rattle.history.proofs.Appends.{IsArmLegal-front, IsArmLegal-from_accesses_of
 use Rattle.history.proofs.Marks.{IsAsLarge-monitor_after, marked_row-standing, updated-same, updated-other}
 use Rattle.history.proofs.Prefixes.{IsLegal-front}
 use Rattle.history.proofs.Steps.{flight_of-push, flight_step, reservation_of-standing}
-use Rattle.history.proofs.Flags.{overtaken-standing, passed-standing, writes_of-standing}
+use Rattle.history.proofs.Flags.{overtaken-standing, passed-standing, writes_in_class-standing}
 use Rattle.history.proofs.CellLaws.{CellsAre, CellsAre-standing, value_at-CellsAre}
 use Rattle.history.proofs.Stages.{AreStaged, AreStaged-MayFollow, MayJoin-stage, joined-stage, last_stage, last_stage-standing, stage_after, stage_before}
 use Rattle.history.proofs.Operations.{AreFinished-AreStaged, AreOperations-AreStaged, AreStaged-AreOperations, last_stage-AreFinished}
@@ -144,7 +144,7 @@ fails_here size bytes past t place Limit may =
     let reserved = reservation_of-standing size.classes t bytes past ∙ may.0 in (
       reserved,
       overtaken-standing size.classes t (row_of place) bytes past reserved ∙ may.1,
-      rw (writes_of-standing size.classes (row_of place) bytes past) at may.2,
+      rw (writes_in_class-standing size.classes (row_of place) bytes past) at may.2,
     )
 
 fails_there : (size : Numbers) (bytes : List ℕ) (past : List Entry) (t : ℕ) (place : Place) (cause : Cause)
@@ -155,7 +155,7 @@ fails_there size bytes past t place Lost may =
 fails_there size bytes past t place Limit may = (
   sym (reservation_of-standing size.classes t bytes past) ∙ may.0,
   sym (overtaken-standing size.classes t (row_of place) bytes past may.0) ∙ may.1,
-  rw (writes_of-standing size.classes (row_of place) bytes past) may.2,
+  rw (writes_in_class-standing size.classes (row_of place) bytes past) may.2,
 )
 
 -- an entry that may come has its cause

@@ -10,5 +10,6 @@ pub mod Stages
 pub mod Operations
 pub mod Legality
 pub mod SmallMemory
+pub mod SmallHistories
 pub mod Classes
 pub mod Pushes

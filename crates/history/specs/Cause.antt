@@ -44,8 +44,8 @@ is_write classes row (Write other place value ex) = is_in_class classes row plac
 is_write classes row _ = false
 
 -- how many Writes the class of a row has had
-abbrev pub writes_of : ℕ → ℕ → List Entry → ℕ
-writes_of classes row history = count_by (is_write classes row) history
+abbrev pub writes_in_class : ℕ → ℕ → List Entry → ℕ
+writes_in_class classes row history = count_by (is_write classes row) history
 
 -- the place of a write that is in flight since a Begin: until its thread has an End
 abbrev pub flight_since : ℕ → Option Since → Option Place
@@ -67,7 +67,7 @@ MayFail size past thread place Lost =
 MayFail size past thread place Limit =
     (reservation_of size.classes thread past ≡ Some (row_of place))
     × (list_any (is_begin_of_another size.classes thread (row_of place)) (since_watch thread past) ≡ false)
-    × (size.limit ≤ writes_of size.classes (row_of place) past)
+    × (size.limit ≤ writes_in_class size.classes (row_of place) past)
 
 -- a load-exclusive of a thread may get no reservation: a write of another in the class is in flight
 pub record MayMiss (size : Numbers) (past : List Entry) (thread : ℕ) (place : Place) : Type 0 where

@@ -1,4 +1,5 @@
--- What a monitor's mark says of memory: the row has not changed since the load-exclusive that set the mark (DDI 0406C A3.4).
+-- What a monitor's mark says: nobody has written in the row since the load-exclusive that set the mark, whatever the value
+-- (DDI 0406C A3.4), so its bytes are those that were read.
 use Rattle.std.specs.Prelude.{◌≡◌, ℕ, ◌==◌, ◌&&◌, Bool, true, false, List, ◌∷◌, ◌++◌, slice_index}
 use Rattle.std.specs.List.{list_any}
 use Rattle.llsc_base.specs.Memory.{row_of}
@@ -6,7 +7,7 @@ use Rattle.llsc_base.specs.declared.access.Place.{Place}
 use Rattle.llsc_base.specs.declared.access.Size.TheVariants.{B1}
 use Rattle.history.specs.Monitor.{Monitor, monitor_after}
 use Rattle.history.specs.declared.entry.Entry.{Entry}
-use Rattle.history.specs.declared.entry.Entry.TheVariants.{Read}
+use Rattle.history.specs.declared.entry.Entry.TheVariants.{Read, Write}
 
 -- the place of one byte
 abbrev pub byte_place : ℕ → Place
@@ -21,7 +22,12 @@ abbrev pub is_load_ex : ℕ → Entry → Bool
 is_load_ex thread (Read other place value ex) = (other == thread) && ex
 is_load_ex thread _ = false
 
--- the last load-exclusive of a thread read this row, and no byte of the row has changed since
+-- a write in a row, whosever it is and whatever its value
+abbrev pub is_write_in : ℕ → Entry → Bool
+is_write_in row (Write thread place value ex) = row_of place == row
+is_write_in row _ = false
+
+-- the last load-exclusive of a thread read this row; nobody has written in the row since, so each byte of it is what it was
 pub record IsMarkedSince (start : Monitor) (accesses : List Entry) (thread row : ℕ) : Type 0 where
   pub before : List Entry
   pub place : Place
@@ -30,4 +36,5 @@ pub record IsMarkedSince (start : Monitor) (accesses : List Entry) (thread row :
   pub are : accesses ≡ before ++ (Read thread place value true ∷ later)
   pub last : list_any (is_load_ex thread) later ≡ false
   pub of_row : row_of place ≡ row
+  pub unwritten : list_any (is_write_in row) later ≡ false
   pub kept : KeepsRow row (monitor_after start before).memory (monitor_after start accesses).memory

@@ -1,4 +1,6 @@
 -- Places of the worked histories: three in one row, and one in the next.
+use Rattle.std.specs.Prelude.{ℕ}
+use Rattle.llsc_base.specs.Sizes.{Numbers}
 use Rattle.llsc_base.specs.declared.access.Place.{Place}
 use Rattle.llsc_base.specs.declared.access.Size.TheVariants.{B1, B4, B8}
 
@@ -17,3 +19,7 @@ last_byte = record { addr = 15; size = B1 }
 -- the row after it
 abbrev pub next_row : Place
 next_row = record { addr = 16; size = B8 }
+
+-- a small machine of two threads with so many classes, each of which takes one write
+abbrev pub of_classes : ℕ → Numbers
+of_classes classes = record { mem = 65536; threads = 2; classes = classes; limit = 1 }

@@ -2,16 +2,16 @@
 //!
 //! How things stand after a history (`standing_after`) is one record that grows entry by entry. The laws named
 //! `.._the_fold` say that each of its parts is what a definition of this crate says of the history.
-ghost use Rattle.std.specs.Prelude.{◌≡◌, ◌+◌, ◌*◌, ◌%◌, ◌<◌, ◌≤◌, ◌↔◌, ◌++◌, ◌∷◌, [], ℕ, IsTrue, length, unwrap_or};
+ghost use Rattle.std.specs.Prelude.{◌≡◌, ◌+◌, ◌*◌, ◌%◌, ◌<◌, ◌≤◌, ◌↔◌, ◌++◌, ◌∷◌, [], ℕ, IsTrue, length, true, unwrap_or};
 ghost use Rattle.std.specs.List.{list_any};
-ghost use Rattle.llsc_base.specs.Memory.{cell_of, class_of, is_aligned, size_bytes, value_at};
+ghost use Rattle.llsc_base.specs.Memory.{cell_of, class_of, is_aligned, row_of, size_bytes, value_at};
 ghost use Rattle.row_bytes.specs.Cell.{cell_at, value_in_cell};
 ghost use Rattle.history.specs.Parts.{accesses_of};
 ghost use Rattle.history.specs.Monitor.{at_rest, marked_row, monitor_after};
 ghost use Rattle.history.specs.ArmLegal.{IsArmLegal};
 ghost use Rattle.history.specs.Marked.{IsMarkedSince};
 ghost use Rattle.history.specs.Reservation.{reservation_of};
-ghost use Rattle.history.specs.Cause.{flight_of, is_begin, is_begin_of_another, is_start_of_another, since_watch, writes_of};
+ghost use Rattle.history.specs.Cause.{flight_of, is_begin, is_begin_of_another, is_start_of_another, since_watch, writes_in_class};
 ghost use Rattle.history.specs.Class.{comer_in, edges_of, last_of, name_of, writer_in};
 ghost use Rattle.history.specs.Legal.{IsComplete, IsLegal};
 ghost use Rattle.history.specs.Standing.{rests, standing_after, standing_of};
@@ -26,8 +26,23 @@ pub fn prefixes_are_legal(size: &MachineSize, bytes: &[u8], front: &[Entry], bac
     ensures { IsLegal size.now bytes.now front.now }
 {}
 
-/// Where a thread is marked on a row after accesses that Arm allows, its last load-exclusive read that row, and no
-/// byte of the row has changed since.
+/// A store-exclusive that succeeds, among accesses that Arm allows, stands behind a load-exclusive of its thread from the
+/// same row, and between the two nobody has written in the row, whatever value.
+pub fn successful_stores_are_undisturbed(
+    bytes: &[u8],
+    threads: u32,
+    front: &[Entry],
+    back: &[Entry],
+    thread: u32,
+    place: Place,
+    value: u64,
+)
+    requires { IsArmLegal (at_rest bytes.now threads) (front.now ++ Entry.Write thread place value true ∷ back.now) }
+    ensures { IsMarkedSince (at_rest bytes.now threads) front.now thread (row_of place) }
+{}
+
+/// Where a thread is marked on a row after accesses that Arm allows, its last load-exclusive read that row, and nobody has
+/// written in the row since, so each byte of it is what it was.
 pub fn marks_keep_their_rows(bytes: &[u8], threads: u32, accesses: &[Entry], thread: u32, row: u32)
     requires legal { IsArmLegal (at_rest bytes.now threads) accesses.now }
     requires marked { marked_row (monitor_after (at_rest bytes.now threads) accesses.now) thread ≡ Some row }
@@ -74,7 +89,7 @@ pub fn causes_are_the_fold(bytes: &[u8], classes: u32, history: &[Entry], thread
 /// What a history says of the class of a row is what stands: how many Writes it has had, how many Begins and Ends, and
 /// the threads of its last Begin and of its last Watch or Begin.
 pub fn classes_are_the_fold(bytes: &[u8], classes: u32, history: &[Entry], row: u32)
-    ensures writes { writes_of classes row history.now
+    ensures writes { writes_in_class classes row history.now
         ≡ (standing_after classes (standing_of bytes.now) history.now).writes (class_of classes row) }
     ensures edges { edges_of classes row history.now
         ≡ (standing_after classes (standing_of bytes.now) history.now).edges (class_of classes row) }

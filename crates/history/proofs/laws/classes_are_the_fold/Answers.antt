@@ -1,10 +1,10 @@
 use Rattle.std.proofs.Common.{sym}
 use Rattle.history.proofs.Classes.{edges_of-standing, holder-standing, name-standing}
-use Rattle.history.proofs.Flags.{writes_of-standing}
+use Rattle.history.proofs.Flags.{writes_in_class-standing}
 use Rattle.history.proofs.laws.classes_are_the_fold.Goals as goal
 
 pub returns-clause-writes : goal.returns-clause-writes
-returns-clause-writes c = sym (writes_of-standing c.args.classes c.args.row c.args.bytes.now c.args.history.now)
+returns-clause-writes c = sym (writes_in_class-standing c.args.classes c.args.row c.args.bytes.now c.args.history.now)
 
 pub returns-clause-edges : goal.returns-clause-edges
 returns-clause-edges c = sym (edges_of-standing c.args.classes c.args.row c.args.bytes.now c.args.history.now)

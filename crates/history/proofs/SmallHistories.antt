@@ -1,0 +1,60 @@
+-- Parts of the worked histories that are legal, or not.
+use Rattle.std.proofs.Common.{◌≡◌, ◌==◌, ℕ, zero, suc, Bool, true, false, List, [], ◌∷◌, ◌++◌, refl, subst, arith}
+use Rattle.std.specs.List.{flat_map, list_all}
+use Rattle.std.proofs.lemmas.Bool.{and_parts}
+use Rattle.llsc_base.specs.Sizes.{Numbers}
+use Rattle.llsc_base.specs.declared.access.Place.{Place}
+use Rattle.history.specs.Cause.{HasCause}
+use Rattle.history.specs.Operation.{Operation, load, load_watched, load_missed, store, fail, clear, entries_of_operation, AreOperations}
+use Rattle.history.specs.Parts.{entries_of}
+use Rattle.history.specs.Worked.{word}
+use Rattle.history.specs.declared.entry.Entry.{Entry}
+use Rattle.history.specs.declared.entry.Entry.TheVariants.{Read, Write, Fail, Clear, Watch, Miss, Begin, End}
+
+-- a load-exclusive of thread 0 and its store-exclusive that succeeds
+abbrev pub pair : List Entry
+pair = Watch 0 word ∷ Read 0 word 0 true ∷ Begin 0 word ∷ Write 0 word 9 true ∷ End 0 word ∷ []
+
+-- its entries are operations of thread 0, and no other thread has any
+pub pair_operations : (thread : ℕ) → AreOperations thread (entries_of thread pair)
+pair_operations zero = record { missing = []; finished = record { operations = load_watched word 0 ∷ store word 9 true ∷ []; are = refl } }
+pair_operations (suc thread) =
+    let another : (0 == suc thread) ≡ false = grind arith in
+    record { missing = []; finished = record { operations = []; are = rw another refl } }
+
+-- an entry that needs no cause
+abbrev pub is_quiet : Entry → Bool
+is_quiet (Fail thread place value cause) = false
+is_quiet (Miss thread place) = false
+is_quiet entry = true
+
+quiet_cause : (size : Numbers) (past : List Entry) (entry : Entry) → is_quiet entry ≡ true → HasCause size past entry
+quiet_cause size past (Read thread place value ex) quiet = tt
+quiet_cause size past (Write thread place value ex) quiet = tt
+quiet_cause size past (Fail thread place value cause) quiet = absurd (let f : ⊥ = cc in f)
+quiet_cause size past (Clear thread) quiet = tt
+quiet_cause size past (Watch thread place) quiet = tt
+quiet_cause size past (Miss thread place) quiet = absurd (let f : ⊥ = cc in f)
+quiet_cause size past (Begin thread place) quiet = tt
+quiet_cause size past (End thread place) quiet = tt
+
+quiet_in : (past : List Entry) (entry : Entry) (rest : List Entry) → list_all is_quiet (past ++ (entry ∷ rest)) ≡ true → is_quiet entry ≡ true
+quiet_in [] entry rest all = (and_parts _ _ all).0
+quiet_in (first ∷ past) entry rest all = quiet_in past entry rest (and_parts _ _ all).1
+
+-- where no entry needs a cause, each has it
+pub quiet_causes : (size : Numbers) (history : List Entry) → list_all is_quiet history ≡ true
+    → (past : List Entry) (entry : Entry) (rest : List Entry) → history ≡ past ++ (entry ∷ rest) → HasCause size past entry
+quiet_causes size history all past entry rest parts =
+    quiet_cause size past entry (quiet_in past entry rest (subst (λ h. list_all is_quiet h ≡ true) parts all))
+
+-- no operations begin with a write that has not begun
+pub not_begun : (thread : ℕ) (place : Place) (value : ℕ) (ex : Bool) (rest : List Entry) (operations : List Operation)
+    → Write thread place value ex ∷ rest ≡ flat_map (entries_of_operation thread) operations → ⊥
+not_begun thread place value ex rest [] same = cc
+not_begun thread place value ex rest (load at n ∷ operations) same = cc
+not_begun thread place value ex rest (load_watched at n ∷ operations) same = cc
+not_begun thread place value ex rest (load_missed at n ∷ operations) same = cc
+not_begun thread place value ex rest (store at n e ∷ operations) same = cc
+not_begun thread place value ex rest (fail at n cause ∷ operations) same = cc
+not_begun thread place value ex rest (clear ∷ operations) same = cc
