@@ -2,6 +2,7 @@
 ghost use Rattle.std.specs.Prelude.{◌≡◌, ◌<◌, ◌≤◌, ◌++◌, ◌∷◌, [], length};
 
 use a32_instr::Reg;
+use arrayvec::ArrayVec;
 use std::marker::Model;
 
 /// How many numbers the signs of a form have at most.
@@ -10,18 +11,15 @@ const MOST_NUMBERS: usize = 8;
 /// The numbers at the signs of a form, at most 8, held in place.
 #[derive(Drop)]
 pub struct Numbers {
-    items: [u64; MOST_NUMBERS],
-    count: usize,
+    items: ArrayVec<u64, MOST_NUMBERS>,
 }
 
 impl Model for Numbers {
-    ghost use Rattle.std.specs.Prelude.{List, ℕ, ◌≤◌, take};
+    ghost use Rattle.std.specs.Prelude.{List, ℕ};
 
     ghost Value = { List ℕ };
 
-    ghost view = { λ n. take n.count n.items };
-
-    ghost invariant = { λ n. n.count ≤ 8 };
+    ghost view = { λ n. n.items.items };
 }
 
 impl Numbers {
@@ -30,8 +28,7 @@ impl Numbers {
         ensures { result ≡ [] }
     {
         Numbers {
-            items: [0; MOST_NUMBERS],
-            count: 0,
+            items: ArrayVec::new(),
         }
     }
 
@@ -64,8 +61,7 @@ impl Numbers {
         requires { length self.old < 8 }
         ensures { self.new ≡ self.old ++ number ∷ [] }
     {
-        self.items[self.count] = number;
-        self.count += 1;
+        self.items.push(number);
     }
 
     /// The numbers in order, at most 8.
@@ -73,7 +69,7 @@ impl Numbers {
         ensures numbers { result.now ≡ self.now }
         ensures most { length result.now ≤ 8 }
     {
-        &self.items[..self.count]
+        self.items.as_slice()
     }
 }
 

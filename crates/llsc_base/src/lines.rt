@@ -1,5 +1,6 @@
 ghost use Rattle.std.specs.Prelude.{◌≡◌, ◌<◌, ◌≤◌, ◌++◌, ◌∷◌, [], length};
 
+use arrayvec::ArrayVec;
 use std::marker::Model;
 
 /// How many bytes a line holds at most.
@@ -8,18 +9,15 @@ pub const LINE_BYTES: usize = 96;
 /// A text of at most 96 bytes, held in place.
 #[derive(Drop)]
 pub struct Line {
-    text: [u8; LINE_BYTES],
-    len: usize,
+    text: ArrayVec<u8, LINE_BYTES>,
 }
 
 impl Model for Line {
-    ghost use Rattle.std.specs.Prelude.{List, ℕ, ◌≤◌, take};
+    ghost use Rattle.std.specs.Prelude.{List, ℕ};
 
     ghost Value = { List ℕ };
 
-    ghost view = { λ l. take l.len l.text };
-
-    ghost invariant = { λ l. l.len ≤ 96 };
+    ghost view = { λ l. l.text.items };
 }
 
 impl Line {
@@ -28,8 +26,7 @@ impl Line {
         ensures { result ≡ [] }
     {
         Line {
-            text: [0; LINE_BYTES],
-            len: 0,
+            text: ArrayVec::new(),
         }
     }
 
@@ -38,16 +35,15 @@ impl Line {
         ensures text { result.now ≡ self.now }
         ensures most { length result.now ≤ 96 }
     {
-        &self.text[..self.len]
+        self.text.as_slice()
     }
 
-    /// Adds a byte at the end.
+    /// Adds a byte at the end of a text of fewer than 96.
     pub fn push(&mut self, byte: u8)
         requires { length self.old < 96 }
         ensures { self.new ≡ self.old ++ byte ∷ [] }
     {
-        self.text[self.len] = byte;
-        self.len += 1;
+        self.text.push(byte);
     }
 }
 
