@@ -69,14 +69,13 @@ loadable-placed file size sound =
     all-placed (length file) (room_of size) size.mem (segments_of file) (omega arith) sound.past sound.unstored
 
 -- its image is a program
-pub loadable-program : (file : List ℕ) (size : Numbers) → IsLoadable file size → size.mem ≤ 16777216
+pub loadable-program : (file : List ℕ) (size : Numbers) → IsLoadable file size
     → IsProgram (program_of (values_below size.mem (byte_at file (segments_of file))) (map span_of (segments_of file)) (entry_field file))
 unfolding segments_of
-loadable-program file size sound most =
+loadable-program file size sound =
     let long = length-values_below size.mem (byte_at file (segments_of file)) in
     record {
       aligned = sound.aligned;
-      sized = rw long most;
       spans = rw long (all-spans (length file) size.mem (headers_of file) (loadable-placed file size sound) sound.writable);
       apart = spans-apart (segments_of file) sound.apart;
     }

@@ -16,7 +16,7 @@ use Rattle.a32_instr.specs.declared.outside.Ask.{Ask}
 use Rattle.a32_instr.specs.declared.outside.Stop.{Stop}
 use Rattle.guest_calls.specs.Run.{Pair, Reaches, Asks, Ends}
 use Rattle.guest_thread.specs.Accesses.{entry_of, history_of, pairs_in, reply_of}
-use Rattle.guest_thread.specs.Standing.{Standing, IsReadyIn, IsWaitingIn}
+use Rattle.guest_thread.specs.ThreadState.{ThreadState, IsReadyIn, IsWaitingIn}
 use Rattle.guest_thread.specs.Start.{thread_start}
 use Rattle.guest_thread.specs.Under.{HasCome, Awaits}
 use Rattle.run_record.specs.Limits.{IsAccess, most_accesses}
@@ -58,7 +58,7 @@ chosen program size seed budget x live seats memory accesses t seat turned turn 
 -- ---- after an access
 
 -- a thread that was replied to is seated
-own_seated : (program : Program) (size : Numbers) (budget : ℕ) (live : List ℕ) (memory : Monitor) (accesses : List Access) (t : ℕ) (ask : Ask) (seat : Seat) (replied : Standing)
+own_seated : (program : Program) (size : Numbers) (budget : ℕ) (live : List ℕ) (memory : Monitor) (accesses : List Access) (t : ℕ) (ask : Ask) (seat : Seat) (replied : ThreadState)
     → IsChosen program size budget accesses live t seat
     → HasCome program budget (thread_start program size t) (pairs_in t accesses ++ (ask, reply_of (access_by memory t ask)) ∷ []) replied
     → IsReadyIn (length program.bytes) budget replied
@@ -95,7 +95,7 @@ changed P n seats t new many known here others u other below = elim (cases_eq u 
 ]
 
 pub after_access : (program : Program) (size : Numbers) (seed budget x : ℕ) (live : List ℕ) (seats : List Seat) (memory : Monitor) (accesses : List Access)
-    (t : ℕ) (ask : Ask) (seat : Seat) (asked replied : Standing)
+    (t : ℕ) (ask : Ask) (seat : Seat) (asked replied : ThreadState)
     → HaveTurned program size seed budget x live seats memory accesses
     → turn_of (drawn x) live ≡ Some t → seat ≡ slice_index_or seats t seat
     → Asks program budget (thread_start program size t) (pairs_in t accesses) ask
@@ -161,7 +161,7 @@ turned_as program size seed budget x y live left seats memory monitor accesses m
     (subst (λ a. HaveTurned program size seed budget x live seats memory a) (sym same_accesses) turned)))
 
 pub access_made : (program : Program) (size : Numbers) (seed budget x y : ℕ) (live : List ℕ) (seats : List Seat) (memory monitor : Monitor) (accesses made : List Access)
-    (t : ℕ) (ask : Ask) (seat : Seat) (asked replied : Standing) (access : Access) (reply : ℕ)
+    (t : ℕ) (ask : Ask) (seat : Seat) (asked replied : ThreadState) (access : Access) (reply : ℕ)
     → HaveTurned program size seed budget x live seats memory accesses
     → turn_of (drawn x) live ≡ Some t → seat ≡ slice_index_or seats t seat
     → Asks program budget (thread_start program size t) (pairs_in t accesses) ask
@@ -189,7 +189,7 @@ access_made program size seed budget x y live seats memory monitor accesses made
 -- ---- after a stop
 
 pub after_stop : (program : Program) (size : Numbers) (seed budget x : ℕ) (live : List ℕ) (seats : List Seat) (memory : Monitor) (accesses : List Access)
-    (t : ℕ) (stop : Stop) (seat : Seat) (ended : Standing)
+    (t : ℕ) (stop : Stop) (seat : Seat) (ended : ThreadState)
     → HaveTurned program size seed budget x live seats memory accesses
     → turn_of (drawn x) live ≡ Some t → seat ≡ slice_index_or seats t seat
     → Ends program budget (thread_start program size t) (pairs_in t accesses) stop ended.steps ended.output

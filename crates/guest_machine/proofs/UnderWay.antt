@@ -20,7 +20,7 @@ use Rattle.guest_thread.proofs.Pushed.{thread_is}
 use Rattle.guest_thread.specs.Accesses.{entry_of, entry_by, reply_of}
 use Rattle.guest_thread.specs.Counts.{reads_in, writes_in, fails_in}
 use Rattle.guest_thread.specs.Progress.{IsBounded, progress_of}
-use Rattle.guest_thread.specs.Standing.{Standing, IsReadyBy, IsReadyIn}
+use Rattle.guest_thread.specs.ThreadState.{ThreadState, IsReadyBy, IsReadyIn}
 use Rattle.guest_thread.specs.Start.{first_standing, thread_start}
 use Rattle.guest_thread.specs.declared.guests.Printing.{Printing}
 use Rattle.guest_thread.specs.Under.{HasCome, Awaits}
@@ -51,7 +51,7 @@ all_fail_push m [] e all here = (here, tt)
 all_fail_push m (entry ∷ history) e all here = (all.0, all_fail_push (accessed m entry) history e all.1 here)
 
 -- one more access
-pub after_access : (program : Program) (budget : ℕ) (start : Machine) (bytes : List ℕ) (alone : Alone) (asked replied : Standing) (monitor : Monitor) (counts : Counts)
+pub after_access : (program : Program) (budget : ℕ) (start : Machine) (bytes : List ℕ) (alone : Alone) (asked replied : ThreadState) (monitor : Monitor) (counts : Counts)
     (ask : Ask) (access : Access) (reply : ℕ) (way : IsUnderWay program budget start bytes alone)
     → Awaits program budget start (pairs_of 0 way.history) ask asked
     → access ≡ access_by alone.memory 0 ask → monitor ≡ accessed alone.memory (entry_of access) → reply ≡ reply_of access
@@ -111,11 +111,11 @@ end_of program budget start bytes stop alone steps out steps_are out_is over = r
 }
 
 -- it can have come so far at most
-steps_within : (mem budget : ℕ) (guest : Standing) (printing : Option Printing) → IsReadyBy mem budget guest printing → guest.steps ≤ budget
+steps_within : (mem budget : ℕ) (guest : ThreadState) (printing : Option Printing) → IsReadyBy mem budget guest printing → guest.steps ≤ budget
 steps_within mem budget guest None ready = ready.1
 steps_within mem budget guest (Some printing) ready = omega (arith, ready.within)
 
-pub most_progress : (mem budget : ℕ) (guest : Standing) → IsReadyIn mem budget guest → IsBounded guest → progress_of guest < 17 * budget + most_output + 17
+pub most_progress : (mem budget : ℕ) (guest : ThreadState) → IsReadyIn mem budget guest → IsBounded guest → progress_of guest < 17 * budget + most_output + 17
 most_progress mem budget guest ready bounded =
     let within : guest.steps ≤ budget = steps_within mem budget guest guest.printing ready in
     omega (arith, within, bounded.replies, bounded.output)

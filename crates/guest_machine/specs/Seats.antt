@@ -11,7 +11,7 @@ use Rattle.a32_instr.specs.declared.outside.Stop.{Stop}
 use Rattle.guest_calls.specs.Run.{Pair, Ends}
 use Rattle.a32_step.specs.Machine.{Machine}
 use Rattle.guest_thread.specs.Accesses.{history_of, pairs_in}
-use Rattle.guest_thread.specs.Standing.{Standing, IsReadyIn}
+use Rattle.guest_thread.specs.ThreadState.{ThreadState, IsReadyIn}
 use Rattle.guest_thread.specs.Start.{first_standing, thread_start}
 use Rattle.guest_thread.specs.Under.{HasCome}
 use Rattle.guest_thread.specs.declared.ends.GuestEnd.{GuestEnd}
@@ -31,7 +31,7 @@ is_one_of threads t = list_any (λ other. other == t) threads
 
 -- a thread with its accesses and replies: it has come so far and awaits none, or it has stopped, with its steps and its
 -- output
-abbrev pub StandsBy : Program → ℕ → Machine → List Pair → Standing → Option Stop → Type 0
+abbrev pub StandsBy : Program → ℕ → Machine → List Pair → ThreadState → Option Stop → Type 0
 StandsBy program budget start pairs guest None = HasCome program budget start pairs guest × IsReadyIn (length program.bytes) budget guest
 StandsBy program budget start pairs guest (Some stop) = Ends program budget start pairs stop guest.steps guest.output
 

@@ -8,7 +8,7 @@ use Rattle.a32_step.specs.Machine.{Machine}
 use Rattle.guest_calls.specs.Pairs.{pairs_of}
 use Rattle.guest_calls.specs.Run.{Ends}
 use Rattle.guest_thread.specs.Progress.{IsBounded, progress_of}
-use Rattle.guest_thread.specs.Standing.{IsReadyIn}
+use Rattle.guest_thread.specs.ThreadState.{IsReadyIn}
 use Rattle.guest_thread.specs.Under.{HasCome}
 use Rattle.guest_machine.specs.Alone.{IsAlone}
 use Rattle.guest_machine.specs.Counting.{AreCounts}

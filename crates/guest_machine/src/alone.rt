@@ -26,6 +26,7 @@ impl Alone {
     #[inline]
     fn turn(&mut self, image: &Image, budget: u64) -> Option<Stop>
         requires working { IsWorking image.now budget self.old }
+        requires small { length image.now.bytes ≤ 16777216 }
         requires budget { budget ≤ 1000000000000 }
         ensures goes_on { IfNone result (IsWorking image.now budget self.new) }
         ensures later { IfNone result (progress_of self.old.guest < progress_of self.new.guest) }
@@ -46,6 +47,7 @@ impl Alone {
     /// All turns, up to the thread's stop.
     fn run(&mut self, image: &Image, budget: u64) -> Stop
         requires working { IsWorking image.now budget self.old }
+        requires small { length image.now.bytes ≤ 16777216 }
         requires budget { budget ≤ 1000000000000 }
         ensures { (start : Machine) (bytes : List ℕ) → IsUnderWay image.now budget start bytes self.old
             → IsOver image.now budget start bytes result self.new }

@@ -5,7 +5,7 @@ ghost use Rattle.history.specs.ArmLegal.{MayAccess};
 ghost use Rattle.history.specs.Monitor.{IsAsLarge, accessed};
 ghost use Rattle.run_record.specs.Limits.{IsAccess};
 ghost use Rattle.guest_thread.specs.Accesses.{entry_of, reply_of};
-ghost use Rattle.guest_thread.specs.Standing.{IsAskIn, ReplyFits};
+ghost use Rattle.guest_thread.specs.ThreadState.{IsAskIn, ReplyFits};
 ghost use Rattle.guest_machine.specs.Turns.{access_by};
 
 use a32_step::Ask;

@@ -50,8 +50,8 @@ impl TraceFault {
 ///
 /// # Errors
 ///
-/// [`TraceFault::TooLong`] exactly where the run has more than 1,000,000 accesses, and [`TraceFault::Memory`] where there
-/// is no memory for it.
+/// [`TraceFault::TooLong`] only where the run has more than 1,000,000 accesses, and [`TraceFault::Memory`] is want of
+/// memory. Such a run has no trace: it is answered by one of the two.
 pub fn trace(
     alloc: Global,
     image: &Image,

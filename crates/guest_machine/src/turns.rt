@@ -40,7 +40,8 @@ impl Turns {
     /// Before the first turn.
     pub(crate) fn new(alloc: Global, plan: &Plan) -> Result<Turns, AllocError>
         requires whole { length plan.now.image.now.bytes ≡ plan.now.size.now.mem }
-        ensures { IfOk result (λ turns. AreUnderWay plan.now.image.now plan.now.size.now plan.now.seed plan.now.budget turns) }
+        ensures small { length plan.now.image.now.bytes ≤ 16777216 }
+        ensures under_way { IfOk result (λ turns. AreUnderWay plan.now.image.now plan.now.size.now plan.now.seed plan.now.budget turns) }
     {
         let (threads, mem) = (plan.size.threads(), plan.size.mem());
         prove!(mem % 8 == 0);
@@ -57,6 +58,7 @@ impl Turns {
     fn turn(&mut self, plan: &Plan) -> Result<(), TraceFault>
         requires under_way { AreUnderWay plan.now.image.now plan.now.size.now plan.now.seed plan.now.budget self.old }
         requires some { 1 ≤ length self.old.live.items }
+        requires small { length plan.now.image.now.bytes ≤ 16777216 }
         requires budget { plan.now.budget ≤ 1000000000000 }
         ensures goes_on { IfOk result (λ _. AreUnderWay plan.now.image.now plan.now.size.now plan.now.seed plan.now.budget self.new) }
         ensures nearer { IfOk result (λ _. left_of self.new < left_of self.old) }
@@ -89,6 +91,7 @@ impl Turns {
     /// All turns, up to the last thread's stop.
     pub(crate) fn run(&mut self, plan: &Plan) -> Result<(), TraceFault>
         requires under_way { AreUnderWay plan.now.image.now plan.now.size.now plan.now.seed plan.now.budget self.old }
+        requires small { length plan.now.image.now.bytes ≤ 16777216 }
         requires budget { plan.now.budget ≤ 1000000000000 }
         ensures over { IfOk result (λ _. AreUnderWay plan.now.image.now plan.now.size.now plan.now.seed plan.now.budget self.new × (self.new.live.items ≡ [])) }
         ensures fault { IfErr result (λ fault. ((fault ≡ TraceFault.TooLong) × IsTooLong plan.now.image.now plan.now.size.now plan.now.seed plan.now.budget)

@@ -1,5 +1,5 @@
 -- What a thread keeps by a turn, and how far it comes by a byte.
-use Rattle.std.proofs.Common.{◌≡◌, refl, ap, ◌∙◌, Result, Ok, Err}
+use Rattle.std.proofs.Common.{◌≡◌, ℕ, ◌+◌, ◌*◌, ◌≤◌, List, length, refl, sym, subst, ap, ◌∙◌, Result, Ok, Err}
 use Rattle.llsc_base.specs.Images.{Program}
 use Rattle.a32_instr.specs.declared.instructions.Instr.{Instr}
 use Rattle.a32_instr.specs.declared.outside.CallAsk.{CallAsk}
@@ -8,6 +8,9 @@ use Rattle.a32_instr.specs.State.{Effect, calls, stops}
 use Rattle.a32_step.specs.Phase.{Phase, Between, Inside, Awaiting, Calling, Stopped}
 use Rattle.a32_step.specs.declared.phases.Wanted.TheVariants as wanted
 use Rattle.a32_step.specs.Machine.{Machine, instr_at, begins, moved_on, after_instr, next_in, after_in, next_effect, after_next, wanted_of}
+use Rattle.guest_calls.specs.Calls.{most_output}
+use Rattle.guest_thread.specs.Progress.{HasKept, IsBounded, progress_of}
+use Rattle.guest_thread.specs.ThreadState.{ThreadState}
 use Rattle.guest_thread.proofs.Effects.{effect_calls, effect_stops}
 
 -- ---- an instruction that calls or stops keeps its replies
@@ -39,3 +42,24 @@ pub stopping_keeps : (program : Program) (machine moved : Machine) (stop : Stop)
 stopping_keeps program machine moved stop wants is =
     ap (λ (m : Machine). m.replies) is
     ∙ by_phase program machine (stops stop) machine.phase (λ instr. refl) (effect_stops (next_effect program machine) stop wants)
+
+-- ---- what is kept from a place that has come just as far is kept
+
+as_far : (here there : ThreadState) → there.cpu.replies ≡ here.cpu.replies → there.steps ≡ here.steps → there.output ≡ here.output
+    → progress_of there ≡ progress_of here
+as_far here there replies steps output =
+    ap (λ (n : ℕ). 17 * n + length there.cpu.replies + length there.output) steps
+    ∙ ap (λ (r : List ℕ). 17 * here.steps + length r + length there.output) replies
+    ∙ ap (λ (o : List ℕ). 17 * here.steps + length here.cpu.replies + length o) output
+
+pub keeps_on : (here there new : ThreadState) → there.cpu.replies ≡ here.cpu.replies → there.steps ≡ here.steps → there.output ≡ here.output
+    → (IsBounded there → HasKept there new) → IsBounded here → HasKept here new
+keeps_on here there new replies steps output keeps bounded =
+    let kept : HasKept there new = keeps record {
+      replies = subst (λ (r : List ℕ). length r ≤ 16) (sym replies) bounded.replies;
+      output = subst (λ (o : List ℕ). length o ≤ most_output) (sym output) bounded.output;
+    } in
+    record {
+      bounded = kept.bounded;
+      later = subst (λ (n : ℕ). n ≤ progress_of new) (as_far here there replies steps output) kept.later;
+    }

@@ -5,7 +5,7 @@ ghost use Rattle.a32_instr.specs.declared.outside.Ask.{Ask};
 ghost use Rattle.a32_step.specs.Machine.{Machine, IsReady, IsCalling};
 ghost use Rattle.guest_calls.specs.Run.{Pair, byte_load, effect_of_call};
 ghost use Rattle.guest_thread.specs.Progress.{HasKept, HasMoved, IsBounded};
-ghost use Rattle.guest_thread.specs.Standing.{HasLeft, IsReadyIn, IsWaitingIn, IsPendingAfter, MayGive};
+ghost use Rattle.guest_thread.specs.ThreadState.{HasLeft, IsReadyIn, IsWaitingIn, IsPendingAfter, MayGive};
 ghost use Rattle.guest_thread.specs.Start.{first_standing, thread_start};
 ghost use Rattle.guest_thread.specs.Turns.{AfterCall, IsAtTurn, IsOneStepOn, after_byte};
 ghost use Rattle.guest_thread.specs.Under.{HasCome, Awaits, ComesTo};
@@ -44,9 +44,9 @@ pub struct Guest {
 
 impl Model for Guest {
     ghost use Rattle.guest_thread.specs.Progress.{HasKept, HasMoved, IsBounded};
-    ghost use Rattle.guest_thread.specs.Standing.{Standing};
+    ghost use Rattle.guest_thread.specs.ThreadState.{ThreadState};
 
-    ghost Value = { Standing };
+    ghost Value = { ThreadState };
 
     ghost view = { λ g. record { cpu = g.cpu; steps = g.steps; output = g.output; printing = g.printing } };
 }
@@ -108,9 +108,11 @@ impl Guest {
     /// Goes on until the thread asks for an access or has ended: by a stop, by the exit call, or since it has made
     /// `budget` steps. The budget is at most 1,000,000,000,000 steps.
     ///
-    /// No reply is awaited, and the image is that of the start. A thread that has ended isn't asked again.
+    /// No reply is awaited, and the image is that of the start, of at most 16,777,216 bytes. A thread that has ended
+    /// isn't asked again.
     pub fn next(&mut self, image: &Image, budget: u64) -> Turn
         requires ready { IsReadyIn (length image.now.bytes) budget self.old }
+        requires small { length image.now.bytes ≤ 16777216 }
         requires budget { budget ≤ 1000000000000 }
         ensures comes { (start : Machine) (pairs : List Pair) → HasCome image.now budget start pairs self.old
             → ComesTo image.now budget start pairs result self.new }
@@ -119,7 +121,7 @@ impl Guest {
         ensures kept { IsBounded self.old → HasKept self.old self.new }
     {
         if let Some(printing) = self.printing {
-            return Turn::Asks(byte_ask(image, printing));
+            return Turn::Asks(byte_ask(printing));
         }
         while self.steps < budget {
             if let Some(turn) = self.turn(image) {
@@ -135,6 +137,7 @@ impl Guest {
     fn turn(&mut self, image: &Image) -> Option<Turn>
         requires at_turn { IsAtTurn self.old }
         requires few { self.old.steps < 1000000000000 }
+        requires small { length image.now.bytes ≤ 16777216 }
         ensures goes_on { IfNone result (IsOneStepOn self.old self.new) }
         ensures comes { (budget : ℕ) (start : Machine) (pairs : List Pair) → HasCome image.now budget start pairs self.old → self.old.steps < budget
             → MatchOption result (HasCome image.now budget start pairs self.new) (λ turn. ComesTo image.now budget start pairs turn self.new) }
@@ -157,6 +160,7 @@ impl Guest {
     fn call(&mut self, image: &Image, call: CallAsk) -> Option<Turn>
         requires calling { IsCalling self.old.cpu.phase }
         requires few { self.old.steps < 1000000000000 }
+        requires small { length image.now.bytes ≤ 16777216 }
         ensures made { AfterCall (length image.now.bytes) (effect_of_call image.now call (length self.old.output)) self.old result self.new }
         ensures at_most { self.new.steps ≤ self.old.steps + 1 }
         ensures kept { IsBounded self.old → HasKept self.old self.new }
@@ -178,7 +182,7 @@ impl Guest {
                     loaded: 0,
                 };
                 self.printing = Some(printing);
-                Some(Turn::Asks(byte_ask(image, printing)))
+                Some(Turn::Asks(byte_ask(printing)))
             }
         }
     }
@@ -220,13 +224,11 @@ impl Guest {
     }
 }
 
-/// The load of the next byte of a write, whose bytes lie in the image's memory.
-fn byte_ask(image: &Image, printing: Printing) -> Ask
-    requires inside { printing.from + printing.loaded < length image.now.bytes }
+/// The load of the next byte of a write.
+fn byte_ask(printing: Printing) -> Ask
+    requires inside { printing.from + printing.loaded < 2 ^ 32 }
     ensures { result ≡ byte_load (printing.from + printing.loaded) }
 {
-    // memory is small enough that no address in it wraps
-    let _ = image.bytes();
     Ask::Load(Place {
         addr: printing.from + printing.loaded,
         size: Size::B1,

@@ -29,11 +29,11 @@ kept_part false spans from to low high above below apart = refl
 
 -- nothing stands against a word that lies in a block that passes
 word_passes : (program : Program) (store : Bool) (addr end : ℕ)
-    → addr % 4 ≡ 0 → addr + 4 ≤ end → end ≤ length program.bytes → length program.bytes ≤ 16777216
+    → addr % 4 ≡ 0 → addr + 4 ≤ end → end ≤ length program.bytes → end ≤ 2 ^ 32
     → (store && touches_read_only program.spans addr end) ≡ false
     → bar_of program (word_place addr) store ≡ None
-word_passes program store addr end aligned within inside sized apart =
-    let here : addr % 2 ^ 32 ≡ addr = omega (arith, within, inside, sized) in
+word_passes program store addr end aligned within inside below apart =
+    let here : addr % 2 ^ 32 ≡ addr = omega (arith, within, below) in
     let straight : is_aligned (word_place addr) ≡ true = rw here (eq-eqb _ _ aligned) in
     let ends : addr % 2 ^ 32 + 4 ≤ length program.bytes = rw here (omega (arith, within, inside)) in
     let kept : (store && touches_read_only program.spans (addr % 2 ^ 32) (addr % 2 ^ 32 + 4)) ≡ false =
@@ -42,17 +42,17 @@ word_passes program store addr end aligned within inside sized apart =
 
 -- no word is barred of a block that is aligned, lies in memory and touches no span that isn't written
 pub block_passes : (program : Program) (store : Bool) (addr count : ℕ)
-    → addr % 4 ≡ 0 → addr + 4 * count ≤ length program.bytes → length program.bytes ≤ 16777216
+    → addr % 4 ≡ 0 → addr + 4 * count ≤ length program.bytes → addr + 4 * count ≤ 2 ^ 32
     → (store && touches_read_only program.spans addr (addr + 4 * count)) ≡ false
     → first_barred program store addr count ≡ None
 unfolding first_barred
-block_passes program store addr zero aligned inside sized apart = refl
-block_passes program store addr (suc count) aligned inside sized apart =
+block_passes program store addr zero aligned inside below apart = refl
+block_passes program store addr (suc count) aligned inside below apart =
     let end : addr + 4 * suc count ≡ addr + 4 + 4 * count = omega arith in
     let next : (addr + 4) % 4 ≡ 0 = omega (arith, aligned) in
     let rest : first_barred program store (addr + 4) count ≡ None =
-    block_passes program store (addr + 4) count next (rw end at inside) sized
+    block_passes program store (addr + 4) count next (rw end at inside) (rw end at below)
     (kept_part store program.spans addr (addr + 4 * suc count) (addr + 4) (addr + 4 + 4 * count) (omega arith) (omega arith) apart) in
     let word : bar_of program (word_place addr) store ≡ None =
-    word_passes program store addr (addr + 4 * suc count) aligned (omega arith) inside sized apart in
+    word_passes program store addr (addr + 4 * suc count) aligned (omega arith) inside below apart in
     ap (λ bar. or_later (addr % 2 ^ 32) bar (first_barred program store (addr + 4) count)) word ∙ rest

@@ -89,14 +89,13 @@ pub runs_at-none : (spans : List Span) (addr : ℕ)
     → None ≡ position (λ span. holds_word span addr) spans → runs_at spans addr ≡ false
 runs_at-none spans addr e = found (λ span. holds_word span addr) spans ∙ cond-none _ _ e
 
--- one span that isn't written, round memory that is not too large
-pub IsProgram-one : (bytes : List ℕ) (span : Span) (entry : ℕ) → entry % 4 ≡ 0 → length bytes ≤ 16777216
+-- one span that isn't written
+pub IsProgram-one : (bytes : List ℕ) (span : Span) (entry : ℕ) → entry % 4 ≡ 0
     → span.start < span.end → span.end ≤ length bytes → span.write ≡ false → IsProgram (program_of bytes (span ∷ []) entry)
-IsProgram-one bytes span entry aligned sized filled inside kept =
+IsProgram-one bytes span entry aligned filled inside kept =
     let whole : IsSpan (length bytes) span = record { filled = filled; inside = inside; apart = λ _. kept } in
     record {
       aligned = aligned;
-      sized = sized;
       spans = λ k d h. let first : k ≡ 0 = omega arith in rw first whole;
       apart = λ i j d low high. absurd (omega arith);
     }

@@ -77,10 +77,8 @@ pub record IsSpan (count : ℕ) (span : Span) : Type 0 where
 abbrev pub AreApart : Span → Span → Type 0
 AreApart one other = max one.start other.start < min one.end other.end → ⊥
 
--- what holds of every program: its entry is a word's address, its memory is no larger than the greatest machine's,
--- each span is sound, and no two share an address
+-- what holds of every program: its entry is a word's address, each span is sound, and no two share an address
 pub record IsProgram (program : Program) : Type 0 where
   pub aligned : program.entry % 4 ≡ 0
-  pub sized : length program.bytes ≤ 16777216
   pub spans : All (IsSpan (length program.bytes)) program.spans
   pub apart : AllPairs AreApart program.spans

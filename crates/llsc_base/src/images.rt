@@ -39,7 +39,7 @@ impl Image {
     /// of the first instruction.
     ///
     /// The spans are disjoint and not empty, each lies within the bytes, none both runs and is written, and
-    /// the entry is a multiple of 4. Memory is at most that of the greatest machine, 16,777,216 bytes.
+    /// the entry is a multiple of 4.
     pub fn of(bytes: Vec<u8>, spans: Vec<Span>, entry: u32) -> Image
         requires { IsProgram (program_of bytes.items spans.items entry) }
         ensures { result ≡ program_of bytes.items spans.items entry }
@@ -59,17 +59,16 @@ impl Image {
         self.entry
     }
 
-    /// All of memory as it stands at the start: at most 16,777,216 bytes.
+    /// All of memory as it stands at the start.
     #[inline]
     pub fn bytes(&self) -> &[u8]
         ensures items { result.now ≡ self.now.bytes }
-        ensures most { length result.now ≤ 16777216 }
         ensures sound { IsProgram self.now }
     {
         &self.bytes
     }
 
-    /// The byte at an address of memory, as it stands at the start.
+    /// The byte at an address of memory, which is below its length, as it stands at the start.
     #[inline]
     pub fn byte(&self, addr: u32) -> u8
         requires { addr < length self.now.bytes }
@@ -109,7 +108,9 @@ impl Image {
     }
 
     /// What stands against an access of a place, a store or a load: the first of [`Bar`]'s variants that
-    /// does, or `None`.
+    /// does. `Alignment` where the address is no multiple of the size, `Outside` where the place ends past
+    /// memory, `ReadOnly` where `store` is set and a byte of it lies in a span that isn't written. `None`
+    /// where nothing stands against it.
     #[inline]
     pub fn test(&self, place: Place, store: bool) -> Option<Bar>
         ensures { result ≡ bar_of self.now place store }
@@ -142,8 +143,8 @@ impl Image {
         self.first_barred(addr, count, store)
     }
 
-    // Whether it is plain at once that no word is barred: the block is aligned, ends within memory, and,
-    // if it is stored, touches as one piece no span that isn't written.
+    // Whether it is plain at once that no word is barred: the block is aligned, ends within memory and
+    // below 2 to the 32, and, if it is stored, touches as one piece no span that isn't written.
     #[inline]
     #[tactic(auto, using(crate::proofs::Blocks::block_passes))]
     fn all_pass(&self, addr: u32, count: u32, store: bool) -> bool
@@ -153,11 +154,13 @@ impl Image {
         if addr % 4 != 0 {
             return false;
         }
-        let end = addr as usize + 4 * count as usize;
-        if end > self.bytes.len() {
+        let Some(end) = addr.checked_add(4 * count) else {
+            return false;
+        };
+        if end as usize > self.bytes.len() {
             return false;
         }
-        !(store && touches_read_only(&self.spans, addr as usize, end))
+        !(store && touches_read_only(&self.spans, addr as usize, end as usize))
     }
 
     // The first word that is barred, by the words one after another.

@@ -4,7 +4,8 @@ ghost use Rattle.llsc_base.specs.Memory.{number_of, size_bytes, stored, value_at
 
 use crate::access::{Place, Size};
 
-/// The number at a place of memory, its least significant byte first.
+/// The number at a place of memory, its least significant byte first: below 2 to the 8, 16, 32 or 64 by the
+/// place's size. The place lies in the slice, and needn't be aligned.
 #[inline]
 #[tactic(auto, using(crate::proofs::Bytes::byte_rules))]
 pub fn load(memory: &[u8], place: Place) -> u64
@@ -21,7 +22,8 @@ pub fn load(memory: &[u8], place: Place) -> u64
     }
 }
 
-/// Sets the bytes of a place of memory to a number, its least significant byte first.
+/// Sets the bytes of a place of memory to a number, its least significant byte first. The place lies in the
+/// slice, and needn't be aligned; the number is below 2 to the 8, 16, 32 or 64 by the place's size.
 #[inline]
 #[tactic(auto, using(crate::proofs::Bytes::byte_rules))]
 pub fn store(memory: &mut [u8], place: Place, value: u64)

@@ -109,7 +109,7 @@ impl MachineSize {
         self.threads
     }
 
-    /// The classes of rows: a power of two from 1 to 4096.
+    /// The classes that rows fall into: a power of two from 1 to 4096.
     pub fn classes(&self) -> u32
         ensures number { result ≡ self.now.classes }
         ensures power { IsTrue (is_power_of_two result) }
@@ -118,7 +118,7 @@ impl MachineSize {
         self.classes
     }
 
-    /// The writes of a class: 1 to 4,611,686,018,427,387,904 (2 to the 62).
+    /// How many writes a class of rows takes: 1 to 4,611,686,018,427,387,904 (2 to the 62).
     pub fn limit(&self) -> u64
         ensures number { result ≡ self.now.limit }
         ensures least { 1 ≤ result }
@@ -127,7 +127,8 @@ impl MachineSize {
         self.limit
     }
 
-    /// The bytes below the stacks, which are the last 4096 bytes of memory for each thread.
+    /// The bytes below the stacks, which are the last 4096 bytes of memory for each thread: a multiple of 4096 from 0
+    /// to 16,773,120. No program fits a machine whose room is 0.
     pub fn room(&self) -> u32
         ensures number { result ≡ room_of self.now }
         ensures whole { result + 4096 * self.now.threads ≡ self.now.mem }

@@ -3,7 +3,7 @@ ghost use Rattle.std.specs.Prelude.{◌≡◌, ◌≤◌, ◌<◌, ◌∷◌, �
 ghost use Rattle.std.specs.Bool.{OnFalse, OnTrue};
 ghost use Rattle.llsc_base.specs.Sizes.{Numbers};
 ghost use Rattle.history.specs.Monitor.{IsAsLarge};
-ghost use Rattle.guest_thread.specs.Standing.{IsReadyIn};
+ghost use Rattle.guest_thread.specs.ThreadState.{IsReadyIn};
 ghost use Rattle.run_record.specs.Limits.{IsAccess};
 ghost use Rattle.guest_machine.specs.Turns.{monitor_of};
 ghost use Rattle.run_checker.specs.Verdict.{IsRight, IsWrong};
@@ -85,6 +85,7 @@ fn make(
     access: Access,
 ) -> Option<Reason>
     requires ready { IsReadyIn (length image.now.bytes) budget guest.old }
+    requires small { length image.now.bytes ≤ 16777216 }
     requires budget { budget ≤ 1000000000000 }
     requires bytes { length memory.old.memory ≡ length image.now.bytes }
     requires access { IsAccess (length memory.old.marks) access }

@@ -48,6 +48,9 @@ fn ended(
 ) -> Result<(Stop, u64, Output), Fail>
     requires { budget ≤ 1000000000000 }
 {
+    if image.bytes().len() > 16_777_216 {
+        return Err(Fail::from("no machine has so much memory"));
+    }
     let cpu = Cpu::start(image.entry(), 0, 1, 0x4000);
     let mut guest = Guest::new(cpu, output);
     for (ask, reply) in accesses {

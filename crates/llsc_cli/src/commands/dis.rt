@@ -5,7 +5,7 @@ ghost use Rattle.llsc_cli.specs.Host.{Adds, AddsFront, Rose};
 ghost use Rattle.llsc_cli.specs.Refusals.{size_refusal, solo_size};
 ghost use Rattle.llsc_cli.specs.Disassembly.{disassembly, head_text, line_at, word_line, Holds};
 ghost use Rattle.llsc_cli.specs.Answer.{AnswersDis};
-ghost use Rattle.llsc_cli.specs.Reads.{Ends, Gives};
+ghost use Rattle.llsc_cli.specs.Reads.{CallEnds, Gives};
 
 use crate::ended::{Ended, out_of_memory};
 use crate::files::load;
@@ -116,9 +116,15 @@ fn add_at<H: Host>(
     }
 }
 
-/// Writes the lines of all of memory, a page at a time.
-fn write_lines<H: Host>(host: &mut H, page: &mut Page, image: &Image) -> Result<(), Failed>
-    requires { page.old ≡ [] }
+/// Writes the lines of all of an image, which has `mem` bytes, a page at a time.
+fn write_lines<H: Host>(
+    host: &mut H,
+    page: &mut Page,
+    image: &Image,
+    mem: u32,
+) -> Result<(), Failed>
+    requires empty { page.old ≡ [] }
+    requires whole { length image.now.bytes ≡ mem }
     ensures whole { OnOk result (Adds (H.written host.old) (H.written host.new) (disassembly image.now)) }
     ensures front { OnErr result (AddsFront (H.written host.old) (H.written host.new) (disassembly image.now)) }
     ensures cause { OnErr result (Rose (H.write_faults host.old) (H.write_faults host.new)) }
@@ -127,7 +133,7 @@ fn write_lines<H: Host>(host: &mut H, page: &mut Page, image: &Image) -> Result<
     ensures read_faults { H.read_faults host.new ≡ H.read_faults host.old }
     ensures lost { H.lost host.new ≡ H.lost host.old }
 {
-    let count = image.bytes().len() as u32 / 4;
+    let count = mem / 4;
     let mut near = 0;
     for i in 0..count {
         add_at(host, page, image, 4 * i, &mut near)?;
@@ -135,8 +141,9 @@ fn write_lines<H: Host>(host: &mut H, page: &mut Page, image: &Image) -> Result<
     host.write(page.bytes())
 }
 
-/// Shows an image.
-fn show<H: Host>(alloc: Global, host: &mut H, image: &Image) -> Ended
+/// Shows an image, which has `mem` bytes.
+fn show<H: Host>(alloc: Global, host: &mut H, image: &Image, mem: u32) -> Ended
+    requires { length image.now.bytes ≡ mem }
     ensures gives { Gives (record { status = 0; text = disassembly image.now }) (H.written host.old) (H.written host.new) result.status }
     ensures write { result.status ≡ 5 → Rose (H.write_faults host.old) (H.write_faults host.new) }
     ensures write_answered { result.status ≢ 5 → H.write_faults host.new ≡ H.write_faults host.old }
@@ -148,7 +155,7 @@ fn show<H: Host>(alloc: Global, host: &mut H, image: &Image) -> Ended
         return out_of_memory();
     };
     let mut page = page;
-    match write_lines(host, &mut page, image) {
+    match write_lines(host, &mut page, image, mem) {
         Ok(()) => Ended { status: 0 },
         Err(_) => Ended { status: 5 },
     }
@@ -156,7 +163,7 @@ fn show<H: Host>(alloc: Global, host: &mut H, image: &Image) -> Ended
 
 /// Disassembles the file of a name in so much memory.
 pub fn answer<H: Host>(alloc: Global, host: &mut H, file: &str, format: Format, mem: u64) -> Ended
-    ensures ends { Ends (AnswersDis format mem) (H.file host.old file.now)
+    ensures ends { CallEnds (AnswersDis format mem) (H.file host.old file.now)
         (Rose (H.read_faults host.old) (H.read_faults host.new) × (H.lost host.new ≡ file.now) × (size_refusal (solo_size mem) ≡ None))
         (H.written host.old) (H.written host.new) result.status }
     ensures write { result.status ≡ 5 → Rose (H.write_faults host.old) (H.write_faults host.new) }
@@ -164,7 +171,7 @@ pub fn answer<H: Host>(alloc: Global, host: &mut H, file: &str, format: Format, 
     ensures read_answered { result.status ≢ 3 → result.status ≢ 5 → H.read_faults host.new ≡ H.read_faults host.old }
 {
     match load(alloc, host, 1, mem, file, format) {
-        Ok(loaded) => show(alloc, host, &loaded.image),
+        Ok(loaded) => show(alloc, host, &loaded.image, loaded.size.mem()),
         Err(ended) => ended,
     }
 }

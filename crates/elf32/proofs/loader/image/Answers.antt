@@ -24,7 +24,7 @@ entry_field-requires c = (loadable _ _ c.requires.sound).header
 pub of-requires : goal.of-requires
 of-requires c =
     rw (c.in_ok-memory.ensures, c.in_ok-spans.ensures, c.entry_field.ensures, c.requires.segments, c.mem.ensures.number)
-    (loadable-program _ _ (loadable _ _ c.requires.sound) (rw c.mem.ensures.number at c.mem.ensures.most))
+    (loadable-program _ _ (loadable _ _ c.requires.sound))
 
 pub returns : goal.returns
 unfolding image_of

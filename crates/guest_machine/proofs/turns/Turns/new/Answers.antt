@@ -4,8 +4,8 @@ use Rattle.history.specs.Monitor.{at_rest}
 use Rattle.guest_machine.proofs.Turning.{at_start}
 use Rattle.guest_machine.proofs.turns.Turns.new.Goals as goal
 
-pub returns : goal.returns
-returns c =
+pub returns-clause-under_way : goal.returns-clause-under_way
+returns-clause-under_way c =
     at_start c.args.plan.now.image.now c.args.plan.now.size.now c.args.plan.now.seed c.args.plan.now.budget _ _ _ _
     (c.in_ok-numbers.ensures ∙ ap (range_with_len 0) c.threads-threads.ensures.number)
     c.in_ok-seats.ensures

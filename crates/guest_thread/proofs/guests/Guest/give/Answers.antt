@@ -1,6 +1,6 @@
 use Rattle.std.proofs.Common.{sym, ap, ◌∙◌}
 use Rattle.a32_step.specs.Machine.{given}
-use Rattle.guest_thread.specs.Standing.{Standing}
+use Rattle.guest_thread.specs.ThreadState.{ThreadState}
 use Rattle.guest_thread.proofs.Reached.{after_reply}
 use Rattle.guest_thread.proofs.Printed.{after_byte_reply}
 use Rattle.guest_thread.proofs.guests.Guest.give.Goals as goal
@@ -10,11 +10,11 @@ returns-in-None-clause-comes c = λ program budget start pairs ask awaits.
     let seen = c.self.view_is in
     after_reply program budget start pairs ask c.args.reply c.args.self.now
     (record { cpu = c.give.new.self; steps = c.self.inside.steps; output = c.self.inside.output; printing = c.self.inside.printing })
-    awaits (sym (ap (λ (s : Standing). s.printing) seen) ∙ c.in-None.is) c.in-None.is
-    (c.give.ensures.state ∙ ap (λ (s : Standing). given s.cpu c.args.reply) seen)
-    (ap (λ (s : Standing). s.steps) seen) (ap (λ (s : Standing). s.output) seen)
+    awaits (sym (ap (λ (s : ThreadState). s.printing) seen) ∙ c.in-None.is) c.in-None.is
+    (c.give.ensures.state ∙ ap (λ (s : ThreadState). given s.cpu c.args.reply) seen)
+    (ap (λ (s : ThreadState). s.steps) seen) (ap (λ (s : ThreadState). s.output) seen)
 
 pub returns-in-Some-clause-comes : goal.returns-in-Some-clause-comes
 returns-in-Some-clause-comes c = λ program budget start pairs ask awaits.
     after_byte_reply program budget start pairs ask c.args.reply c.args.self.now c.print.new.self c.in-Some.printing awaits
-    (sym (ap (λ (s : Standing). s.printing) c.self.view_is) ∙ c.in-Some.is) c.print.ensures.byte
+    (sym (ap (λ (s : ThreadState). s.printing) c.self.view_is) ∙ c.in-Some.is) c.print.ensures.byte

@@ -1,6 +1,6 @@
 use Rattle.std.proofs.Common.{sym, ap, ◌∙◌, subst, rules}
 use Rattle.guest_thread.specs.declared.guests.Turn.TheVariants as turn
-use Rattle.guest_thread.specs.Standing.{Standing}
+use Rattle.guest_thread.specs.ThreadState.{ThreadState}
 use Rattle.guest_thread.specs.Under.{ComesTo}
 use Rattle.guest_thread.proofs.Reached.{at_budget}
 use Rattle.guest_thread.proofs.Printed.{asking_byte}
@@ -9,7 +9,7 @@ use Rattle.guest_thread.proofs.guests.Guest.next.Goals as goal
 pub returns-in-Some-clause-comes : goal.returns-in-Some-clause-comes
 returns-in-Some-clause-comes c = λ start pairs come.
     subst (λ ask. ComesTo c.args.image.now c.args.budget start pairs (turn.Asks ask) c.args.self.now) (sym c.byte_ask.ensures)
-    (asking_byte c.args.image.now c.args.budget start pairs c.args.self.now c.in-Some.printing come (sym (ap (λ (s : Standing). s.printing) c.self.view_is) ∙ c.in-Some.is))
+    (asking_byte c.args.image.now c.args.budget start pairs c.args.self.now c.in-Some.printing come (sym (ap (λ (s : ThreadState). s.printing) c.self.view_is) ∙ c.in-Some.is))
 
 pub returns-in-Some-turn-clause-comes : goal.returns-in-Some-turn-clause-comes
 returns-in-Some-turn-clause-comes c = λ start pairs come.

@@ -1,5 +1,5 @@
 use Rattle.std.proofs.Common.{length}
-use Rattle.guest_thread.specs.Standing.{IsReadyIn}
+use Rattle.guest_thread.specs.ThreadState.{IsReadyIn}
 use Rattle.guest_thread.proofs.guests.tests.ended.Given as goal
 
 abbrev pub invariant-loop-ask : goal.invariant-loop-ask

@@ -9,4 +9,4 @@ of-requires c =
     let free = flat_fault-none c.args.bytes.now c.args.size.now c.in_default.ensures in
     let whole : length c.in-Ok.memory.items ≡ c.mem.result = ap length c.in-Ok.ensures ∙ length-values_below _ _ in
     rw c.in-Ok-vec.ensures.items
-    (IsProgram-one _ _ _ refl (omega arith) (omega arith) (omega arith) refl)
+    (IsProgram-one _ _ _ refl (omega arith) (omega arith) refl)

@@ -1,6 +1,6 @@
-use Rattle.std.proofs.Common.{◌≡◌, ◌≤◌, ◌/◌, ◌*◌, length, sym, ◌∙◌, ap, subst, arith, rules}
+use Rattle.std.proofs.Common.{◌≤◌, ◌/◌, ◌*◌, length, sym, ◌∙◌, subst, arith}
 use Rattle.llsc_cli.specs.Host.{AddsFront}
-use Rattle.llsc_cli.specs.Disassembly.{disassembly, line_at, lines_of, Holds}
+use Rattle.llsc_cli.specs.Disassembly.{line_at, lines_of, Holds}
 use Rattle.llsc_cli.proofs.Fronts.{owed, owed_more}
 use Rattle.llsc_cli.proofs.Paging.{holds_more, holds_front, lines_more, lines_front}
 use Rattle.llsc_cli.proofs.commands.dis.write_lines.Goals as goal
@@ -22,8 +22,7 @@ loop-i-preserved g c =
 pub returns-in_err-add_at-clause-front : goal.returns-in_err-add_at-clause-front
 returns-in_err-add_at-clause-front g c =
     let image = c.args.image.now in
-    let many : length c.bytes.result.now ≡ length c.args.image.now.bytes = ap length c.bytes.ensures.items in
-    let less : c.loop-i.i ≤ length c.args.image.now.bytes / 4 = omega (arith, many, c.loop-i-test.true) in
+    let less : c.loop-i.i ≤ length c.args.image.now.bytes / 4 = omega (arith, c.requires.whole, c.loop-i-test.true) in
     owed c.from_residual.result
     (lines_front image c.loop-i.i (length image.bytes / 4) (g.H.Host.written c.args.host.now) (g.H.Host.written c.add_at.new.host) less
     (holds_front (g.H.Host.written c.args.host.now) (g.H.Host.written c.loop-i.host) (g.H.Host.written c.add_at.new.host) c.loop-i.page (lines_of image c.loop-i.i)
@@ -32,11 +31,10 @@ returns-in_err-add_at-clause-front g c =
 pub returns-clause-front : goal.returns-clause-front
 returns-clause-front g c =
     let image = c.args.image.now in
-    let many : length c.bytes.result.now ≡ length c.args.image.now.bytes = ap length c.bytes.ensures.items in
-    let less : c.loop-i.i ≤ length c.args.image.now.bytes / 4 = omega (arith, many, c.loop-i.auto.i-end) in
+    let less : c.loop-i.i ≤ length c.args.image.now.bytes / 4 = omega (arith, c.requires.whole, c.loop-i.auto.i-end) in
     owed_more c.write.result
-    (λ (front : AddsFront (g.H.Host.written c.loop-i.host) (g.H.Host.written c.write.new.self) c.bytes-2.result.now).
+    (λ (front : AddsFront (g.H.Host.written c.loop-i.host) (g.H.Host.written c.write.new.self) c.bytes.result.now).
     lines_front image c.loop-i.i (length image.bytes / 4) (g.H.Host.written c.args.host.now) (g.H.Host.written c.write.new.self) less
     (holds_front (g.H.Host.written c.args.host.now) (g.H.Host.written c.loop-i.host) (g.H.Host.written c.write.new.self) c.loop-i.page (lines_of image c.loop-i.i)
-    c.loop-i.invariant.held (rw (← c.bytes-2.ensures.text) front)))
+    c.loop-i.invariant.held (rw (← c.bytes.ensures.text) front)))
     c.write.ensures.front

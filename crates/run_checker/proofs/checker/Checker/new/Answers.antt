@@ -1,8 +1,8 @@
-use Rattle.std.proofs.Common.{◌≡◌, ℕ, ◌+◌, None, [], ◌∷◌, ◌++◌, All, length, sym, ap, subst, ◌∙◌, length-append, arith}
+use Rattle.std.proofs.Common.{◌≡◌, ℕ, ◌+◌, None, [], ◌∷◌, ◌++◌, All, length, sym, ap, subst, ◌∙◌, length-append, arith, rules}
 use Rattle.std.proofs.lemmas.List.{length-replicate}
 use Rattle.std.proofs.lemmas.List.Elements.{All-push}
 use Rattle.history.specs.Monitor.{at_rest}
-use Rattle.guest_thread.specs.Standing.{Standing, IsReadyIn}
+use Rattle.guest_thread.specs.ThreadState.{ThreadState, IsReadyIn}
 use Rattle.guest_thread.specs.Start.{thread_start}
 use Rattle.guest_thread.specs.Under.{HasCome}
 use Rattle.run_checker.proofs.EachThread.{EachAt, at_push}
@@ -20,7 +20,7 @@ loop-t-preserved c =
       ready = λ mem budget.
           subst (All (IsReadyIn mem budget)) (sym is) (All-push (IsReadyIn mem budget) guests guest (was.ready mem budget) (c.in_ok-start.ensures.ready mem budget));
       start = λ budget.
-          let P : ℕ → Standing → Type 0 = λ t guest. HasCome c.args.image.now budget (thread_start c.args.image.now c.args.size.now t) [] guest in
+          let P : ℕ → ThreadState → Type 0 = λ t guest. HasCome c.args.image.now budget (thread_start c.args.image.now c.args.size.now t) [] guest in
           subst (EachAt P) (sym is)
           (at_push P guests guest (was.start budget)
           (subst (λ t. P t guest) (sym was.count) (c.in_ok-start.ensures.comes budget)));
@@ -32,6 +32,7 @@ returns-clause-ready c budget =
     let count = c.loop-t.invariant.count in
     let all : c.threads-threads.result ≡ length c.loop-t.guests.items = omega (arith, count) in
     record {
+      small = search rules;
       ready = c.loop-t.invariant.ready (length c.args.image.now.bytes) budget;
       bytes = ap (λ m. length m.memory) memory ∙ ap length c.bytes.ensures.items;
       marks = ap (λ m. length m.marks) memory ∙ length-replicate c.threads-threads.result None ∙ all;

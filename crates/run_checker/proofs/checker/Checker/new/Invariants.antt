@@ -1,5 +1,5 @@
 use Rattle.std.proofs.Common.{◌≡◌, ℕ, [], All, length}
-use Rattle.guest_thread.specs.Standing.{IsReadyIn}
+use Rattle.guest_thread.specs.ThreadState.{IsReadyIn}
 use Rattle.guest_thread.specs.Start.{thread_start}
 use Rattle.guest_thread.specs.Under.{HasCome}
 use Rattle.run_checker.proofs.EachThread.{EachAt}
