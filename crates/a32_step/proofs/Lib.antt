@@ -5,5 +5,6 @@ pub mod Tested
 pub mod Words
 pub mod Lists
 pub mod Blocks
+pub mod Passed
 pub mod Remembered
-pub mod Standings
+pub mod ExecutionStates

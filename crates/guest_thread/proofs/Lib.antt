@@ -6,3 +6,4 @@ pub mod Reached
 pub mod Tested
 pub mod Kept
 pub mod Pushed
+pub mod Placed

@@ -3,11 +3,13 @@
 //! A [`Guest`] begins by [`Guest::start`] and goes on by [`Guest::next`] until it asks for an access or has ended; the
 //! caller replies by [`Guest::give`]. Instructions, guest calls and the loads of a write's bytes are all within it; what it
 //! asks, and how it ends, is the run of the thread (`guest_calls`, `specs/Run`); every reply takes it further, so that it
-//! comes to an end within its budget (`specs/Progress`). A [`GuestEnd`] is how a thread ended.
+//! comes to an end within its budget (`specs/Progress`). A [`GuestEnd`] is how a thread ended. [`laws`] has that no thread
+//! ends by itself for what only memory can want.
 #![tactic(auto)]
 
 mod ends;
 mod guests;
+pub mod laws;
 mod replies;
 
 pub use ends::GuestEnd;

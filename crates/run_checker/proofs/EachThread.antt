@@ -7,7 +7,7 @@ use Rattle.llsc_base.specs.Images.{Program}
 use Rattle.llsc_base.specs.Sizes.{Numbers}
 use Rattle.history.specs.Monitor.{Monitor}
 use Rattle.history.specs.declared.entry.Access.{Access}
-use Rattle.guest_thread.specs.Standing.{Standing}
+use Rattle.guest_thread.specs.ThreadState.{ThreadState}
 use Rattle.guest_thread.specs.Start.{thread_start}
 use Rattle.guest_thread.specs.Under.{HasCome}
 use Rattle.run_checker.specs.Positions.{AreBrought, BringsOn, IsBrought}
@@ -42,14 +42,14 @@ at_set P Q xs i y each others own k d less =
     ]
 
 -- a thread that was taken out of the others
-pub taken : (program : Program) (size : Numbers) (budget : ℕ) (early : List Access) (checker : Checker) (t : ℕ) (guest : Standing)
+pub taken : (program : Program) (size : Numbers) (budget : ℕ) (early : List Access) (checker : Checker) (t : ℕ) (guest : ThreadState)
     → AreBrought program size budget early checker → t < length checker.guests.items → guest ≡ get_or checker.guests.items t guest
     → IsBrought program size budget early t guest
 taken program size budget early checker t guest brought known is =
     subst (IsBrought program size budget early t) (sym is) (brought.guests t guest known)
 
 -- an access that brings its thread and memory on brings all of them on
-pub all_brought : (program : Program) (size : Numbers) (budget : ℕ) (early : List Access) (access : Access) (checker : Checker) (guest : Standing) (memory : Monitor)
+pub all_brought : (program : Program) (size : Numbers) (budget : ℕ) (early : List Access) (access : Access) (checker : Checker) (guest : ThreadState) (memory : Monitor)
     → AreBrought program size budget early checker → BringsOn program size budget early access guest memory
     → AreBrought program size budget (early ++ access ∷ []) (record { guests = with_item checker.guests access.thread guest; memory = memory })
 all_brought program size budget early access checker guest memory brought step = record {

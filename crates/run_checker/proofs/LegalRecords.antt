@@ -21,7 +21,7 @@ use Rattle.guest_machine.specs.Turns.{monitor_of}
 use Rattle.run_checker.specs.Verdict.{is_load, HasStopped, IsRight, AreRight, Judges, good}
 use Rattle.run_checker.specs.declared.verdicts.Verdict.TheVariants as verdict
 use Rattle.run_checker.proofs.AskedPairs.{asked_inside}
-use Rattle.run_checker.proofs.Placed.{asks_placed}
+use Rattle.guest_thread.proofs.Placed.{asks_placed}
 use Rattle.guest_machine.proofs.Pushed.{monitor_push}
 
 -- a mark on a row is that row

@@ -1,8 +1,6 @@
 pub mod Splits
 pub mod Right
 pub mod AskedPairs
-pub mod Passed
-pub mod Placed
 pub mod LegalRecords
 pub mod Makes
 pub mod EachThread

@@ -9,7 +9,7 @@ use Rattle.a32_step.specs.Machine.{Machine}
 use Rattle.guest_calls.specs.Run.{Pair}
 use Rattle.guest_calls.specs.Pairs.{pair_of}
 use Rattle.guest_thread.specs.Accesses.{entry_of, pairs_in}
-use Rattle.guest_thread.specs.Standing.{Standing}
+use Rattle.guest_thread.specs.ThreadState.{ThreadState}
 use Rattle.guest_thread.specs.Start.{thread_start}
 use Rattle.guest_thread.specs.Under.{HasCome, Awaits}
 use Rattle.guest_machine.specs.Turns.{monitor_of}
@@ -20,7 +20,7 @@ use Rattle.run_checker.proofs.AskedPairs.{asked_pair}
 use Rattle.guest_thread.proofs.Pushed.{own_push}
 use Rattle.guest_machine.proofs.Pushed.{monitor_push}
 
-pub brings_on : (program : Program) (size : Numbers) (budget : ℕ) (early : List Access) (access : Access) (asked : Ask) (reply : ℕ) (waits goes : Standing) (memory after : Monitor)
+pub brings_on : (program : Program) (size : Numbers) (budget : ℕ) (early : List Access) (access : Access) (asked : Ask) (reply : ℕ) (waits goes : ThreadState) (memory after : Monitor)
     → AsksNext program size budget early access.thread asked
     → Awaits program budget (thread_start program size access.thread) (pairs_in access.thread early) asked waits
     → is_asked asked access ≡ true

@@ -1,12 +1,10 @@
 //! Laws of verdicts, each a function of no effect whose contract is the law.
-ghost use Rattle.std.specs.Prelude.{◌≡◌, ◌≢◌, ◌<◌, ℕ, List};
+ghost use Rattle.std.specs.Prelude.{◌≡◌, ◌<◌, ℕ, List};
 ghost use Rattle.llsc_base.specs.Images.{Program};
 ghost use Rattle.llsc_base.specs.Sizes.{Numbers};
 ghost use Rattle.history.specs.ArmLegal.{IsArmLegal};
 ghost use Rattle.history.specs.Monitor.{at_rest};
 ghost use Rattle.history.specs.declared.entry.Access.{Access};
-ghost use Rattle.a32_instr.specs.declared.outside.Stop.{Stop};
-ghost use Rattle.guest_calls.specs.Run.{Pair, Ends};
 ghost use Rattle.guest_machine.specs.Alone.{IsSoloEnd};
 ghost use Rattle.guest_machine.specs.Traces.{IsTraceRecord};
 ghost use Rattle.guest_machine.specs.Turns.{IsTrace};
@@ -19,7 +17,6 @@ ghost use Rattle.run_record.specs.declared.records.RunRecord.{RunRecord};
 ghost use Rattle.run_checker.specs.Verdict.{HasStopped, Judges};
 
 use crate::verdicts::Verdict;
-use a32_step::Stop;
 
 /// Accesses have one verdict at most: good, or bad at one index for one reason.
 #[tactic(auto, using(crate::proofs::Right::one_verdict))]
@@ -50,10 +47,4 @@ pub fn one_threads_trace_ends_as_alone()
         size.threads ≡ 1 → IsTraceRecord program size seed run.budget run → end.thread ≡ 0 →
         IsEndIn program run.budget (thread_start program size 0) (history_of run.accesses) end →
         IsSoloEnd program size run.budget end }
-{}
-
-/// No run of a thread ends since a class of rows has no write left: that is for memory to answer.
-pub fn threads_need_no_tag()
-    ensures { (program : Program) (size : Numbers) (budget t : ℕ) (pairs : List Pair) (stop : Stop) (steps : ℕ) (output : List ℕ) (addr : ℕ) →
-        Ends program budget (thread_start program size t) pairs stop steps output → stop ≢ Stop.TagLimit addr }
 {}

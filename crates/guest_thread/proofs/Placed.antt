@@ -16,8 +16,8 @@ use Rattle.a32_step.specs.declared.phases.Wanted.TheVariants as wanted
 use Rattle.a32_step.proofs.Follows.{next_follows}
 use Rattle.guest_calls.specs.Calls.{CallEffect, exits, answers, writes_bytes, call_effect, write_effect, no_call, bad_descriptor, bad_address, no_room, most_output}
 use Rattle.guest_calls.specs.Run.{Pair, Reaches, begins, accesses, steps_on, returns, prints, Ends, halts, leaves, spends, Asks, asks_access, asks_byte}
-use Rattle.guest_thread.specs.Standing.{IsPlaced}
-use Rattle.run_checker.proofs.Passed.{GoesOn, IsOwn, next_own, next_passes}
+use Rattle.guest_thread.specs.ThreadState.{IsPlaced}
+use Rattle.a32_step.proofs.Passed.{GoesOn, IsOwn, next_own, next_passes}
 
 -- ---- a place that nothing bars
 

@@ -22,7 +22,8 @@ use Rattle.a32_instr.specs.declared.instructions.HalfKind.TheVariants.{Strh, Ldr
 use Rattle.a32_instr.specs.declared.arithmetic.Computed.{Computed}
 use Rattle.a32_instr.specs.State.{State, Effect, asks, calls, completes, stops, low32, register, advanced, jumps, writes}
 use Rattle.a32_instr.specs.Condition.{passes}
-use Rattle.a32_instr.specs.Table.{is_compare, table, meaning}
+use Rattle.a32_instr.specs.Fields.{is_compare}
+use Rattle.a32_instr.specs.Table.{table, meaning}
 use Rattle.a32_instr.specs.Shift.{top_bit, rotated_right}
 use Rattle.a32_instr.specs.DataProcessing.{operand_of, computed, with_flags, alu_done}
 use Rattle.a32_instr.specs.Multiply.{multiplied, product_flags, less_product}
