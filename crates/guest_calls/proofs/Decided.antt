@@ -1,5 +1,5 @@
--- Runs whose replies are decided by what came before them: such a run has one end at most.
-use Rattle.std.proofs.Common.{◌≡◌, ℕ, zero, suc, ◌+◌, ◌<◌, ◌≤◌, nat_lt, if◌then◌else◌, Option, Some, None, List, [], ◌∷◌, ◌++◌, length, refl, sym, ap, subst, ◌∙◌, append_assoc, arith}
+-- Runs whose replies are decided by what came before them: such a run rests at one place at most, so it has one end at most.
+use Rattle.std.proofs.Common.{◌≡◌, ℕ, zero, suc, ◌+◌, ◌-◌, ◌<◌, ◌≤◌, nat_lt, if◌then◌else◌, Option, Some, None, List, [], ◌∷◌, ◌++◌, length, refl, sym, ap, subst, ◌∙◌, append_assoc, arith}
 use Rattle.std.specs.Option.{option_map}
 use Rattle.std.proofs.lemmas.Bool.{lt-ltb, le-ltb}
 use Rattle.llsc_base.specs.Images.{Program}
@@ -26,13 +26,17 @@ pub record Spot : Type 0 where
   pub pairs : List Pair
   pub output : List ℕ
 
+-- the spot with these accesses and replies, this machine, so many steps and this output
+abbrev pub spot_at : List Pair → Machine → ℕ → List ℕ → Spot
+spot_at pairs machine steps output = record { machine = machine; steps = steps; pairs = pairs; output = output }
+
 -- a run at its start
 abbrev pub begun : Machine → Spot
-begun start = record { machine = start; steps = 0; pairs = []; output = [] }
+begun start = spot_at [] start 0 []
 
 -- after an access, where it is replied to
 abbrev pub replied : Program → Spot → Ask → Option ℕ → Spot
-replied program spot ask (Some reply) = record { machine = given (after_next program spot.machine) reply; steps = spot.steps; pairs = spot.pairs ++ (ask, reply) ∷ []; output = spot.output }
+replied program spot ask (Some reply) = spot_at (spot.pairs ++ (ask, reply) ∷ []) (given (after_next program spot.machine) reply) spot.steps spot.output
 replied program spot ask None = spot
 
 -- a byte that was replied, before those that follow it
@@ -48,37 +52,40 @@ bytes_by replies pairs from (suc count) =
 
 -- after a write, where each of its bytes is replied
 abbrev pub printed : Program → Spot → ℕ → ℕ → Option (List ℕ) → Spot
-printed program spot from count (Some bytes) = record {
-  machine = returned (after_next program spot.machine) count;
-  steps = spot.steps + 1;
-  pairs = spot.pairs ++ byte_loads from bytes;
-  output = spot.output ++ bytes;
-}
+printed program spot from count (Some bytes) =
+    spot_at (spot.pairs ++ byte_loads from bytes) (returned (after_next program spot.machine) count) (spot.steps + 1) (spot.output ++ bytes)
 printed program spot from count None = spot
 
 -- after a guest call, where it is answered
 abbrev pub answered_so : Replies → Program → Spot → CallEffect → Spot
 answered_so replies program spot (exits code) = spot
 answered_so replies program spot (answers answer) =
-    record { machine = returned (after_next program spot.machine) answer; steps = spot.steps + 1; pairs = spot.pairs; output = spot.output }
+    spot_at spot.pairs (returned (after_next program spot.machine) answer) (spot.steps + 1) spot.output
 answered_so replies program spot (writes_bytes from count) = printed program spot from count (bytes_by replies spot.pairs from count)
 
 -- after an effect
 abbrev pub moved : Replies → Program → Spot → Effect → Spot
 moved replies program spot (asks ask) = replied program spot ask (replies spot.pairs ask)
 moved replies program spot (calls call) = answered_so replies program spot (effect_of_call program call (length spot.output))
-moved replies program spot (completes state) =
-    record { machine = after_next program spot.machine; steps = spot.steps + 1; pairs = spot.pairs; output = spot.output }
+moved replies program spot (completes state) = spot_at spot.pairs (after_next program spot.machine) (spot.steps + 1) spot.output
 moved replies program spot (stops stop) = spot
+
+-- what is given for the next effect where the steps aren't used up, and what where they are
+abbrev by_effect : {A : Type 0} → Program → ℕ → Spot → (Effect → A) → A → A
+by_effect program budget spot of_effect spent = if nat_lt spot.steps budget then of_effect (next_effect program spot.machine) else spent
 
 -- one turn of a run: where the run is over, or nothing is replied, it stays where it is
 pub turn : Replies → Program → ℕ → Spot → Spot
-turn replies program budget spot = if nat_lt spot.steps budget then moved replies program spot (next_effect program spot.machine) else spot
+turn replies program budget spot = by_effect program budget spot (moved replies program spot) spot
 
 -- so many turns
 pub turns : Replies → Program → ℕ → ℕ → Spot → Spot
 turns replies program budget zero spot = spot
 turns replies program budget (suc count) spot = turns replies program budget count (turn replies program budget spot)
+
+-- so many turns lead a run to a spot
+abbrev pub Comes : Replies → Program → ℕ → Machine → Spot → Type 0
+Comes replies program budget start spot = (count : ℕ) × (turns replies program budget count (begun start) ≡ spot)
 
 -- ---- turns
 
@@ -113,39 +120,25 @@ one_rest replies program budget (suc count) zero spot stays rests = turns_stay r
 one_rest replies program budget (suc count) (suc other) spot stays rests =
     one_rest replies program budget count other (turn replies program budget spot) stays rests
 
--- two places where a run comes to and stays are the same
-pub one_place : (replies : Replies) (program : Program) (budget count other : ℕ) (start : Machine) (spot place : Spot)
-    → turns replies program budget count (begun start) ≡ spot → turn replies program budget spot ≡ spot
-    → turns replies program budget other (begun start) ≡ place → turn replies program budget place ≡ place
-    → spot ≡ place
-one_place replies program budget count other start spot place comes stays arrives rests =
-    sym comes
-    ∙ one_rest replies program budget count other (begun start)
-    (ap (turn replies program budget) comes ∙ stays ∙ sym comes)
-    (ap (turn replies program budget) arrives ∙ rests ∙ sym arrives)
-    ∙ arrives
+-- ---- the next effect
 
--- ---- one turn
+-- what is given for a known effect
+at_effect : {A : Type 0} (program : Program) (budget : ℕ) (spot : Spot) (of_effect : Effect → A) (spent : A) (effect : Effect)
+    → spot.steps < budget → next_effect program spot.machine ≡ effect → by_effect program budget spot of_effect spent ≡ of_effect effect
+at_effect program budget spot of_effect spent effect less known =
+    ap (λ b. if b then of_effect (next_effect program spot.machine) else spent) (lt-ltb spot.steps budget less) ∙ ap of_effect known
 
--- a turn where the steps aren't used up
-turn_below : (replies : Replies) (program : Program) (budget : ℕ) (spot : Spot)
-    → spot.steps < budget → turn replies program budget spot ≡ moved replies program spot (next_effect program spot.machine)
-unfolding turn
-turn_below replies program budget spot less =
-    ap (λ b. if b then moved replies program spot (next_effect program spot.machine) else spot) (lt-ltb spot.steps budget less)
-
--- a turn where they are
-pub turn_spent : (replies : Replies) (program : Program) (budget : ℕ) (spot : Spot)
-    → budget ≤ spot.steps → turn replies program budget spot ≡ spot
-unfolding turn
-turn_spent replies program budget spot spent =
-    ap (λ b. if b then moved replies program spot (next_effect program spot.machine) else spot) (le-ltb spot.steps budget spent)
+-- what is given where the steps are used up
+at_budget : {A : Type 0} (program : Program) (budget : ℕ) (spot : Spot) (of_effect : Effect → A) (spent : A)
+    → budget ≤ spot.steps → by_effect program budget spot of_effect spent ≡ spent
+at_budget program budget spot of_effect spent used =
+    ap (λ b. if b then of_effect (next_effect program spot.machine) else spent) (le-ltb spot.steps budget used)
 
 -- a turn whose effect is known
-pub turn_by : (replies : Replies) (program : Program) (budget : ℕ) (spot : Spot) (effect : Effect)
+turn_by : (replies : Replies) (program : Program) (budget : ℕ) (spot : Spot) (effect : Effect)
     → spot.steps < budget → next_effect program spot.machine ≡ effect → turn replies program budget spot ≡ moved replies program spot effect
-turn_by replies program budget spot effect less known =
-    turn_below replies program budget spot less ∙ ap (moved replies program spot) known
+unfolding turn
+turn_by replies program budget spot = at_effect program budget spot (moved replies program spot) spot
 
 -- ---- a run is so many turns
 
@@ -154,145 +147,159 @@ pub decided_front : (replies : Replies) (pairs more : List Pair) → AreDecided 
 decided_front replies pairs more decided front back ask reply parts =
     decided front (back ++ more) ask reply (ap (λ l. l ++ more) parts ∙ append_assoc front ((ask, reply) ∷ back) more)
 
+-- the loads of some bytes are that of the first, and then those of the others
+pub loads_on : (pairs : List Pair) (from byte : ℕ) (bytes : List ℕ)
+    → pairs ++ byte_loads from (byte ∷ bytes) ≡ (pairs ++ (byte_load from, byte) ∷ []) ++ byte_loads (from + 1) bytes
+loads_on pairs from byte bytes = sym (append_assoc pairs ((byte_load from, byte) ∷ []) (byte_loads (from + 1) bytes))
+
+-- where the load of a byte is decided, the byte is the first of those that are replied
+pub first_found : (replies : Replies) (pairs : List Pair) (from count byte : ℕ) (bytes : List ℕ)
+    → AreDecided replies (pairs ++ byte_loads from (byte ∷ bytes))
+    → bytes_by replies pairs from (suc count) ≡ option_map (λ rest. byte ∷ rest) (bytes_by replies (pairs ++ (byte_load from, byte) ∷ []) (from + 1) count)
+first_found replies pairs from count byte bytes decided =
+    ap (λ r. followed r (λ b. bytes_by replies (pairs ++ (byte_load from, b) ∷ []) (from + 1) count))
+    (decided pairs (byte_loads (from + 1) bytes) (byte_load from) byte refl)
+
 -- decided replies to the loads of bytes are the bytes
 bytes_found : (replies : Replies) (pairs : List Pair) (from : ℕ) (bytes : List ℕ)
     → AreDecided replies (pairs ++ byte_loads from bytes) → bytes_by replies pairs from (length bytes) ≡ Some bytes
 bytes_found replies pairs from [] decided = refl
 bytes_found replies pairs from (byte ∷ bytes) decided =
-    let rest : AreDecided replies ((pairs ++ (byte_load from, byte) ∷ []) ++ byte_loads (from + 1) bytes) =
-    subst (AreDecided replies) (sym (append_assoc pairs ((byte_load from, byte) ∷ []) (byte_loads (from + 1) bytes))) decided in
-    ap (λ r. followed r (λ b. bytes_by replies (pairs ++ (byte_load from, b) ∷ []) (from + 1) (length bytes))) (decided pairs (byte_loads (from + 1) bytes) (byte_load from) byte refl)
-    ∙ ap (option_map (λ rest. byte ∷ rest)) (bytes_found replies (pairs ++ (byte_load from, byte) ∷ []) (from + 1) bytes rest)
+    first_found replies pairs from (length bytes) byte bytes decided
+    ∙ ap (option_map (λ rest. byte ∷ rest))
+    (bytes_found replies (pairs ++ (byte_load from, byte) ∷ []) (from + 1) bytes (subst (AreDecided replies) (loads_on pairs from byte bytes) decided))
 
--- one turn more
-one_more : (replies : Replies) (program : Program) (budget count : ℕ) (start : Machine) (from to : Spot)
-    → turns replies program budget count (begun start) ≡ from → turn replies program budget from ≡ to
-    → turns replies program budget (suc count) (begun start) ≡ to
-one_more replies program budget count start from to came goes =
-    turns_last replies program budget count (begun start) ∙ ap (turn replies program budget) came ∙ goes
+-- one turn more leads further
+goes_on : (replies : Replies) (program : Program) (budget : ℕ) (start : Machine) (here to : Spot) (effect : Effect)
+    → Comes replies program budget start here → here.steps < budget → next_effect program here.machine ≡ effect
+    → moved replies program here effect ≡ to → Comes replies program budget start to
+goes_on replies program budget start here to effect comes less known moves = (
+  suc comes.0,
+  turns_last replies program budget comes.0 (begun start)
+      ∙ ap (turn replies program budget) comes.1
+      ∙ turn_by replies program budget here effect less known
+      ∙ moves,
+)
 
--- what a run reaches is where so many turns lead
+-- so many turns lead to what a run reaches
 pub came : (replies : Replies) (program : Program) (budget : ℕ) (start : Machine) (pairs : List Pair) (machine : Machine) (steps : ℕ) (output : List ℕ)
     → Reaches program budget start pairs machine steps output → AreDecided replies pairs
-    → (count : ℕ) × (turns replies program budget count (begun start) ≡ record { machine = machine; steps = steps; pairs = pairs; output = output })
+    → Comes replies program budget start (spot_at pairs machine steps output)
 came replies program budget start _ _ _ _ begins decided = (zero, turns_none replies program budget (begun start))
 came replies program budget start _ _ _ _ (accesses pairs machine steps output ask reply before less asked) decided =
-    let here : Spot = record { machine = machine; steps = steps; pairs = pairs; output = output } in
-    let was = came replies program budget start pairs machine steps output before (decided_front replies pairs ((ask, reply) ∷ []) decided) in (
-      suc was.0,
-      one_more replies program budget was.0 start here _ was.1
-          (turn_by replies program budget here (asks ask) less asked ∙ ap (replied program here ask) (decided pairs [] ask reply refl)),
-    )
+    let here : Spot = spot_at pairs machine steps output in
+    goes_on replies program budget start here _ (asks ask)
+    (came replies program budget start pairs machine steps output before (decided_front replies pairs ((ask, reply) ∷ []) decided))
+    less asked (ap (replied program here ask) (decided pairs [] ask reply refl))
 came replies program budget start _ _ _ _ (steps_on pairs machine steps output state before less done) decided =
-    let here : Spot = record { machine = machine; steps = steps; pairs = pairs; output = output } in
-    let was = came replies program budget start pairs machine steps output before decided in
-    (suc was.0, one_more replies program budget was.0 start here _ was.1 (turn_by replies program budget here (completes state) less done))
+    goes_on replies program budget start (spot_at pairs machine steps output) _ (completes state)
+    (came replies program budget start pairs machine steps output before decided) less done refl
 came replies program budget start _ _ _ _ (returns pairs machine steps output call answer before less called known) decided =
-    let here : Spot = record { machine = machine; steps = steps; pairs = pairs; output = output } in
-    let was = came replies program budget start pairs machine steps output before decided in (
-      suc was.0,
-      one_more replies program budget was.0 start here _ was.1
-          (turn_by replies program budget here (calls call) less called ∙ ap (answered_so replies program here) known),
-    )
+    let here : Spot = spot_at pairs machine steps output in
+    goes_on replies program budget start here _ (calls call)
+    (came replies program budget start pairs machine steps output before decided)
+    less called (ap (answered_so replies program here) known)
 came replies program budget start _ _ _ _ (prints pairs machine steps output call from bytes before less called known) decided =
-    let here : Spot = record { machine = machine; steps = steps; pairs = pairs; output = output } in
-    let was = came replies program budget start pairs machine steps output before (decided_front replies pairs (byte_loads from bytes) decided) in (
-      suc was.0,
-      one_more replies program budget was.0 start here _ was.1
-          (turn_by replies program budget here (calls call) less called
-          ∙ ap (answered_so replies program here) known
-          ∙ ap (printed program here from (length bytes)) (bytes_found replies pairs from bytes decided)),
-    )
+    let here : Spot = spot_at pairs machine steps output in
+    goes_on replies program budget start here _ (calls call)
+    (came replies program budget start pairs machine steps output before (decided_front replies pairs (byte_loads from bytes) decided))
+    less called (ap (answered_so replies program here) known ∙ ap (printed program here from (length bytes)) (bytes_found replies pairs from bytes decided))
+
+-- ---- a run at rest
+
+-- how a run rests: it has ended, with its accesses and replies, its stop, its steps and its output; or it asks an access
+pub data Rest : Type 0 where
+  ended : List Pair → Stop → ℕ → List ℕ → Rest
+  asking : Ask → Rest
+
+-- how it rests where its steps are used up
+abbrev spent_at : Spot → Rest
+spent_at spot = ended spot.pairs Budget spot.steps spot.output
+
+-- how it rests by a guest call, where so many bytes of a write were loaded; one that is answered counts for nothing here,
+-- since no run rests by it
+abbrev pub rest_by_call : ℕ → Spot → CallEffect → Rest
+rest_by_call loaded spot (exits code) = ended spot.pairs (Exit code) (spot.steps + 1) spot.output
+rest_by_call loaded spot (answers answer) = spent_at spot
+rest_by_call loaded spot (writes_bytes from count) = asking (byte_load (from + loaded))
+
+-- how it rests by an effect; an instruction that is complete counts for nothing either
+abbrev pub rest_by : Program → ℕ → Spot → Effect → Rest
+rest_by program loaded spot (asks ask) = asking ask
+rest_by program loaded spot (calls call) = rest_by_call loaded spot (effect_of_call program call (length spot.output))
+rest_by program loaded spot (completes state) = spent_at spot
+rest_by program loaded spot (stops stop) = ended spot.pairs stop spot.steps spot.output
+
+-- how it rests at a spot with these accesses and replies behind it: those beyond the spot's are the loads of a write's bytes
+abbrev rest_of : Program → ℕ → List Pair → Spot → Rest
+rest_of program budget behind spot = by_effect program budget spot (rest_by program (length behind - length spot.pairs) spot) (spent_at spot)
+
+-- a run rests in this way, with these accesses and replies behind it: turns lead it to a spot, and no further
+pub record Rests (replies : Replies) (program : Program) (budget : ℕ) (start : Machine) (behind : List Pair) (how : Rest) : Type 0 where
+  spot : Spot
+  comes : Comes replies program budget start spot
+  stays : turn replies program budget spot ≡ spot
+  rests_so : rest_of program budget behind spot ≡ how
+
+-- a run rests at a spot whose effect moves it no further
+pub rests_by : (replies : Replies) (program : Program) (budget : ℕ) (start : Machine) (behind : List Pair) (here : Spot) (effect : Effect) (how : Rest)
+    → Comes replies program budget start here → here.steps < budget → next_effect program here.machine ≡ effect
+    → moved replies program here effect ≡ here → rest_by program (length behind - length here.pairs) here effect ≡ how
+    → Rests replies program budget start behind how
+rests_by replies program budget start behind here effect how comes less known stays rests =
+    record {
+      spot = here;
+      comes = comes;
+      stays = turn_by replies program budget here effect less known ∙ stays;
+      rests_so = at_effect program budget here (rest_by program (length behind - length here.pairs) here) (spent_at here) effect less known ∙ rests;
+    }
+
+-- a run rests where its steps are used up
+rests_spent : (replies : Replies) (program : Program) (budget : ℕ) (start : Machine) (behind : List Pair) (here : Spot)
+    → Comes replies program budget start here → budget ≤ here.steps → Rests replies program budget start behind (spent_at here)
+unfolding turn
+rests_spent replies program budget start behind here comes used =
+    record {
+      spot = here;
+      comes = comes;
+      stays = at_budget program budget here (moved replies program here) here used;
+      rests_so = at_budget program budget here (rest_by program (length behind - length here.pairs) here) (spent_at here) used;
+    }
+
+-- a run rests in one way
+pub one_way : (replies : Replies) (program : Program) (budget : ℕ) (start : Machine) (behind : List Pair) (how other : Rest)
+    → Rests replies program budget start behind how → Rests replies program budget start behind other → how ≡ other
+one_way replies program budget start behind how other one two =
+    let same : one.spot ≡ two.spot =
+    sym one.comes.1
+    ∙ one_rest replies program budget one.comes.0 two.comes.0 (begun start)
+    (ap (turn replies program budget) one.comes.1 ∙ one.stays ∙ sym one.comes.1)
+    (ap (turn replies program budget) two.comes.1 ∙ two.stays ∙ sym two.comes.1)
+    ∙ two.comes.1 in
+    sym one.rests_so ∙ ap (rest_of program budget behind) same ∙ two.rests_so
 
 -- ---- an end
 
--- the stop and the steps of a run that a guest call ends
-abbrev left_by : ℕ → CallEffect → Stop × ℕ
-left_by steps (exits code) = (Exit code, steps + 1)
-left_by steps (answers answer) = (Budget, steps)
-left_by steps (writes_bytes from count) = (Budget, steps)
+-- a run that has ended rests, whatever is taken to be behind it
+pub ends_rest : (replies : Replies) (program : Program) (budget : ℕ) (start : Machine) (behind pairs : List Pair) (stop : Stop) (steps : ℕ) (output : List ℕ)
+    → Ends program budget start pairs stop steps output → AreDecided replies pairs
+    → Rests replies program budget start behind (ended pairs stop steps output)
+ends_rest replies program budget start behind _ _ _ _ (halts pairs machine steps output stop reached less stopped) decided =
+    rests_by replies program budget start behind (spot_at pairs machine steps output) (stops stop) (ended pairs stop steps output)
+    (came replies program budget start pairs machine steps output reached decided) less stopped refl refl
+ends_rest replies program budget start behind _ _ _ _ (leaves pairs machine steps output call code reached less called known) decided =
+    let here : Spot = spot_at pairs machine steps output in
+    rests_by replies program budget start behind here (calls call) (ended pairs (Exit code) (steps + 1) output)
+    (came replies program budget start pairs machine steps output reached decided)
+    less called (ap (answered_so replies program here) known) (ap (rest_by_call (length behind - length pairs) here) known)
+ends_rest replies program budget start behind _ _ _ _ (spends pairs machine output reached) decided =
+    rests_spent replies program budget start behind (spot_at pairs machine budget output)
+    (came replies program budget start pairs machine budget output reached decided) (omega arith)
 
--- those of a run that an effect ends
-abbrev ended_by : Program → Spot → Effect → Stop × ℕ
-ended_by program spot (asks ask) = (Budget, spot.steps)
-ended_by program spot (calls call) = left_by spot.steps (effect_of_call program call (length spot.output))
-ended_by program spot (completes state) = (Budget, spot.steps)
-ended_by program spot (stops stop) = (stop, spot.steps)
-
--- those of a run that is over
-ending : Program → ℕ → Spot → Stop × ℕ
-ending program budget spot = if nat_lt spot.steps budget then ended_by program spot (next_effect program spot.machine) else (Budget, spot.steps)
-
--- an end at a known effect
-ending_by : (program : Program) (budget : ℕ) (spot : Spot) (effect : Effect)
-    → spot.steps < budget → next_effect program spot.machine ≡ effect → ending program budget spot ≡ ended_by program spot effect
-unfolding ending
-ending_by program budget spot effect less known =
-    ap (λ b. if b then ended_by program spot (next_effect program spot.machine) else (Budget, spot.steps)) (lt-ltb spot.steps budget less)
-    ∙ ap (ended_by program spot) known
-
--- an end where the steps are used up
-ending_spent : (program : Program) (budget : ℕ) (spot : Spot) → budget ≤ spot.steps → ending program budget spot ≡ (Budget, spot.steps)
-unfolding ending
-ending_spent program budget spot spent =
-    ap (λ b. if b then ended_by program spot (next_effect program spot.machine) else (Budget, spot.steps)) (le-ltb spot.steps budget spent)
-
--- a run is over: turns bring it no further, and its pairs, its stop, its steps and its output are those of where it stays
-record IsOver (replies : Replies) (program : Program) (budget : ℕ) (start : Machine) (pairs : List Pair) (stop : Stop) (steps : ℕ) (output : List ℕ) : Type 0 where
-  count : ℕ
-  spot : Spot
-  arrives : turns replies program budget count (begun start) ≡ spot
-  stays : turn replies program budget spot ≡ spot
-  pairs_are : spot.pairs ≡ pairs
-  output_is : spot.output ≡ output
-  ends_so : ending program budget spot ≡ (stop, steps)
-
--- a run that ends is over
-over : (replies : Replies) (program : Program) (budget : ℕ) (start : Machine) (pairs : List Pair) (stop : Stop) (steps : ℕ) (output : List ℕ)
-    → Ends program budget start pairs stop steps output → AreDecided replies pairs → IsOver replies program budget start pairs stop steps output
-over replies program budget start _ _ _ _ (halts pairs machine steps output stop reached less stopped) decided =
-    let here : Spot = record { machine = machine; steps = steps; pairs = pairs; output = output } in
-    let was = came replies program budget start pairs machine steps output reached decided in
-    record {
-      count = was.0;
-      spot = here;
-      arrives = was.1;
-      stays = turn_by replies program budget here (stops stop) less stopped;
-      pairs_are = refl;
-      output_is = refl;
-      ends_so = ending_by program budget here (stops stop) less stopped;
-    }
-over replies program budget start _ _ _ _ (leaves pairs machine steps output call code reached less called known) decided =
-    let here : Spot = record { machine = machine; steps = steps; pairs = pairs; output = output } in
-    let was = came replies program budget start pairs machine steps output reached decided in
-    record {
-      count = was.0;
-      spot = here;
-      arrives = was.1;
-      stays = turn_by replies program budget here (calls call) less called ∙ ap (answered_so replies program here) known;
-      pairs_are = refl;
-      output_is = refl;
-      ends_so = ending_by program budget here (calls call) less called ∙ ap (left_by steps) known;
-    }
-over replies program budget start _ _ _ _ (spends pairs machine output reached) decided =
-    let here : Spot = record { machine = machine; steps = budget; pairs = pairs; output = output } in
-    let was = came replies program budget start pairs machine budget output reached decided in
-    record {
-      count = was.0;
-      spot = here;
-      arrives = was.1;
-      stays = turn_spent replies program budget here (omega arith);
-      pairs_are = refl;
-      output_is = refl;
-      ends_so = ending_spent program budget here (omega arith);
-    }
-
--- where the one run is over, the other is
-same_rest : (replies : Replies) (program : Program) (budget : ℕ) (start : Machine) (pairs others : List Pair) (stop other : Stop) (steps count : ℕ) (output text : List ℕ)
-    → (one : IsOver replies program budget start pairs stop steps output) → (two : IsOver replies program budget start others other count text)
-    → one.spot ≡ two.spot
-same_rest replies program budget start pairs others stop other steps count output text one two =
-    one_place replies program budget one.count two.count start one.spot two.spot one.arrives one.stays two.arrives two.stays
+-- two ends are the same only by the same accesses and replies, stop, steps and output
+same_ended : (pairs others : List Pair) (stop other : Stop) (steps count : ℕ) (output text : List ℕ)
+    → ended pairs stop steps output ≡ ended others other count text → (pairs ≡ others) × (stop ≡ other) × (steps ≡ count) × (output ≡ text)
+same_ended pairs others stop other steps count output text same = (cc, cc, cc, cc)
 
 -- of two runs whose replies are decided alike, the accesses and replies, the stop, the steps and the output are the same
 pub one_end : (replies : Replies) (program : Program) (budget : ℕ) (start : Machine) (pairs others : List Pair) (stop other : Stop) (steps count : ℕ) (output text : List ℕ)
@@ -300,12 +307,7 @@ pub one_end : (replies : Replies) (program : Program) (budget : ℕ) (start : Ma
     → Ends program budget start others other count text → AreDecided replies others
     → (pairs ≡ others) × (stop ≡ other) × (steps ≡ count) × (output ≡ text)
 one_end replies program budget start pairs others stop other steps count output text ends decided ends_too decided_too =
-    let one = over replies program budget start pairs stop steps output ends decided in
-    let two = over replies program budget start others other count text ends_too decided_too in
-    let same : one.spot ≡ two.spot = same_rest replies program budget start pairs others stop other steps count output text one two in
-    let ending_same : (stop, steps) ≡ (other, count) = sym one.ends_so ∙ ap (ending program budget) same ∙ two.ends_so in (
-      sym one.pairs_are ∙ ap (λ spot. spot.pairs) same ∙ two.pairs_are,
-      ap (λ end. end.0) ending_same,
-      ap (λ end. end.1) ending_same,
-      sym one.output_is ∙ ap (λ spot. spot.output) same ∙ two.output_is,
-    )
+    same_ended pairs others stop other steps count output text
+    (one_way replies program budget start pairs (ended pairs stop steps output) (ended others other count text)
+    (ends_rest replies program budget start pairs pairs stop steps output ends decided)
+    (ends_rest replies program budget start pairs others other count text ends_too decided_too))

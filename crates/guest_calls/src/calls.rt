@@ -37,6 +37,11 @@ pub enum CallStep {
 
 /// Makes the guest call that a core waits for, where memory has `mem` bytes and the thread wrote `out` before.
 ///
+/// Where the immediate is 0, number 1 is exit, with the low 8 bits of r0; number 4 is write, of so many bytes as r2 says
+/// from the address r1 up, where r0 is 1 or 2; and number 158 is sched_yield, answered by 0. A write is answered by -9
+/// (EBADF) where r0 is another, and otherwise by 0 where r2 is 0, by -14 (EFAULT) where the bytes reach past memory, and
+/// by -28 (ENOSPC) where the output has no room for them. Every other call is answered by -38 (ENOSYS).
+///
 /// The core is answered where the step is [`CallStep::Answered`]; at [`CallStep::Bytes`] the caller loads the bytes, adds
 /// them to the output, and answers the core by their number.
 pub fn guest_call(cpu: &mut Cpu, ask: &CallAsk, mem: u32, out: &mut Output) -> CallStep

@@ -28,6 +28,10 @@ impl Model for Output {
 
 impl Output {
     /// No bytes yet.
+    ///
+    /// # Errors
+    ///
+    /// `AllocError` is want of memory.
     pub fn new(alloc: Global) -> Result<Output, AllocError>
         ensures { IfOk result (λ output. output ≡ []) }
     {
@@ -36,7 +40,7 @@ impl Output {
         })
     }
 
-    /// How many bytes more may be written.
+    /// How many bytes more may be written: 65,536 less those that were.
     pub fn room_left(&self) -> u32
         ensures { length self.now + result ≡ most_output }
     {
@@ -51,7 +55,7 @@ impl Output {
         self.written.as_slice()
     }
 
-    /// One byte more.
+    /// One byte more, after fewer than 65,536.
     pub fn push(&mut self, b: u8)
         requires { length self.old < most_output }
         ensures { self.new ≡ self.old ++ b ∷ [] }
