@@ -1,4 +1,5 @@
 ghost use Rattle.std.specs.Prelude.{◌≡◌, ◌⊎◌, Ok, Err, IfOk, IfErr};
+ghost use Rattle.a32_syntax.specs.Kinds.{kind_name};
 ghost use Rattle.elf32.specs.Units.{IsWithin};
 ghost use Rattle.a32_asm.specs.Assembled.{first, unit_from, unit_of};
 ghost use Rattle.a32_asm.specs.Lines.{lines_of};
@@ -11,13 +12,24 @@ use crate::outcomes::{first_fault, is_repeated, is_too_long, line_piece};
 use a32_syntax::AsmKind;
 use elf32::Unit;
 use std::alloc::Global;
+use thiserror::Error;
 
 /// Why a text is no program: the first line that has a fault, counted from 1, and the first of its faults.
 /// Want of memory has line 0.
-#[derive(Clone, Copy, Debug, PartialEq, Eq)]
+#[derive(Clone, Copy, Debug, PartialEq, Eq, Error)]
+#[error("line {line}: {kind}")]
 pub struct AsmFault {
     pub line: u32,
     pub kind: AsmKind,
+}
+
+impl AsmFault {
+    /// The name of the fault's kind.
+    pub fn name(&self) -> &str
+        ensures { result.now ≡ kind_name self.now.kind }
+    {
+        self.kind.name()
+    }
 }
 
 /// Want of memory.
@@ -65,10 +77,15 @@ fn length_of(left: Option<&[u8]>) -> usize
     }
 }
 
-/// The program of a text, or its first fault. Want of memory is the one answer that the text doesn't fix.
+/// The program of a text.
 ///
-/// The program has at most 65,536 words of code and at most 1,048,576 bytes of data and space together, so that
+/// It has at most 65,536 words of code and at most 1,048,576 bytes of data and space together, so that
 /// [`elf32::write`] takes it.
+///
+/// # Errors
+///
+/// The first line that has a fault, counted from 1, with the first of its faults in the order of [`AsmKind`]. Want of
+/// memory is [`AsmKind::Memory`] with line 0, and the one answer that the text doesn't fix.
 pub fn assemble(alloc: Global, text: &str) -> Result<Unit, AsmFault>
     ensures unit { IfOk result (λ unit. unit_of text.now ≡ Ok unit) }
     ensures fault { IfErr result (λ fault. (fault ≡ record { line = 0; kind = AsmKind.Memory }) ⊎ (unit_of text.now ≡ Err fault)) }

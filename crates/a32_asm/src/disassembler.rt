@@ -8,7 +8,8 @@ use a32_syntax::write_instruction;
 use llsc_base::Line;
 use number_text::{write_text, write_word};
 
-/// Shows a word as the instruction that it means at an address, or as `.word` and its eight digits where it means none.
+/// Shows a word as the instruction that it means at an address, a multiple of 4, or as `.word` and its eight digits
+/// where it means none. `out` then has that text alone.
 /// Read as a line of the code at that address, the text is the word again, whatever labels there are.
 #[tactic(auto, using(a32_syntax::proofs::Formed::meant_is_formed))]
 pub fn disassemble(word: u32, addr: u32, out: &mut Line)

@@ -131,24 +131,6 @@ word_of (StoreEx cond size rn rd rt) = cond * 2 ^ 28 + 0x1800F90 + size_bits siz
 word_of Clrex = 0xF57FF01F
 word_of (Barrier kind option) = 0xF57FF040 + barrier_bits kind * 2 ^ 4 + option
 
--- data processing, MOVW and MOVT, CLZ, REV and the extends (DDI 0406C A5.2, A5.4)
-abbrev pub is_data : Instr → Bool
-is_data (Alu cond op s rd rn operand) = true
-is_data (Movw cond rd imm) = true
-is_data (Movt cond rd imm) = true
-is_data (Clz cond rd rm) = true
-is_data (Extend cond unsigned half rd rm turn) = true
-is_data (Rev cond rd rm) = true
-is_data i = false
-
--- multiplications (DDI 0406C A5.2.5)
-abbrev pub is_multiply : Instr → Bool
-is_multiply (Mul cond s rd rn rm) = true
-is_multiply (Mla cond s rd rn rm ra) = true
-is_multiply (Mls cond rd rn rm ra) = true
-is_multiply (Long cond kind s lo hi rn rm) = true
-is_multiply i = false
-
 -- loads and stores that are not exclusive (DDI 0406C A5.2.8, A5.3, A5.5)
 abbrev pub is_access : Instr → Bool
 is_access (Word cond load byte index rn rt offset) = true

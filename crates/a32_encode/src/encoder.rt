@@ -2,6 +2,7 @@ ghost use Rattle.std.specs.Prelude.{◌≡◌, ◌<◌, ◌^◌, ℕ, Some, None
 ghost use Rattle.std.specs.Result.{IfOk};
 ghost use Rattle.a32_instr.specs.Table.{table, meaning};
 ghost use Rattle.a32_encode.specs.Encoding.{encoding_of};
+ghost use Rattle.a32_encode.specs.Faults.{encode_fault_name};
 
 use crate::words::candidate;
 use a32_decode::decode;
@@ -14,6 +15,17 @@ pub enum EncodeFault {
     /// No word means the instruction.
     #[error("the instruction has no word")]
     NoEncoding,
+}
+
+impl EncodeFault {
+    /// The variant's name.
+    pub fn name(&self) -> &str
+        ensures { result.now ≡ encode_fault_name self.now }
+    {
+        match self {
+            EncodeFault::NoEncoding => "NoEncoding",
+        }
+    }
 }
 
 /// The word of an instruction, the only one that the table of words gives it. `NoEncoding` comes

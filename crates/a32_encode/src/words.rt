@@ -1,6 +1,7 @@
 //! The one word that can be an instruction's.
 ghost use Rattle.std.specs.Prelude.{◌≡◌, IsTrue};
-ghost use Rattle.a32_encode.specs.Word.{is_access, is_data, is_multiply, word_of};
+ghost use Rattle.a32_instr.specs.Classes.{is_data, is_multiply};
+ghost use Rattle.a32_encode.specs.Word.{is_access, word_of};
 
 use crate::fields::{
     barrier_kind, bit, condition, distance, exclusive_size, half_kind, half_offset,

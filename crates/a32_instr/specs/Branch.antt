@@ -1,4 +1,4 @@
--- Branches (DDI 0406C A8.8.18, A8.8.25) and the supervisor call (A8.8.228).
+-- Branches (DDI 0406C A8.8.18, A8.8.25 to A8.8.27) and the supervisor call (A8.8.228).
 use Rattle.std.specs.Prelude.{ℕ, ◌+◌, ◌^◌, if◌then◌else◌, Bool, ℤ, pos, ◌+ℤ◌, ◌*ℤ◌, unsigned_abs, slice_index, slice_set}
 use Rattle.std.specs.Int.{int_rem_euclid}
 use Rattle.a32_instr.specs.declared.outside.CallAsk.{CallAsk}

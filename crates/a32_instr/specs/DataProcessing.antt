@@ -5,7 +5,7 @@ use Rattle.a32_instr.specs.declared.instructions.AluOp.{AluOp}
 use Rattle.a32_instr.specs.declared.instructions.AluOp.TheVariants.{And, Eor, Sub, Rsb, Add, Adc, Sbc, Rsc, Tst, Teq, Cmp, Cmn, Orr, Mov, Bic, Mvn}
 use Rattle.a32_instr.specs.declared.instructions.Operand2.{Operand2}
 use Rattle.a32_instr.specs.declared.instructions.Operand2.TheVariants.{Imm, ByNum, ByReg}
-use Rattle.a32_instr.specs.Table.{is_compare}
+use Rattle.a32_instr.specs.Fields.{is_compare}
 use Rattle.a32_instr.specs.State.{State, Effect, completes, register, advanced, writes}
 use Rattle.a32_instr.specs.declared.arithmetic.Sum.{Sum}
 use Rattle.a32_instr.specs.declared.arithmetic.Shifted.{Shifted}

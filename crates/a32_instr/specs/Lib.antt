@@ -1,5 +1,8 @@
 pub mod Bits
+pub mod Fields
 pub mod Table
+pub mod Faults
+pub mod Classes
 pub mod State
 pub mod Condition
 pub mod Sum

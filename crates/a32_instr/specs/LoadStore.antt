@@ -65,7 +65,8 @@ abbrev pub asks_unless : Option Bar → ℕ → Ask → Effect
 asks_unless None addr ask = asks ask
 asks_unless (Some bar) addr ask = stops (barred bar addr)
 
--- a load asks for its place, and writes the reply to its register, which has 32 bits, after the write-back
+-- a load asks for its place, and writes the reply to its register, which has 32 bits, after the write-back: a byte's
+-- reply is below 2 to the 8, so zeros stand above it
 abbrev pub loads : Program → Place → State → ℕ → List ℕ → State → Effect
 loads program place back rt [] state = asks_unless (bar_of program place false) place.addr (Load place)
 loads program place back rt (value ∷ _) state = writes back rt (low32 value)
@@ -106,7 +107,7 @@ half_size Ldrh = B2
 half_size Ldrsb = B1
 half_size Ldrsh = B2
 
--- a loaded value as 32 bits: with zeros above it, or with its sign
+-- a loaded value as 32 bits: with zeros above it, or with its sign (Strh loads nothing, and is never asked for here)
 abbrev pub half_value : HalfKind → ℕ → ℕ
 half_value Strh value = extended true 16 value
 half_value Ldrh value = extended true 16 value

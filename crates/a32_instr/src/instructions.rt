@@ -1,5 +1,6 @@
 ghost use Rattle.std.specs.Prelude.{◌≡◌};
-ghost use Rattle.a32_instr.specs.Table.{is_compare, is_move};
+ghost use Rattle.a32_instr.specs.Faults.{decode_fault_name};
+ghost use Rattle.a32_instr.specs.Fields.{is_compare, is_move};
 
 use crate::conditions::Cond;
 use crate::registers::Reg;
@@ -74,7 +75,7 @@ pub enum Operand2 {
     },
 }
 
-/// A multiplication of 64 bits (DDI 0406C A8.8.257, A8.8.255, A8.8.189, A8.8.178).
+/// A multiplication of 64 bits (DDI 0406C A8.8.257, A8.8.256, A8.8.189, A8.8.178).
 #[derive(Clone, Copy, Debug, PartialEq, Eq)]
 pub enum LongKind {
     Umull,
@@ -287,7 +288,7 @@ pub enum Instr {
     },
     /// CLREX (DDI 0406C A8.8.32).
     Clrex,
-    /// DSB, DMB and ISB with an option from 0 to 15 (DDI 0406C A8.8.43, A8.8.44, A8.8.53).
+    /// DSB, DMB and ISB with an option from 0 to 15 (DDI 0406C A8.8.44, A8.8.43, A8.8.53).
     Barrier {
         kind: BarrierKind,
         option: u8,
@@ -303,4 +304,16 @@ pub enum DecodeFault {
     /// The word fits a row at which it is unpredictable.
     #[error("the word is an unpredictable instruction")]
     Unpredictable,
+}
+
+impl DecodeFault {
+    /// The variant's name.
+    pub fn name(&self) -> &str
+        ensures { result.now ≡ decode_fault_name self.now }
+    {
+        match self {
+            DecodeFault::Undefined => "Undefined",
+            DecodeFault::Unpredictable => "Unpredictable",
+        }
+    }
 }

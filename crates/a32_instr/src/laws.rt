@@ -30,7 +30,7 @@ pub fn words_have_three_cases()
 /// Worked words, computed by the table: `mov r0, #0`, `subs r2, r2, #1`, `cmp r1, #3`, `ldr r0, [r1]`,
 /// `str r0, [r1, #-4]`, a branch to itself, with a link too, and `svc #0`; a `movs pc, #0`, which is
 /// unpredictable; and words that are undefined: a condition field of 15, and a compare that sets no flags.
-#[tactic(auto, unfolding(crate::specs::Table::meaning, crate::specs::Table::alu_op, crate::specs::Table::alu_fits, crate::specs::Table::alu_unpredictable, crate::specs::Table::signed24, crate::specs::Table::index_fits, crate::specs::Table::index_of, crate::specs::Table::word_unpredictable))]
+#[tactic(auto, unfolding(crate::specs::Table::meaning, crate::specs::Fields::alu_op, crate::specs::Fields::alu_fits, crate::specs::Fields::alu_unpredictable, crate::specs::Fields::signed24, crate::specs::Fields::index_fits, crate::specs::Fields::index_of, crate::specs::Fields::word_unpredictable))]
 pub fn meanings_of_words()
     ensures moves { meaning table 0xE3A00000 ≡ Ok (Instr.Alu 14 AluOp.Mov false 0 0 (Operand2.Imm 0 0)) }
     ensures subtracts { meaning table 0xE2522001 ≡ Ok (Instr.Alu 14 AluOp.Sub true 2 2 (Operand2.Imm 0 1)) }
@@ -48,7 +48,7 @@ pub fn meanings_of_words()
 /// Worked words of data processing with registers, and of wide moves and hints: `adds r0, r0, #1`,
 /// `mov r1, #8192`, `rsb r3, r0, #1`, `mov r10, r4, lsr #28`, `add r10, r9, r10, lsl #3`, `mvns r1, r2, asr r3`,
 /// `movw r5, #26125`, `movt r5, #25`, `nop` and `yield`.
-#[tactic(auto, unfolding(crate::specs::Table::meaning, crate::specs::Table::alu_op, crate::specs::Table::shift_kind, crate::specs::Table::alu_fits, crate::specs::Table::alu_unpredictable, crate::specs::Table::one_of_4_is_pc))]
+#[tactic(auto, unfolding(crate::specs::Table::meaning, crate::specs::Fields::alu_op, crate::specs::Fields::shift_kind, crate::specs::Fields::alu_fits, crate::specs::Fields::alu_unpredictable, crate::specs::Fields::one_of_4_is_pc))]
 pub fn meanings_of_operations()
     ensures adds { meaning table 0xE2900001 ≡ Ok (Instr.Alu 14 AluOp.Add true 0 0 (Operand2.Imm 0 1)) }
     ensures turns { meaning table 0xE3A01A02 ≡ Ok (Instr.Alu 14 AluOp.Mov false 1 0 (Operand2.Imm 10 2)) }
@@ -65,7 +65,7 @@ pub fn meanings_of_operations()
 /// Worked words of multiplications, CLZ, extends and REV: `mla r4, r4, r5, r6`, `muls r1, r2, r3`,
 /// `mls r1, r2, r3, r4`, `smlals r1, r2, r3, r4`, `clz r0, r1`, `rev r0, r1` and `uxtb r0, r1, ror #8`; and a
 /// `umull r1, r1, r2, r3`, which is unpredictable.
-#[tactic(auto, unfolding(crate::specs::Table::meaning, crate::specs::Table::alu_op, crate::specs::Table::long_kind, crate::specs::Table::alu_fits, crate::specs::Table::alu_unpredictable, crate::specs::Table::one_of_2_is_pc, crate::specs::Table::one_of_3_is_pc, crate::specs::Table::one_of_4_is_pc, crate::specs::Table::index_fits, crate::specs::Table::half_fits))]
+#[tactic(auto, unfolding(crate::specs::Table::meaning, crate::specs::Fields::alu_op, crate::specs::Fields::long_kind, crate::specs::Fields::alu_fits, crate::specs::Fields::alu_unpredictable, crate::specs::Fields::one_of_2_is_pc, crate::specs::Fields::one_of_3_is_pc, crate::specs::Fields::one_of_4_is_pc, crate::specs::Fields::index_fits, crate::specs::Fields::half_fits))]
 pub fn meanings_of_products_and_parts()
     ensures adds { meaning table 0xE0246594 ≡ Ok (Instr.Mla 14 false 4 4 5 6) }
     ensures multiplies { meaning table 0xE0110392 ≡ Ok (Instr.Mul 14 true 1 2 3) }
@@ -80,7 +80,7 @@ pub fn meanings_of_products_and_parts()
 /// Worked words of exclusives, branches to registers and barriers: `ldrex r11, [r10]`, `strex r12, r11, [r10]`,
 /// `ldrexd r2, r3, [r1]`, `strexb r0, r2, [r1]`, `clrex`, `bx lr` and `dmb #15`; a `strex` whose status register is that
 /// of its value and a `ldrexd r3, r4, [r1]`, which are unpredictable.
-#[tactic(auto, unfolding(crate::specs::Table::meaning, crate::specs::Table::alu_op, crate::specs::Table::alu_fits, crate::specs::Table::alu_unpredictable, crate::specs::Table::one_of_2_is_pc, crate::specs::Table::one_of_3_is_pc, crate::specs::Table::exclusive_size, crate::specs::Table::no_pair, crate::specs::Table::status_clashes, crate::specs::Table::barrier_kind, crate::specs::Table::index_fits, crate::specs::Table::half_fits))]
+#[tactic(auto, unfolding(crate::specs::Table::meaning, crate::specs::Fields::alu_op, crate::specs::Fields::alu_fits, crate::specs::Fields::alu_unpredictable, crate::specs::Fields::one_of_2_is_pc, crate::specs::Fields::one_of_3_is_pc, crate::specs::Fields::exclusive_size, crate::specs::Fields::no_pair, crate::specs::Fields::status_clashes, crate::specs::Fields::barrier_kind, crate::specs::Fields::index_fits, crate::specs::Fields::half_fits))]
 pub fn meanings_of_exclusives()
     ensures loads { meaning table 0xE19ABF9F ≡ Ok (Instr.LoadEx 14 Size.B4 10 11) }
     ensures stores { meaning table 0xE18ACF9B ≡ Ok (Instr.StoreEx 14 Size.B4 10 12 11) }
@@ -95,7 +95,7 @@ pub fn meanings_of_exclusives()
 
 /// Worked words of loads and stores: `ldr r1, [r2, r3, lsl #3]`, `str r1, [r2, r0, lsl #3]`, `ldrb r0, [r1], #1`,
 /// `str lr, [sp, #-4]!`; and a `ldr r1, [r1], #4`, which is unpredictable.
-#[tactic(auto, unfolding(crate::specs::Table::meaning, crate::specs::Table::alu_op, crate::specs::Table::alu_fits, crate::specs::Table::alu_unpredictable, crate::specs::Table::shift_kind, crate::specs::Table::index_fits, crate::specs::Table::index_of, crate::specs::Table::word_unpredictable))]
+#[tactic(auto, unfolding(crate::specs::Table::meaning, crate::specs::Fields::alu_op, crate::specs::Fields::alu_fits, crate::specs::Fields::alu_unpredictable, crate::specs::Fields::shift_kind, crate::specs::Fields::index_fits, crate::specs::Fields::index_of, crate::specs::Fields::word_unpredictable))]
 pub fn meanings_of_loads_and_stores()
     ensures loads { meaning table 0xE7921183 ≡ Ok (Instr.Word 14 true false Index.Plain 2 1 (Offset.Shifted true 3 ShiftKind.Lsl 3)) }
     ensures stores { meaning table 0xE7821180 ≡ Ok (Instr.Word 14 false false Index.Plain 2 1 (Offset.Shifted true 0 ShiftKind.Lsl 3)) }
@@ -106,7 +106,7 @@ pub fn meanings_of_loads_and_stores()
 
 /// Worked words of halfwords and signed bytes: `ldrh r0, [r1, #18]`, `strh r2, [r3], #-2`, `ldrsb r4, [r5, -r6]`,
 /// `ldrsh r7, [r8, #4]!`; a `ldrh pc, [r1]`, which is unpredictable; and an `ldrd r0, r1, [r2]`, which is undefined.
-#[tactic(auto, unfolding(crate::specs::Table::meaning, crate::specs::Table::alu_op, crate::specs::Table::alu_fits, crate::specs::Table::alu_unpredictable, crate::specs::Table::index_fits, crate::specs::Table::index_of, crate::specs::Table::half_fits, crate::specs::Table::half_kind, crate::specs::Table::half_unpredictable))]
+#[tactic(auto, unfolding(crate::specs::Table::meaning, crate::specs::Fields::alu_op, crate::specs::Fields::alu_fits, crate::specs::Fields::alu_unpredictable, crate::specs::Fields::index_fits, crate::specs::Fields::index_of, crate::specs::Fields::half_fits, crate::specs::Fields::half_kind, crate::specs::Fields::half_unpredictable))]
 pub fn meanings_of_halves()
     ensures loads { meaning table 0xE1D101B2 ≡ Ok (Instr.Half 14 HalfKind.Ldrh Index.Plain 1 0 (Offset.Imm true 18)) }
     ensures stores { meaning table 0xE04320B2 ≡ Ok (Instr.Half 14 HalfKind.Strh Index.Post 3 2 (Offset.Imm false 2)) }
@@ -118,7 +118,7 @@ pub fn meanings_of_halves()
 
 /// Worked words of blocks: `ldmia sp!, {r4, pc}`, `stmia r1, {r2, r3, r4, r5}`, `stmdb sp!, {r0, lr}`; and an
 /// `ldmia r4!, {r4, pc}`, a `stmia r1!, {r0, r1}` and a block of no registers, which are unpredictable.
-#[tactic(auto, unfolding(crate::specs::Table::meaning, crate::specs::Table::alu_op, crate::specs::Table::alu_fits, crate::specs::Table::block_unpredictable))]
+#[tactic(auto, unfolding(crate::specs::Table::meaning, crate::specs::Fields::alu_op, crate::specs::Fields::alu_fits, crate::specs::Fields::block_unpredictable))]
 pub fn meanings_of_blocks()
     ensures loads { meaning table 0xE8BD8010 ≡ Ok (Instr.Block 14 true false true true 13 0x8010) }
     ensures stores { meaning table 0xE881003C ≡ Ok (Instr.Block 14 false false true false 1 0x3C) }

@@ -10,7 +10,7 @@ use Rattle.a32_instr.specs.declared.instructions.Instr.{Instr}
 use Rattle.a32_instr.specs.declared.instructions.Instr.TheVariants as instr
 use Rattle.llsc_base.specs.declared.access.Size.{Size}
 use Rattle.llsc_base.specs.declared.access.Size.TheVariants.{B8}
-use Rattle.a32_instr.specs.Table.{is_compare, is_move}
+use Rattle.a32_instr.specs.Fields.{is_compare, is_move}
 
 -- a register by its number, and a condition
 abbrev pub IsRegister : ℕ → Type 0

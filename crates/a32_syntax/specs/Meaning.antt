@@ -16,7 +16,7 @@ use Rattle.a32_instr.specs.declared.instructions.Instr.{Instr}
 use Rattle.a32_instr.specs.declared.instructions.Instr.TheVariants as instr
 use Rattle.llsc_base.specs.declared.access.Size.{Size}
 use Rattle.llsc_base.specs.declared.access.Size.TheVariants.{B8}
-use Rattle.a32_instr.specs.Table.{is_compare, is_move, shift_kind}
+use Rattle.a32_instr.specs.Fields.{is_compare, is_move, shift_kind}
 use Rattle.a32_instr.specs.Shift.{rotated_right}
 use Rattle.a32_forms.specs.Text.{Part}
 use Rattle.a32_forms.specs.Numbers.{too_great}

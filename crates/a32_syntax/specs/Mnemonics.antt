@@ -12,7 +12,7 @@ use Rattle.a32_instr.specs.declared.instructions.BarrierKind.{BarrierKind}
 use Rattle.a32_instr.specs.declared.instructions.BarrierKind.TheVariants.{Dsb, Dmb, Isb}
 use Rattle.llsc_base.specs.declared.access.Size.{Size}
 use Rattle.llsc_base.specs.declared.access.Size.TheVariants.{B1, B2, B4, B8}
-use Rattle.a32_instr.specs.Table.{is_compare}
+use Rattle.a32_instr.specs.Fields.{is_compare}
 use Rattle.a32_forms.specs.Names.{names_in, place_from}
 use Rattle.a32_syntax.specs.declared.operations.Operation.{Operation}
 use Rattle.a32_syntax.specs.declared.operations.Operation.TheVariants.{Alu, Movw, Movt, Nop, Yield, Mul, Mla, Mls, Long, Clz, Rev, Extend, Word, Half, Block, Branch, BranchReg, Svc, LoadEx, StoreEx, Clrex, Barrier}
@@ -139,10 +139,10 @@ abbrev pub condition_of : List ℕ → Option ℕ
 condition_of [] = Some 14
 condition_of (code ∷ word) = place_from 0 (names_in conditions) (code ∷ word)
 
--- the word of a mnemonic
 abbrev pub flags_text : Bool → List ℕ
 flags_text set_flags = if set_flags then codes "s" else []
 
+-- the word of a mnemonic
 abbrev pub mnemonic_text : Mnemonic → List ℕ
 mnemonic_text mnemonic = base_of mnemonic.operation ++ (flags_text mnemonic.set_flags ++ condition_name mnemonic.cond)
 

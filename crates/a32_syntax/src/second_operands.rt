@@ -1,6 +1,6 @@
 //! Second operands of data processing, and shifts.
 ghost use Rattle.std.specs.Prelude.{◌≡◌, ◌<◌, ◌≤◌, ◌^◌, IfOk, IfSome};
-ghost use Rattle.a32_instr.specs.Table.{shift_kind};
+ghost use Rattle.a32_instr.specs.Fields.{shift_kind};
 ghost use Rattle.a32_syntax.specs.Meaning.{amount_of, least_turn, most_bits, number_and_turn, plain_number, turned_back};
 
 use crate::kinds::AsmKind;
@@ -94,7 +94,7 @@ pub fn amount_of(shift: ShiftKind, bits: u64) -> Result<u8, AsmKind>
 }
 
 /// A kind of shift by the number of its encoding (DDI 0406C A8.4.3, DecodeRegShift).
-#[tactic(auto, unfolding(a32_instr::specs::Table::shift_kind))]
+#[tactic(auto, unfolding(a32_instr::specs::Fields::shift_kind))]
 pub fn shift_kind(kind: u64) -> ShiftKind
     ensures { result ≡ shift_kind kind }
 {

@@ -1,7 +1,8 @@
 //! What is shown of an instruction: its mnemonic, and one of the forms of its operands with numbers.
 ghost use Rattle.std.specs.Prelude.{◌≡◌, ◌<◌, ◌≤◌, ◌^◌, IsTrue, false, length};
 ghost use Rattle.a32_instr.specs.Branch.{target_of};
-ghost use Rattle.a32_syntax.specs.Classes.{is_access, is_data, is_multiply, is_synchronization};
+ghost use Rattle.a32_instr.specs.Classes.{is_data, is_multiply};
+ghost use Rattle.a32_syntax.specs.Classes.{is_access, is_synchronization};
 ghost use Rattle.a32_syntax.specs.Shown.{always, flag, load_exclusive_numbers, showing, showing_of, store_exclusive_numbers};
 
 use crate::operations::{Mnemonic, Operation};
