@@ -1,4 +1,8 @@
 //! Runs A32 guests: reads words and files, and writes a report and a status.
+//!
+//! The program is one call, [`call::llsc`], whose contract says what is answered to which words and files; `specs/Answer.antt`
+//! has the words of that contract. Each command is a file of `commands`; `host` is what is asked of the world outside, had by
+//! `real_host` as the program runs and by `memory_host` in tests.
 #![tactic(auto)]
 
 mod call;

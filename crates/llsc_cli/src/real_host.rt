@@ -1,7 +1,7 @@
 //! The host of the program as it runs: files by their paths, and standard output.
 //!
 //! This is the trusted edge. No clause says what a file holds or what reaches the output.
-ghost use Rattle.std.specs.Prelude.{◌≡◌, ℕ, ◌<◌, ◌≤◌, List, [], length, IfOk, IsTrue};
+ghost use Rattle.std.specs.Prelude.{◌≡◌, ℕ, ◌<◌, ◌≤◌, List, [], length, IfOk, IsTrue, OnErr};
 ghost use Rattle.llsc_cli.specs.Host.{Adds, AddsFront, AreBytes};
 
 use crate::host::{Failed, Host, ReadFault};
@@ -58,10 +58,7 @@ impl<R: Files + Print> Host for RealHost<R> {
         name: String,
         most: usize,
     ) -> Result<Vec<u8>, ReadFault> {
-        let answer = match fs::open(&self.runtime, name.as_str()) {
-            Ok(mut file) => read_within(alloc, &mut file, most),
-            Err(_) => Err(ReadFault::Failed),
-        };
+        let answer = read_opened(alloc, fs::open(&self.runtime, name.as_str()), most);
         if matches!(&answer, Err(ReadFault::Failed)) {
             self.read_faults = self.read_faults.saturating_add(1);
             self.lost = name;
@@ -75,6 +72,23 @@ impl<R: Files + Print> Host for RealHost<R> {
         }
         self.write_faults = self.write_faults.saturating_add(1);
         Err(Failed)
+    }
+}
+
+// All that an opened file has left, of `most` bytes at most. One that could not be opened is a failed read.
+fn read_opened<F: Read + Drop>(
+    alloc: Global,
+    opened: io::Result<F>,
+    most: usize,
+) -> Result<Vec<u8>, ReadFault>
+    ensures unopened { OnErr opened (result ≡ Err ReadFault.Failed) }
+    ensures whole { IfOk opened (λ file. IfOk result (λ bytes. AreBytes (F.remaining file) bytes.items)) }
+    ensures fits { IfOk result (λ bytes. length bytes.items ≤ most) }
+    ensures too_long { result ≡ Err ReadFault.FileTooLong → IfOk opened (λ file. (bytes : List ℕ) × AreBytes (F.remaining file) bytes × (most < length bytes)) }
+{
+    match opened {
+        Ok(mut file) => read_within(alloc, &mut file, most),
+        Err(_) => Err(ReadFault::Failed),
     }
 }
 
