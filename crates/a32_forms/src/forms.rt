@@ -181,7 +181,8 @@ fn fields_of<'a>(form: &[u8], text: &'a [u8]) -> Option<Fields<'a>>
     Some(fields)
 }
 
-/// The first form of a text that operands have, and what stands at its signs.
+/// The first of some forms that a text of operands has, with its place among them from 0, and what stands at its signs.
+/// `None` where the text has none of them. The forms stand between single spaces.
 pub fn chosen<'a>(forms: &[u8], text: &'a [u8]) -> Option<Chosen<'a>>
     requires { IsTrue (have_room forms.now) }
     ensures form { result ≡ chosen forms.now (parts text.now) }

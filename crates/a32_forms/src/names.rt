@@ -4,7 +4,8 @@ ghost use Rattle.a32_forms.specs.Names.{names_in, place_from, register_of, shift
 
 use crate::cuts;
 
-/// The place of a word among names that stand between single spaces, counted from a number on.
+/// The place of a word among names that stand between single spaces, counted from a number on. `None` where it isn't
+/// among them.
 pub fn place(start: u64, names: &[u8], word: &[u8]) -> Option<u64>
     requires { start + length names.now < 2 ^ 64 }
     ensures place { result ≡ place_from start (names_in names.now) word.now }

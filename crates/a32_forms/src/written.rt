@@ -61,7 +61,8 @@ fn write_sign(line: &mut Line, sign: u8)
     }
 }
 
-/// Adds operands at the end of a line: a form, with a number at each sign that has one.
+/// Adds operands at the end of a line, which has room for them: a form, with a number at each sign that has one. The
+/// numbers are as many as these signs, and each is in its sign's range.
 pub fn write_form(line: &mut Line, form: &[u8], numbers: &[u64])
     requires fits { IsTrue (fits_form form.now numbers.now) }
     requires room { length line.old + form_room form.now ≤ 96 }

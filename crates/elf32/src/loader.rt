@@ -158,44 +158,46 @@ mod tests {
         Ok(())
     }
 
+    // Where a file is changed, the bytes that are put there, and its fault then.
+    const CHANGES: [(usize, &[u8], Option<ElfFault>); 26] = [
+        (0, &[0x7e], Some(ElfFault::Magic)),
+        (4, &[2], Some(ElfFault::Class)),
+        (5, &[2], Some(ElfFault::DataOrder)),
+        (16, &[3], Some(ElfFault::FileType)),
+        (18, &[62], Some(ElfFault::Machine)),
+        (42, &[40], Some(ElfFault::Headers)),
+        (44, &[0], Some(ElfFault::Headers)),
+        (44, &[65], Some(ElfFault::Headers)),
+        (28, &[85], Some(ElfFault::Headers)),
+        (148, &[2, 0, 0, 0], Some(ElfFault::Dynamic)),
+        (148, &[3, 0, 0, 0], Some(ElfFault::Dynamic)),
+        (108, &[7], Some(ElfFault::WritableCode)),
+        (108, &[4], Some(ElfFault::NoCode)),
+        (
+            124,
+            &[
+                0, 0xf0, 0xff, 0xff, 0, 0xf0, 0xff, 0xff, 4, 0, 0, 0, 0, 0x20,
+            ],
+            Some(ElfFault::SegmentBounds),
+        ),
+        (124, &[0xf5, 0xef, 0x0f], Some(ElfFault::SegmentBounds)),
+        (132, &[13], Some(ElfFault::FileBounds)),
+        (136, &[3], Some(ElfFault::FileBounds)),
+        (120, &[0xd1], Some(ElfFault::FileBounds)),
+        (124, &[0xc0, 0, 1], Some(ElfFault::Overlap)),
+        (124, &[0xcf, 0, 1], Some(ElfFault::Overlap)),
+        (24, &[0xb6], Some(ElfFault::Entry)),
+        (24, &[0xd0], Some(ElfFault::Entry)),
+        (24, &[0xb5], Some(ElfFault::ThumbEntry)),
+        (124, &[0xf4, 0xef, 0x0f], None),
+        (124, &[0xd0, 0, 1], None),
+        (24, &[0xcc], None),
+    ];
+
     #[test]
     fn the_fault_of_each_change(rt: HostRuntime) -> Result<(), Fail> {
         let size = MachineSize::new(1_048_576, 1, 4096, 1 << 62)?;
-        let cases: [(usize, &[u8], Option<ElfFault>); 26] = [
-            (0, &[0x7e], Some(ElfFault::Magic)),
-            (4, &[2], Some(ElfFault::Class)),
-            (5, &[2], Some(ElfFault::DataOrder)),
-            (16, &[3], Some(ElfFault::FileType)),
-            (18, &[62], Some(ElfFault::Machine)),
-            (42, &[40], Some(ElfFault::Headers)),
-            (44, &[0], Some(ElfFault::Headers)),
-            (44, &[65], Some(ElfFault::Headers)),
-            (28, &[85], Some(ElfFault::Headers)),
-            (148, &[2, 0, 0, 0], Some(ElfFault::Dynamic)),
-            (148, &[3, 0, 0, 0], Some(ElfFault::Dynamic)),
-            (108, &[7], Some(ElfFault::WritableCode)),
-            (108, &[4], Some(ElfFault::NoCode)),
-            (
-                124,
-                &[
-                    0, 0xf0, 0xff, 0xff, 0, 0xf0, 0xff, 0xff, 4, 0, 0, 0, 0, 0x20,
-                ],
-                Some(ElfFault::SegmentBounds),
-            ),
-            (124, &[0xf5, 0xef, 0x0f], Some(ElfFault::SegmentBounds)),
-            (132, &[13], Some(ElfFault::FileBounds)),
-            (136, &[3], Some(ElfFault::FileBounds)),
-            (120, &[0xd1], Some(ElfFault::FileBounds)),
-            (124, &[0xc0, 0, 1], Some(ElfFault::Overlap)),
-            (124, &[0xcf, 0, 1], Some(ElfFault::Overlap)),
-            (24, &[0xb6], Some(ElfFault::Entry)),
-            (24, &[0xd0], Some(ElfFault::Entry)),
-            (24, &[0xb5], Some(ElfFault::ThumbEntry)),
-            (124, &[0xf4, 0xef, 0x0f], None),
-            (124, &[0xd0, 0, 1], None),
-            (24, &[0xcc], None),
-        ];
-        for (at, bytes, fault) in cases {
+        for (at, bytes, fault) in CHANGES {
             let mut file = linked(rt.alloc())?;
             assert!(rt; at < file.len() && bytes.len() <= file.len() - at);
             file[at..at + bytes.len()].copy_from_slice(bytes);

@@ -33,6 +33,10 @@ const EABI_5: u32 = 0x0500_0000;
 ///
 /// The program has at most 65,536 words of code and at most 1,048,576 bytes of data and space together. Where it has a
 /// word and ends within a machine's room, [`load`](crate::load) accepts the file, as the program's image.
+///
+/// # Errors
+///
+/// `AllocError` is want of memory.
 pub fn write(alloc: Global, unit: &Unit) -> Result<Vec<u8>, AllocError>
     requires { IsWithin unit.now }
     ensures file { IfOk result (λ file. file.items ≡ written_file unit.now) }

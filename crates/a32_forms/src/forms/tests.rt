@@ -43,7 +43,7 @@ fn base_of(text: &[u8]) -> Option<Reg> {
 }
 
 #[test]
-fn worked(rt: HostRuntime) {
+fn reads_addresses(rt: HostRuntime) {
     assert!(rt; is_chosen(address(b"r0,[r15]"), 0, &[0, 15], b""));
     assert!(rt; is_chosen(address(b"r1, [sp ,#-0x1F] !"), 1, &[1, 13, 1, 31, 1], b""));
     assert!(rt; is_chosen(address(b"\tr1 , [ lr ] , # 007"), 2, &[1, 14, 0, 7], b""));
@@ -68,6 +68,11 @@ fn worked(rt: HostRuntime) {
     assert!(rt; address(b"r1, [r2], r3").is_none());
     assert!(rt; address(b"r1, [r2] r3").is_none());
     assert!(rt; address(b"R1, [r2]").is_none());
+    assert!(rt; base_of(b"r1, [r2]").is_some());
+}
+
+#[test]
+fn reads_lists(rt: HostRuntime) {
     assert!(rt; is_chosen(block(b"sp!, {r0, r2-r4, lr}"), 0, &[13, 1, 0x401d], b""));
     assert!(rt; is_chosen(block(b"r1,{r1}"), 0, &[1, 0, 2], b""));
     assert!(rt; is_chosen(block(b"r1,{ r0 - pc }"), 0, &[1, 0, 0xffff], b""));
@@ -77,11 +82,14 @@ fn worked(rt: HostRuntime) {
     assert!(rt; block(b"r1, {}").is_none());
     assert!(rt; block(b"r1, {r2,}").is_none());
     assert!(rt; block(b"r1, {r2").is_none());
+}
+
+#[test]
+fn reads_halves(rt: HostRuntime) {
     assert!(rt; is_chosen(half(b"r3, #lo(far_away)"), 1, &[3], b"far_away"));
     assert!(rt; is_chosen(half(b"r3, # hi ( _x1 )"), 2, &[3], b"_x1"));
     assert!(rt; half(b"r3, #lo(1x)").is_none());
     assert!(rt; is_chosen(half(b"r3, ror #31"), 3, &[3, 3, 31], b""));
     assert!(rt; is_chosen(half(b"r3, rrx"), 4, &[3], b""));
     assert!(rt; half(b"").is_none());
-    assert!(rt; base_of(b"r1, [r2]").is_some());
 }

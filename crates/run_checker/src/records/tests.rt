@@ -1,6 +1,7 @@
 //! Records of programs of a few words, with what is said of them.
 use super::*;
 use run_record::read_record;
+use std::process::Abort;
 use std::test::Fail;
 
 // mov r1, #0x2000; ldrex r0, [r1]; add r0, r0, #7; strex r2, r0, [r1]; mov r0, r2; exit.
@@ -122,8 +123,8 @@ const fn bad(index: u32, reason: Reason) -> Verdict {
     Verdict::Bad { index, reason }
 }
 
-#[test]
-fn judges_one_thread(rt: HostRuntime) -> Result<(), Fail> {
+// The record of a thread that adds, changed in stated ways.
+fn judge_changes(rt: &impl Abort, alloc: Global) -> Result<(), Fail> {
     // the budget and the lines; the verdict
     let cases: [(u64, &[&str], Verdict); 10] = [
         (10_000, &[LOAD, STORE_7], Verdict::Good),
@@ -138,14 +139,14 @@ fn judges_one_thread(rt: HostRuntime) -> Result<(), Fail> {
         (3, &[LOAD, STORE_7], bad(1, Reason::AfterStop)),
     ];
     for (budget, lines, expected) in &cases {
-        let verdict = verdict(rt.alloc(), ADDS, 1, *budget, lines)?;
+        let verdict = verdict(alloc, ADDS, 1, *budget, lines)?;
         assert_eq!(rt; verdict, *expected);
     }
     Ok(())
 }
 
-#[test]
-fn judges_records(rt: HostRuntime) -> Result<(), Fail> {
+// Records of other programs, and of two threads.
+fn judge_programs(rt: &impl Abort, alloc: Global) -> Result<(), Fail> {
     // the words, the threads and the lines; the verdict
     let cases: [(&[u32], u64, &[&str], Verdict); 7] = [
         (STORES, 1, &[STORE_0], bad(0, Reason::NoReservation)),
@@ -162,10 +163,16 @@ fn judges_records(rt: HostRuntime) -> Result<(), Fail> {
         (WRITES, 1, &[LOAD_H, LOAD_I], Verdict::Good),
     ];
     for (words, threads, lines, expected) in &cases {
-        let verdict = verdict(rt.alloc(), words, *threads, 10_000, lines)?;
+        let verdict = verdict(alloc, words, *threads, 10_000, lines)?;
         assert_eq!(rt; verdict, *expected);
     }
     Ok(())
+}
+
+#[test]
+fn judges_records(rt: HostRuntime) -> Result<(), Fail> {
+    judge_changes(&rt, rt.alloc())?;
+    judge_programs(&rt, rt.alloc())
 }
 
 #[test]
