@@ -1,7 +1,8 @@
 //! Loads and stores of a block of registers (DDI 0406C A5.5).
 ghost use Rattle.std.specs.Prelude.{◌≡◌, ◌<◌, ◌^◌, ◌/◌, ◌%◌, ◌==◌, ◌∷◌, not, []};
 ghost use Rattle.a32_instr.specs.Bits.{bits_of};
-ghost use Rattle.a32_instr.specs.Table.{block, block_unpredictable};
+ghost use Rattle.a32_instr.specs.Fields.{block_unpredictable};
+ghost use Rattle.a32_instr.specs.Table.{block};
 ghost use Rattle.a32_decode.specs.Rows.{Fits, Means, NoneFits};
 
 use crate::bits::{bit, bits, condition, register};
@@ -37,7 +38,7 @@ pub fn block(word: u32) -> Result<Instr, DecodeFault>
 
 // Whether the base is the PC, the list is empty, or a base that is written back clashes with the list.
 #[inline]
-#[tactic(auto, unfolding(a32_instr::specs::Table::block_unpredictable))]
+#[tactic(auto, unfolding(a32_instr::specs::Fields::block_unpredictable))]
 fn clashes(w: u32, l: u32, rn: Reg, list: u32) -> bool
     ensures { result ≡ block_unpredictable w l rn list }
 {

@@ -1,7 +1,8 @@
 //! Branches and supervisor calls (DDI 0406C A5.5, A5.6).
 ghost use Rattle.std.specs.Prelude.{◌≡◌, ◌<◌, ◌^◌, ◌∷◌, []};
 ghost use Rattle.a32_instr.specs.Bits.{bits_of};
-ghost use Rattle.a32_instr.specs.Table.{branch, branch_reg, svc, signed24};
+ghost use Rattle.a32_instr.specs.Fields.{signed24};
+ghost use Rattle.a32_instr.specs.Table.{branch, branch_reg, svc};
 ghost use Rattle.a32_decode.specs.Rows.{Fits, Means, NoneFits};
 
 use crate::bits::{bit, bits, condition, register};
@@ -64,7 +65,7 @@ pub fn supervisor_call(word: u32) -> Result<Instr, DecodeFault>
 
 // A number of 24 bits, read as signed.
 #[inline]
-#[tactic(auto, unfolding(a32_instr::specs::Table::signed24))]
+#[tactic(auto, unfolding(a32_instr::specs::Fields::signed24))]
 fn signed(field: u32) -> i32
     requires { field < 2 ^ 24 }
     ensures { result ≡ signed24 field }

@@ -1,7 +1,8 @@
 //! Data-processing instructions and their neighbours (DDI 0406C A5.2).
 ghost use Rattle.std.specs.Prelude.{◌≡◌, ◌<◌, ◌==◌, ◌&&◌, ◌∷◌, []};
 ghost use Rattle.a32_instr.specs.Bits.{bits_of};
-ghost use Rattle.a32_instr.specs.Table.{alu_imm, alu_by_num, alu_by_reg, half_imm, half_reg, movw, movt, nop, yields, mul, mla, mls, long, clz, branch_reg, load_ex, store_ex, alu_fits, alu_op, alu_unpredictable, shift_kind};
+ghost use Rattle.a32_instr.specs.Fields.{alu_fits, alu_op, alu_unpredictable, shift_kind};
+ghost use Rattle.a32_instr.specs.Table.{alu_imm, alu_by_num, alu_by_reg, half_imm, half_reg, movw, movt, nop, yields, mul, mla, mls, long, clz, branch_reg, load_ex, store_ex};
 ghost use Rattle.a32_decode.specs.Rows.{Fits, Means, NoneFits};
 
 use crate::bits::{bit, bits, condition, register};
@@ -246,7 +247,7 @@ fn alu(word: u32, operand: Operand2) -> Instr
 
 // The operation of an opcode (DDI 0406C table A5-3).
 #[inline]
-#[tactic(auto, unfolding(a32_instr::specs::Table::alu_op))]
+#[tactic(auto, unfolding(a32_instr::specs::Fields::alu_op))]
 fn operation(opcode: u32) -> AluOp
     ensures { result ≡ alu_op opcode }
 {
@@ -272,7 +273,7 @@ fn operation(opcode: u32) -> AluOp
 
 // The kind of shift of two bits (DDI 0406C A8.4.3).
 #[inline]
-#[tactic(auto, unfolding(a32_instr::specs::Table::shift_kind))]
+#[tactic(auto, unfolding(a32_instr::specs::Fields::shift_kind))]
 pub fn kind_of_shift(kind: u32) -> ShiftKind
     ensures { result ≡ shift_kind kind }
 {
@@ -307,7 +308,7 @@ fn is_form(word: u32) -> bool
 
 // A compare sets the flags and names no destination, a move names no first operand.
 #[inline]
-#[tactic(auto, unfolding(a32_instr::specs::Table::alu_fits))]
+#[tactic(auto, unfolding(a32_instr::specs::Fields::alu_fits))]
 fn is_form_of(op: AluOp, sets: u32, rd: Reg, rn: Reg) -> bool
     ensures { result ≡ alu_fits op sets rd rn }
 {
@@ -319,7 +320,7 @@ fn is_form_of(op: AluOp, sets: u32, rd: Reg, rn: Reg) -> bool
 
 // Whether a word of data processing sets the flags and writes the PC.
 #[inline]
-#[tactic(auto, unfolding(a32_instr::specs::Table::alu_unpredictable))]
+#[tactic(auto, unfolding(a32_instr::specs::Fields::alu_unpredictable))]
 fn sets_flags_and_pc(word: u32) -> bool
     ensures { result ≡ alu_unpredictable (alu_op (bits_of word 21 4)) (bits_of word 20 1) (bits_of word 12 4) }
 {

@@ -1,7 +1,8 @@
 //! Loads and stores of a halfword, and loads of a signed byte (DDI 0406C A5.2.8).
 ghost use Rattle.std.specs.Prelude.{◌≡◌, ◌<◌, ◌∷◌, ◌&&◌, []};
 ghost use Rattle.a32_instr.specs.Bits.{bits_of};
-ghost use Rattle.a32_instr.specs.Table.{half_imm, half_reg, index_fits, index_of, half_fits, half_kind, half_unpredictable};
+ghost use Rattle.a32_instr.specs.Fields.{index_fits, index_of, half_fits, half_kind, half_unpredictable};
+ghost use Rattle.a32_instr.specs.Table.{half_imm, half_reg};
 ghost use Rattle.a32_decode.specs.Rows.{Fits, Means, NoneFits};
 
 use crate::bits::{bit, bits, condition, register};
@@ -108,7 +109,7 @@ fn is_form(word: u32) -> bool
 
 // Whether bits 20, 6 and 5 name a load or a store of a halfword, or a load of a signed byte.
 #[inline(always)]
-#[tactic(auto, unfolding(a32_instr::specs::Table::half_fits))]
+#[tactic(auto, unfolding(a32_instr::specs::Fields::half_fits))]
 fn is_half(l: u32, x: u32, y: u32) -> bool
     ensures { result ≡ half_fits l x y }
 {
@@ -117,7 +118,7 @@ fn is_half(l: u32, x: u32, y: u32) -> bool
 
 // The load or the store that bits 20, 6 and 5 name.
 #[inline]
-#[tactic(auto, unfolding(a32_instr::specs::Table::half_kind))]
+#[tactic(auto, unfolding(a32_instr::specs::Fields::half_kind))]
 fn kind_of_half(l: u32, x: u32, y: u32) -> HalfKind
     ensures { result ≡ half_kind l x y }
 {
@@ -148,7 +149,7 @@ fn clashes(word: u32) -> bool
 
 // Whether the register is the PC, or a base that is written back is the PC or that register.
 #[inline(always)]
-#[tactic(auto, unfolding(a32_instr::specs::Table::half_unpredictable))]
+#[tactic(auto, unfolding(a32_instr::specs::Fields::half_unpredictable))]
 fn registers_clash(p: u32, w: u32, rn: Reg, rt: Reg) -> bool
     ensures { result ≡ half_unpredictable p w rn rt }
 {

@@ -1,7 +1,8 @@
 //! Loads and stores of one register (DDI 0406C A5.3).
 ghost use Rattle.std.specs.Prelude.{◌≡◌, ◌<◌, ◌∷◌, ◌==◌, []};
 ghost use Rattle.a32_instr.specs.Bits.{bits_of};
-ghost use Rattle.a32_instr.specs.Table.{word_imm, word_reg, index_fits, index_of, word_unpredictable};
+ghost use Rattle.a32_instr.specs.Fields.{index_fits, index_of, word_unpredictable};
+ghost use Rattle.a32_instr.specs.Table.{word_imm, word_reg};
 ghost use Rattle.a32_decode.specs.Rows.{Fits, Means, NoneFits};
 
 use crate::bits::{bit, bits, condition, register};
@@ -74,7 +75,7 @@ fn of_word(word: u32, offset: Offset) -> Instr
 
 // Whether bits 24 and 21 name an index form.
 #[inline(always)]
-#[tactic(auto, unfolding(a32_instr::specs::Table::index_fits))]
+#[tactic(auto, unfolding(a32_instr::specs::Fields::index_fits))]
 pub(crate) fn is_index(p: u32, w: u32) -> bool
     ensures { result ≡ index_fits p w }
 {
@@ -83,7 +84,7 @@ pub(crate) fn is_index(p: u32, w: u32) -> bool
 
 // The index form that bits 24 and 21 name.
 #[inline(always)]
-#[tactic(auto, unfolding(a32_instr::specs::Table::index_of))]
+#[tactic(auto, unfolding(a32_instr::specs::Fields::index_of))]
 pub(crate) fn index(p: u32, w: u32) -> Index
     ensures { result ≡ index_of p w }
 {
@@ -109,7 +110,7 @@ fn clashes(word: u32) -> bool
 
 // Whether a base that is written back is the PC or the other register, or a byte's register is the PC.
 #[inline(always)]
-#[tactic(auto, unfolding(a32_instr::specs::Table::word_unpredictable))]
+#[tactic(auto, unfolding(a32_instr::specs::Fields::word_unpredictable))]
 fn registers_clash(p: u32, w: u32, b: u32, rn: Reg, rt: Reg) -> bool
     ensures { result ≡ word_unpredictable p w b rn rt }
 {

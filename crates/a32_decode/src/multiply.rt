@@ -1,7 +1,8 @@
 //! Multiplications (DDI 0406C A5.2.5).
 ghost use Rattle.std.specs.Prelude.{◌≡◌, ◌<◌, ◌∷◌, []};
 ghost use Rattle.a32_instr.specs.Bits.{bits_of};
-ghost use Rattle.a32_instr.specs.Table.{mul, mla, mls, long, long_kind};
+ghost use Rattle.a32_instr.specs.Fields.{long_kind};
+ghost use Rattle.a32_instr.specs.Table.{mul, mla, mls, long};
 ghost use Rattle.a32_decode.specs.Rows.{Fits, Means, NoneFits};
 
 use crate::bits::{bit, bits, condition, register};
@@ -145,7 +146,7 @@ fn product_of_64(word: u32) -> Result<Instr, DecodeFault>
 
 // The multiplication of bits 22:21.
 #[inline]
-#[tactic(auto, unfolding(a32_instr::specs::Table::long_kind))]
+#[tactic(auto, unfolding(a32_instr::specs::Fields::long_kind))]
 fn kind_of_product(kind: u32) -> LongKind
     ensures { result ≡ long_kind kind }
 {

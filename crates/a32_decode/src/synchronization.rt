@@ -1,7 +1,8 @@
 //! Synchronization primitives (DDI 0406C A5.2.10) and barriers (A5.7.1).
 ghost use Rattle.std.specs.Prelude.{◌≡◌, ◌<◌, ◌∷◌, []};
 ghost use Rattle.a32_instr.specs.Bits.{bits_of};
-ghost use Rattle.a32_instr.specs.Table.{load_ex, store_ex, clrex, barrier, barrier_kind, exclusive_size, no_pair, status_clashes};
+ghost use Rattle.a32_instr.specs.Fields.{barrier_kind, exclusive_size, no_pair, status_clashes};
+ghost use Rattle.a32_instr.specs.Table.{load_ex, store_ex, clrex, barrier};
 ghost use Rattle.a32_decode.specs.Rows.{Fits, Means, NoneFits};
 
 use crate::bits::{bit, bits, condition, register};
@@ -101,7 +102,7 @@ pub fn unconditional(word: u32) -> Result<Instr, DecodeFault>
     Ok(Instr::Clrex)
 }
 
-// DSB, DMB and ISB (DDI 0406C A8.8.43, A8.8.44, A8.8.53).
+// DSB, DMB and ISB (DDI 0406C A8.8.44, A8.8.43, A8.8.53).
 #[inline]
 fn memory_barrier(word: u32) -> Result<Instr, DecodeFault>
     requires space { bits_of word 28 4 ≡ 15 }
@@ -122,7 +123,7 @@ fn memory_barrier(word: u32) -> Result<Instr, DecodeFault>
 
 // The barrier that bits 5:4 name.
 #[inline(always)]
-#[tactic(auto, unfolding(a32_instr::specs::Table::barrier_kind))]
+#[tactic(auto, unfolding(a32_instr::specs::Fields::barrier_kind))]
 fn kind_of_barrier(kind: u32) -> BarrierKind
     ensures { result ≡ barrier_kind kind }
 {
@@ -135,7 +136,7 @@ fn kind_of_barrier(kind: u32) -> BarrierKind
 
 // The size that bits 22:21 name.
 #[inline(always)]
-#[tactic(auto, unfolding(a32_instr::specs::Table::exclusive_size))]
+#[tactic(auto, unfolding(a32_instr::specs::Fields::exclusive_size))]
 fn size_of(size: u32) -> Size
     ensures { result ≡ exclusive_size size }
 {
@@ -149,7 +150,7 @@ fn size_of(size: u32) -> Size
 
 // Whether a doubleword doesn't stand in a register and the next.
 #[inline(always)]
-#[tactic(auto, unfolding(a32_instr::specs::Table::no_pair))]
+#[tactic(auto, unfolding(a32_instr::specs::Fields::no_pair))]
 fn is_no_pair(size: u32, rt: Reg) -> bool
     ensures { result ≡ no_pair size rt }
 {
@@ -158,7 +159,7 @@ fn is_no_pair(size: u32, rt: Reg) -> bool
 
 // Whether the status register is one of the others.
 #[inline(always)]
-#[tactic(auto, unfolding(a32_instr::specs::Table::status_clashes))]
+#[tactic(auto, unfolding(a32_instr::specs::Fields::status_clashes))]
 fn clashes(size: u32, rn: Reg, rd: Reg, rt: Reg) -> bool
     ensures { result ≡ status_clashes size rn rd rt }
 {

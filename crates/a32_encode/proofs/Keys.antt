@@ -1,6 +1,6 @@
 -- An instruction's key gives back the instruction.
 use Rattle.std.proofs.Common.{◌≡◌, ℕ, zero, suc, ◌==◌, Bool, true, false, if◌then◌else◌, List, [], ◌∷◌, ℤ, pos, negsuc, refl, ◌∙◌, sym, ap}
-use Rattle.a32_instr.specs.Table.{alu_op, shift_kind, long_kind, exclusive_size, barrier_kind}
+use Rattle.a32_instr.specs.Fields.{alu_op, shift_kind, long_kind, exclusive_size, barrier_kind}
 use Rattle.a32_instr.specs.declared.instructions.AluOp.{AluOp}
 use Rattle.a32_instr.specs.declared.instructions.AluOp.TheVariants.{And, Eor, Sub, Rsb, Add, Adc, Sbc, Rsc, Tst, Teq, Cmp, Cmn, Orr, Mov, Bic, Mvn}
 use Rattle.a32_instr.specs.declared.instructions.ShiftKind.{ShiftKind}

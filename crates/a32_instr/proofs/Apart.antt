@@ -6,7 +6,8 @@ use Rattle.std.proofs.lemmas.Nat.{field_of, mod-pow-add}
 use Rattle.std.proofs.lemmas.List.Elements.{All-cons, All-nil}
 use Rattle.std.proofs.lemmas.List.Kept.{AllPairs-cons}
 use Rattle.a32_instr.specs.Bits.{Run, bits_of, value_of, has_all, has_bits, runs_of, field}
-use Rattle.a32_instr.specs.Table.{Row, fits, AreApart, condition_fits, c, alu_op, alu_fits, half_fits}
+use Rattle.a32_instr.specs.Fields.{alu_op, alu_fits, half_fits}
+use Rattle.a32_instr.specs.Table.{Row, fits, AreApart, condition_fits, c}
 use Rattle.a32_instr.proofs.SilentCompare.{silent_compare}
 
 -- The test.

@@ -3,7 +3,7 @@ use Rattle.std.proofs.Common.{◌≡◌, ℕ, zero, suc, ◌+◌, ◌<◌, ◌==
 use Rattle.std.proofs.lemmas.Bool.{and_parts, or_cases, eqb-true, both_ways, not-true}
 use Rattle.a32_instr.specs.Bits.{bits_of}
 use Rattle.a32_instr.specs.declared.instructions.AluOp.{AluOp}
-use Rattle.a32_instr.specs.Table.{is_compare, is_move, alu_op, alu_fits}
+use Rattle.a32_instr.specs.Fields.{is_compare, is_move, alu_op, alu_fits}
 
 compare_op : (k : ℕ) → k < 4 → is_compare (alu_op (8 + k)) ≡ true
 unfolding alu_op

@@ -2,7 +2,8 @@
 use Rattle.std.proofs.Common.{◌≡◌, ℕ, List, All, Ok, replicate, refl}
 use Rattle.std.proofs.lemmas.List.Elements.{All-replicate, All-set}
 use lib.ListN.{set}
-use Rattle.a32_instr.specs.Table.{meaning, table, alu_op, alu_fits, alu_unpredictable, index_fits, half_fits}
+use Rattle.a32_instr.specs.Fields.{alu_op, alu_fits, alu_unpredictable, index_fits, half_fits}
+use Rattle.a32_instr.specs.Table.{meaning, table}
 use Rattle.a32_instr.specs.declared.instructions.Instr.TheVariants.{Nop}
 use Rattle.a32_step.specs.declared.decoded.Slot.{Slot}
 

@@ -13,7 +13,7 @@ use Rattle.a32_instr.specs.State.{State, Effect, completes, low32, register, adv
 use Rattle.a32_instr.specs.declared.instructions.AluOp.{AluOp}
 use Rattle.a32_instr.specs.declared.arithmetic.Computed.{Computed}
 use Rattle.a32_instr.specs.Condition.{passes}
-use Rattle.a32_instr.specs.Table.{is_compare}
+use Rattle.a32_instr.specs.Fields.{is_compare}
 use Rattle.a32_instr.specs.DataProcessing.{operand_of, computed, with_flags, alu_done}
 use Rattle.std.specs.Int.{w32, leading_zeros}
 use Rattle.a32_instr.specs.Shift.{top_bit, rotated_right}

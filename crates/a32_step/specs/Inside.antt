@@ -5,7 +5,7 @@ use Rattle.a32_step.specs.declared.phases.Point.TheVariants as point
 use Rattle.a32_step.specs.declared.phases.Hold.{Hold}
 use Rattle.a32_step.specs.declared.phases.Hold.TheVariants as hold
 use Rattle.a32_step.specs.Words.{AreWords}
-use Rattle.a32_step.specs.Standing.{Standing, Stage, Between, Inside, Awaiting, Calling, Stopped, HasRoom}
+use Rattle.a32_step.specs.ExecutionState.{ExecutionState, Stage, Between, Inside, Awaiting, Calling, Stopped, HasRoom}
 use Rattle.a32_step.specs.declared.execution.Execution.TheInside as fields
 
 -- the stage of a thread that is held
@@ -19,7 +19,7 @@ stage_at point.Between held = Between
 stage_at point.Inside held = Inside
 stage_at point.Held held = stage_held held
 
-abbrev pub standing_of : fields.Inside → Standing
+abbrev pub standing_of : fields.Inside → ExecutionState
 standing_of execution = record {
   state = record { regs = execution.regs; flags = execution.flags; pc = execution.pc };
   stage = stage_at execution.point execution.hold;

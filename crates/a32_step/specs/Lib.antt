@@ -4,5 +4,5 @@ pub mod Words
 pub mod Progress
 pub mod Classes
 pub mod Phase
-pub mod Standing
+pub mod ExecutionState
 pub mod Slots

@@ -26,7 +26,7 @@ pub struct Cpu {
 
 impl Model for Cpu {
     ghost use Rattle.a32_step.specs.Machine.{Machine};
-    ghost use Rattle.a32_step.specs.Standing.{machine_in};
+    ghost use Rattle.a32_step.specs.ExecutionState.{machine_in};
     ghost use Rattle.a32_step.specs.Slots.{instr_for};
 
     ghost Value = { Machine };
@@ -79,7 +79,7 @@ impl Cpu {
     }
 
     /// The reply to the access that is awaited.
-    #[tactic(auto, using(crate::proofs::Standings::is_awaited, crate::proofs::Standings::replied))]
+    #[tactic(auto, using(crate::proofs::ExecutionStates::is_awaited, crate::proofs::ExecutionStates::replied))]
     pub fn give(&mut self, reply: u64)
         requires { IsAwaiting self.old.phase }
         ensures state { self.new ≡ given self.old reply }
@@ -114,7 +114,7 @@ impl Cpu {
 
     /// The instruction in hand goes on, or the next one begins, up to what is wanted.
     #[inline]
-    #[tactic(auto, using(crate::proofs::Standings::acted_wants, crate::proofs::Standings::acted_stands))]
+    #[tactic(auto, using(crate::proofs::ExecutionStates::acted_wants, crate::proofs::ExecutionStates::acted_stands))]
     fn go_on(&mut self, image: &Image) -> Wanted
         requires { IsReady self.old.phase }
         ensures wanted { result ≡ wanted_of (next_effect image.now self.old) }

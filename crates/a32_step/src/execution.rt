@@ -4,7 +4,7 @@ ghost use Rattle.a32_instr.specs.State.{register, with_register, advanced, jumps
 ghost use Rattle.a32_instr.specs.Effect.{acts};
 ghost use Rattle.a32_step.specs.Progress.{progress_of};
 ghost use Rattle.a32_step.specs.Words.{AreWords};
-ghost use Rattle.a32_step.specs.Standing.{Between, Inside, Awaiting, Stopped, IsAwaited, resting, moves, wanted_at};
+ghost use Rattle.a32_step.specs.ExecutionState.{Between, Inside, Awaiting, Stopped, IsAwaited, resting, moves, wanted_at};
 ghost use Rattle.a32_step.specs.Inside.{stage_held};
 ghost use Rattle.a32_step.specs.Machine.{wanted_of};
 
@@ -48,9 +48,9 @@ pub struct Execution {
 }
 
 impl Model for Execution {
-    ghost use Rattle.a32_step.specs.Standing.{Standing};
+    ghost use Rattle.a32_step.specs.ExecutionState.{ExecutionState};
 
-    ghost Value = { Standing };
+    ghost Value = { ExecutionState };
 
     ghost use Rattle.a32_step.specs.Inside.{standing_of, IsSound};
 
@@ -138,7 +138,7 @@ impl Execution {
 
     /// The reply to the access that is awaited.
     #[inline]
-    #[tactic(auto, using(crate::proofs::Standings::room_of))]
+    #[tactic(auto, using(crate::proofs::ExecutionStates::room_of))]
     pub fn reply(&mut self, reply: u64)
         requires { IsAwaited self.old.stage }
         ensures state { self.new ≡ record self.old { stage = Inside; replies = self.old.replies ++ reply ∷ [] } }

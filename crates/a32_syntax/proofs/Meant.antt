@@ -19,7 +19,7 @@ use Rattle.a32_instr.specs.declared.instructions.Instr.{Instr}
 use Rattle.a32_instr.specs.declared.instructions.Instr.TheVariants as instr
 use Rattle.llsc_base.specs.declared.access.Size.{Size}
 use Rattle.llsc_base.specs.declared.access.Size.TheVariants.{B1, B2, B4, B8}
-use Rattle.a32_instr.specs.Table.{shift_kind}
+use Rattle.a32_instr.specs.Fields.{shift_kind}
 use Rattle.a32_instr.specs.Shift.{rotated_right, turned}
 use Rattle.a32_instr.specs.Branch.{target_of}
 use Rattle.a32_forms.specs.Forms.{Chosen, number_at}

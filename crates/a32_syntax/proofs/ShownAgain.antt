@@ -12,7 +12,7 @@ use Rattle.a32_instr.specs.declared.instructions.Instr.{Instr}
 use Rattle.a32_instr.specs.declared.instructions.Instr.TheVariants as instr
 use Rattle.llsc_base.specs.declared.access.Size.{Size}
 use Rattle.llsc_base.specs.declared.access.Size.TheVariants.{B1, B2, B4, B8}
-use Rattle.a32_instr.specs.Table.{is_compare, is_move}
+use Rattle.a32_instr.specs.Fields.{is_compare, is_move}
 use Rattle.a32_forms.specs.Text.{parts, front_word, after_word, is_name}
 use Rattle.a32_forms.specs.Forms.{chosen, form_in}
 use Rattle.a32_forms.specs.Written.{written}

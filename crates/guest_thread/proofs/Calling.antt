@@ -10,7 +10,7 @@ use Rattle.guest_calls.specs.Calls.{CallEffect, exits, answers, writes_bytes}
 use Rattle.guest_calls.specs.Run.{Pair, byte_load, effect_of_call, returned, Reaches, Ends, returns, leaves}
 use Rattle.guest_thread.specs.declared.guests.Turn.{Turn}
 use Rattle.guest_thread.specs.declared.guests.Turn.TheVariants as turn
-use Rattle.guest_thread.specs.Standing.{Standing}
+use Rattle.guest_thread.specs.ThreadState.{ThreadState}
 use Rattle.guest_thread.specs.Turns.{AfterCall, BeginsWrite, write_of}
 use Rattle.guest_thread.specs.Under.{HasCome, HasComeBy, IsPrinting, ComesTo}
 use Rattle.guest_thread.proofs.Effects.{effect_calls}
@@ -18,7 +18,7 @@ use Rattle.guest_thread.proofs.Reached.{reached_by, come_by, reached_at}
 use Rattle.guest_thread.proofs.Printed.{asking_byte}
 
 -- a thread that has come to a call: where it was, and where it is now that its core waits for the answer
-pub record HasCalled (program : Program) (budget : ℕ) (start : Machine) (pairs : List Pair) (call : CallAsk) (old moved : Standing) : Type 0 where
+pub record HasCalled (program : Program) (budget : ℕ) (start : Machine) (pairs : List Pair) (call : CallAsk) (old moved : ThreadState) : Type 0 where
   pub reached : Reaches program budget start pairs old.cpu old.steps old.output
   pub within : old.steps < budget
   pub called : next_effect program old.cpu ≡ calls call
@@ -28,7 +28,7 @@ pub record HasCalled (program : Program) (budget : ℕ) (start : Machine) (pairs
   pub printing : moved.printing ≡ None
 
 -- the exit
-exited : (program : Program) (budget : ℕ) (start : Machine) (pairs : List Pair) (call : CallAsk) (code : ℕ) (old moved new : Standing)
+exited : (program : Program) (budget : ℕ) (start : Machine) (pairs : List Pair) (call : CallAsk) (code : ℕ) (old moved new : ThreadState)
     → HasCalled program budget start pairs call old moved → effect_of_call program call (length old.output) ≡ exits code
     → new ≡ record moved { steps = moved.steps + 1 }
     → ComesTo program budget start pairs (turn.Ended (stop.Exit code)) new
@@ -40,7 +40,7 @@ exited program budget start pairs call code old moved new way known is =
     (leaves pairs old.cpu old.steps old.output call code way.reached way.within way.called known))
 
 -- a call that was answered
-answered : (program : Program) (budget : ℕ) (start : Machine) (pairs : List Pair) (call : CallAsk) (value : ℕ) (old moved new : Standing)
+answered : (program : Program) (budget : ℕ) (start : Machine) (pairs : List Pair) (call : CallAsk) (value : ℕ) (old moved new : ThreadState)
     → HasCalled program budget start pairs call old moved → effect_of_call program call (length old.output) ≡ answers value
     → new ≡ record moved { cpu = returned moved.cpu value; steps = moved.steps + 1 }
     → HasCome program budget start pairs new
@@ -53,7 +53,7 @@ answered program budget start pairs call value old moved new way known is =
     (returns pairs old.cpu old.steps old.output call value way.reached way.within way.called known))
 
 -- a write that begins
-begun : (program : Program) (budget : ℕ) (start : Machine) (pairs : List Pair) (call : CallAsk) (mem from count : ℕ) (old moved new : Standing) (result : Option Turn)
+begun : (program : Program) (budget : ℕ) (start : Machine) (pairs : List Pair) (call : CallAsk) (mem from count : ℕ) (old moved new : ThreadState) (result : Option Turn)
     → HasCalled program budget start pairs call old moved → effect_of_call program call (length old.output) ≡ writes_bytes from count
     → BeginsWrite mem from count moved result new
     → IsPrinting program budget start pairs new (write_of from count)
@@ -76,7 +76,7 @@ begun program budget start pairs call mem from count old moved new result way kn
       left = writes.some;
     }
 
-wrote : (program : Program) (budget : ℕ) (start : Machine) (pairs : List Pair) (call : CallAsk) (mem from count : ℕ) (old moved new : Standing) (result : Option Turn)
+wrote : (program : Program) (budget : ℕ) (start : Machine) (pairs : List Pair) (call : CallAsk) (mem from count : ℕ) (old moved new : ThreadState) (result : Option Turn)
     → HasCalled program budget start pairs call old moved → effect_of_call program call (length old.output) ≡ writes_bytes from count
     → BeginsWrite mem from count moved result new
     → ComesTo program budget start pairs (turn.Asks (byte_load from)) new
@@ -87,7 +87,7 @@ wrote program budget start pairs call mem from count old moved new result way kn
     subst (λ a. ComesTo program budget start pairs (turn.Asks (byte_load a)) new) (add-zero from) (asking_byte program budget start pairs new (write_of from count) come some)
 
 -- each of them
-made : (program : Program) (budget : ℕ) (start : Machine) (pairs : List Pair) (call : CallAsk) (mem : ℕ) (effect : CallEffect) (old moved new : Standing) (result : Option Turn)
+made : (program : Program) (budget : ℕ) (start : Machine) (pairs : List Pair) (call : CallAsk) (mem : ℕ) (effect : CallEffect) (old moved new : ThreadState) (result : Option Turn)
     → HasCalled program budget start pairs call old moved → effect_of_call program call (length old.output) ≡ effect
     → AfterCall mem effect moved result new
     → MatchOption result (HasCome program budget start pairs new) (λ turn. ComesTo program budget start pairs turn new)
@@ -102,7 +102,7 @@ made program budget start pairs call mem (writes_bytes from count) old moved new
     (wrote program budget start pairs call mem from count old moved new result way known after)
 
 -- a thread after a call
-pub after_call : (program : Program) (budget : ℕ) (start : Machine) (pairs : List Pair) (call : CallAsk) (mem : ℕ) (old moved new : Standing) (result : Option Turn)
+pub after_call : (program : Program) (budget : ℕ) (start : Machine) (pairs : List Pair) (call : CallAsk) (mem : ℕ) (old moved new : ThreadState) (result : Option Turn)
     → HasCome program budget start pairs old → old.steps < budget → old.printing ≡ None
     → wanted.Call call ≡ wanted_of (next_effect program old.cpu) → moved.cpu ≡ after_next program old.cpu
     → moved.steps ≡ old.steps → moved.output ≡ old.output → moved.printing ≡ None

@@ -8,7 +8,7 @@ use Rattle.guest_calls.specs.Calls.{writes_bytes}
 use Rattle.guest_calls.specs.Run.{Pair, byte_load, byte_loads, returned, Reaches, Asks, prints, asks_byte}
 use Rattle.guest_thread.specs.declared.guests.Printing.{Printing}
 use Rattle.guest_thread.specs.declared.guests.Turn.TheVariants as turn
-use Rattle.guest_thread.specs.Standing.{Standing}
+use Rattle.guest_thread.specs.ThreadState.{ThreadState}
 use Rattle.guest_thread.specs.Turns.{after_byte, after_front_byte, after_last_byte}
 use Rattle.guest_thread.specs.Under.{HasCome, HasComeBy, IsPrinting, Awaits, AwaitsBy, ComesTo}
 use Rattle.guest_thread.proofs.Reached.{reached_at}
@@ -26,7 +26,7 @@ length-more : (bytes : List ℕ) (byte : ℕ) → length (bytes ++ byte ∷ []) 
 length-more bytes byte = length-append bytes (byte ∷ [])
 
 -- it asks for its next byte
-pub asking_byte : (program : Program) (budget : ℕ) (start : Machine) (pairs : List Pair) (standing : Standing) (printing : Printing)
+pub asking_byte : (program : Program) (budget : ℕ) (start : Machine) (pairs : List Pair) (standing : ThreadState) (printing : Printing)
     → HasCome program budget start pairs standing → standing.printing ≡ Some printing
     → ComesTo program budget start pairs (turn.Asks (byte_load (printing.from + printing.loaded))) standing
 asking_byte program budget start pairs standing printing come is =
@@ -49,7 +49,7 @@ pairs_more before pairs from loaded bytes ask byte are number is =
     ∙ ap (λ l. before ++ l) (sym (byte_loads-more from bytes byte))
 
 -- a byte that isn't the last one
-after_front : (program : Program) (budget : ℕ) (start : Machine) (pairs : List Pair) (ask : Ask) (byte : ℕ) (old : Standing) (printing : Printing)
+after_front : (program : Program) (budget : ℕ) (start : Machine) (pairs : List Pair) (ask : Ask) (byte : ℕ) (old : ThreadState) (printing : Printing)
     → IsPrinting program budget start pairs old printing → ask ≡ byte_load (printing.from + printing.loaded) → printing.loaded + 1 < printing.len
     → HasCome program budget start (pairs ++ (ask, byte) ∷ []) (after_front_byte old printing byte)
 after_front program budget start pairs ask byte old printing way is less = record {
@@ -70,7 +70,7 @@ after_front program budget start pairs ask byte old printing way is less = recor
 }
 
 -- the last byte
-after_last : (program : Program) (budget : ℕ) (start : Machine) (pairs : List Pair) (ask : Ask) (byte : ℕ) (old : Standing) (printing : Printing)
+after_last : (program : Program) (budget : ℕ) (start : Machine) (pairs : List Pair) (ask : Ask) (byte : ℕ) (old : ThreadState) (printing : Printing)
     → IsPrinting program budget start pairs old printing → ask ≡ byte_load (printing.from + printing.loaded) → printing.loaded + 1 ≡ printing.len
     → HasCome program budget start (pairs ++ (ask, byte) ∷ []) (after_last_byte old printing byte)
 after_last program budget start pairs ask byte old printing way is last =
@@ -86,7 +86,7 @@ after_last program budget start pairs ask byte old printing way is last =
     (way.writes ∙ ap (writes_bytes printing.from) (sym number))))
 
 -- either
-after_either : (program : Program) (budget : ℕ) (start : Machine) (pairs : List Pair) (ask : Ask) (byte : ℕ) (old : Standing) (printing : Printing) (b : Bool)
+after_either : (program : Program) (budget : ℕ) (start : Machine) (pairs : List Pair) (ask : Ask) (byte : ℕ) (old : ThreadState) (printing : Printing) (b : Bool)
     → IsPrinting program budget start pairs old printing → ask ≡ byte_load (printing.from + printing.loaded) → nat_lt (printing.loaded + 1) printing.len ≡ b
     → HasCome program budget start (pairs ++ (ask, byte) ∷ []) (if b then after_front_byte old printing byte else after_last_byte old printing byte)
 after_either program budget start pairs ask byte old printing true way is test =
@@ -96,7 +96,7 @@ after_either program budget start pairs ask byte old printing false way is test 
     after_last program budget start pairs ask byte old printing way is (grind (arith, nat_tests, test, left))
 
 -- a thread after the reply to the load of a byte
-pub after_byte_reply : (program : Program) (budget : ℕ) (start : Machine) (pairs : List Pair) (ask : Ask) (byte : ℕ) (old new : Standing) (printing : Printing)
+pub after_byte_reply : (program : Program) (budget : ℕ) (start : Machine) (pairs : List Pair) (ask : Ask) (byte : ℕ) (old new : ThreadState) (printing : Printing)
     → Awaits program budget start pairs ask old → old.printing ≡ Some printing → new ≡ after_byte old printing byte
     → HasCome program budget start (pairs ++ (ask, byte) ∷ []) new
 after_byte_reply program budget start pairs ask byte old new printing awaits some is =

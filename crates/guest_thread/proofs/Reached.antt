@@ -8,16 +8,16 @@ use Rattle.a32_step.specs.declared.phases.Wanted.TheVariants as wanted
 use Rattle.a32_step.specs.Machine.{Machine, next_effect, after_next, given, wanted_of}
 use Rattle.guest_calls.specs.Run.{Pair, Reaches, Ends, accesses, steps_on, halts, spends, asks_access}
 use Rattle.guest_thread.specs.declared.guests.Turn.TheVariants as turn
-use Rattle.guest_thread.specs.Standing.{Standing}
+use Rattle.guest_thread.specs.ThreadState.{ThreadState}
 use Rattle.guest_thread.specs.Under.{HasCome, HasComeBy, Awaits, AwaitsBy, ComesTo}
 use Rattle.guest_thread.proofs.Effects.{effect_asks, effect_stops, effect_completes}
 
 -- a thread that isn't in the middle of a write has come to where its core is
-pub reached_by : (program : Program) (budget : ℕ) (start : Machine) (pairs : List Pair) (standing : Standing) → standing.printing ≡ None
+pub reached_by : (program : Program) (budget : ℕ) (start : Machine) (pairs : List Pair) (standing : ThreadState) → standing.printing ≡ None
     → HasCome program budget start pairs standing → Reaches program budget start pairs standing.cpu standing.steps standing.output
 reached_by program budget start pairs standing none come = subst (λ p. HasComeBy program budget start pairs standing p) none come
 
-pub come_by : (program : Program) (budget : ℕ) (start : Machine) (pairs : List Pair) (standing : Standing) → standing.printing ≡ None
+pub come_by : (program : Program) (budget : ℕ) (start : Machine) (pairs : List Pair) (standing : ThreadState) → standing.printing ≡ None
     → Reaches program budget start pairs standing.cpu standing.steps standing.output → HasCome program budget start pairs standing
 come_by program budget start pairs standing none reached = subst (λ p. HasComeBy program budget start pairs standing p) (sym none) reached
 
@@ -33,7 +33,7 @@ reached_at program budget start machine other pairs steps count output text cpu 
 -- ---- by an instruction
 
 -- one that asks for an access
-pub after_asking : (program : Program) (budget : ℕ) (start : Machine) (pairs : List Pair) (ask : Ask) (old new : Standing)
+pub after_asking : (program : Program) (budget : ℕ) (start : Machine) (pairs : List Pair) (ask : Ask) (old new : ThreadState)
     → HasCome program budget start pairs old → old.steps < budget → old.printing ≡ None → new.printing ≡ None
     → wanted.Access ask ≡ wanted_of (next_effect program old.cpu) → new.cpu ≡ after_next program old.cpu
     → new.steps ≡ old.steps → new.output ≡ old.output
@@ -52,7 +52,7 @@ after_asking program budget start pairs ask old new come less none still wants m
     )
 
 -- one that is complete
-pub after_step : (program : Program) (budget : ℕ) (start : Machine) (pairs : List Pair) (old new : Standing)
+pub after_step : (program : Program) (budget : ℕ) (start : Machine) (pairs : List Pair) (old new : ThreadState)
     → HasCome program budget start pairs old → old.steps < budget → old.printing ≡ None → new.printing ≡ None
     → wanted.Done ≡ wanted_of (next_effect program old.cpu) → new.cpu ≡ after_next program old.cpu
     → new.steps ≡ old.steps + 1 → new.output ≡ old.output
@@ -64,7 +64,7 @@ after_step program budget start pairs old new come less none still wants moved s
     (steps_on pairs old.cpu old.steps old.output done.0 (reached_by program budget start pairs old none come) less done.1))
 
 -- one that stops
-pub after_stop : (program : Program) (budget : ℕ) (start : Machine) (pairs : List Pair) (stop : Stop) (old new : Standing)
+pub after_stop : (program : Program) (budget : ℕ) (start : Machine) (pairs : List Pair) (stop : Stop) (old new : ThreadState)
     → HasCome program budget start pairs old → old.steps < budget → old.printing ≡ None
     → wanted.Stopped stop ≡ wanted_of (next_effect program old.cpu)
     → new.steps ≡ old.steps → new.output ≡ old.output
@@ -76,7 +76,7 @@ after_stop program budget start pairs stop old new come less none wants steps ou
     (effect_stops (next_effect program old.cpu) stop wants)))
 
 -- none, since the budget is spent
-pub at_budget : (program : Program) (budget : ℕ) (start : Machine) (pairs : List Pair) (standing : Standing)
+pub at_budget : (program : Program) (budget : ℕ) (start : Machine) (pairs : List Pair) (standing : ThreadState)
     → HasCome program budget start pairs standing → standing.printing ≡ None → standing.steps ≡ budget
     → ComesTo program budget start pairs (turn.Ended stop.Budget) standing
 at_budget program budget start pairs standing come none spent =
@@ -86,7 +86,7 @@ at_budget program budget start pairs standing come none spent =
 
 -- ---- by a reply
 
-pub after_reply : (program : Program) (budget : ℕ) (start : Machine) (pairs : List Pair) (ask : Ask) (reply : ℕ) (old new : Standing)
+pub after_reply : (program : Program) (budget : ℕ) (start : Machine) (pairs : List Pair) (ask : Ask) (reply : ℕ) (old new : ThreadState)
     → Awaits program budget start pairs ask old → old.printing ≡ None → new.printing ≡ None
     → new.cpu ≡ given old.cpu reply → new.steps ≡ old.steps → new.output ≡ old.output
     → HasCome program budget start (pairs ++ (ask, reply) ∷ []) new

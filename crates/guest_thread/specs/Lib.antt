@@ -2,7 +2,7 @@ pub mod Accesses
 pub mod Counts
 pub mod End
 pub mod Progress
-pub mod Standing
+pub mod ThreadState
 pub mod Start
 pub mod Turns
 pub mod Under

@@ -7,15 +7,15 @@ use Rattle.guest_calls.specs.Run.{byte_load, returned}
 use Rattle.guest_thread.specs.declared.guests.Printing.{Printing}
 use Rattle.guest_thread.specs.declared.guests.Turn.{Turn}
 use Rattle.guest_thread.specs.declared.guests.Turn.TheVariants as turn
-use Rattle.guest_thread.specs.Standing.{Standing}
+use Rattle.guest_thread.specs.ThreadState.{ThreadState}
 
 -- no write is under way, and its core waits for nothing
-pub record IsAtTurn (standing : Standing) : Type 0 where
+pub record IsAtTurn (standing : ThreadState) : Type 0 where
   pub printing : standing.printing ≡ None
   pub ready : IsReady standing.cpu.phase
 
 -- the same, one step on
-pub record IsOneStepOn (old new : Standing) : Type 0 where
+pub record IsOneStepOn (old new : ThreadState) : Type 0 where
   pub at_turn : IsAtTurn new
   pub steps : new.steps ≡ old.steps + 1
 
@@ -24,7 +24,7 @@ abbrev pub write_of : (from count : ℕ) → Printing
 write_of from count = record { from = from; len = count; loaded = 0 }
 
 -- a write begins, whose bytes lie in memory of so many bytes and have room in the output, and asks for its first byte
-pub record BeginsWrite (mem from count : ℕ) (old : Standing) (result : Option Turn) (new : Standing) : Type 0 where
+pub record BeginsWrite (mem from count : ℕ) (old : ThreadState) (result : Option Turn) (new : ThreadState) : Type 0 where
   pub asks : result ≡ Some (turn.Asks (byte_load from))
   pub moved : new ≡ record old { printing = Some (write_of from count) }
   pub some : 0 < count
@@ -33,7 +33,7 @@ pub record BeginsWrite (mem from count : ℕ) (old : Standing) (result : Option 
 
 -- What a call makes of a thread that waits for its answer, in memory of so many bytes: the exit is one step, and so is
 -- an answer.
-abbrev pub AfterCall : ℕ → CallEffect → Standing → Option Turn → Standing → Type 0
+abbrev pub AfterCall : ℕ → CallEffect → ThreadState → Option Turn → ThreadState → Type 0
 AfterCall mem (exits code) old result new =
     (result ≡ Some (turn.Ended (stop.Exit code))) × (new ≡ record old { steps = old.steps + 1 })
 AfterCall mem (answers value) old result new =
@@ -41,14 +41,14 @@ AfterCall mem (answers value) old result new =
 AfterCall mem (writes_bytes from count) old result new = BeginsWrite mem from count old result new
 
 -- a thread after a byte of its write that isn't the last one
-abbrev pub after_front_byte : Standing → Printing → ℕ → Standing
+abbrev pub after_front_byte : ThreadState → Printing → ℕ → ThreadState
 after_front_byte old printing byte = record old {
   output = old.output ++ byte ∷ [];
   printing = Some (record printing { loaded = printing.loaded + 1 });
 }
 
 -- after the last one: the call is answered by the number of the bytes, which is one step
-abbrev pub after_last_byte : Standing → Printing → ℕ → Standing
+abbrev pub after_last_byte : ThreadState → Printing → ℕ → ThreadState
 after_last_byte old printing byte = record {
   cpu = returned old.cpu printing.len;
   steps = old.steps + 1;
@@ -56,6 +56,6 @@ after_last_byte old printing byte = record {
   printing = None;
 }
 
-abbrev pub after_byte : Standing → Printing → ℕ → Standing
+abbrev pub after_byte : ThreadState → Printing → ℕ → ThreadState
 after_byte old printing byte =
     if nat_lt (printing.loaded + 1) printing.len then after_front_byte old printing byte else after_last_byte old printing byte

@@ -10,10 +10,10 @@ use Rattle.guest_calls.specs.Run.{Pair, byte_load, byte_loads, effect_of_call, R
 use Rattle.guest_thread.specs.declared.guests.Printing.{Printing}
 use Rattle.guest_thread.specs.declared.guests.Turn.{Turn}
 use Rattle.guest_thread.specs.declared.guests.Turn.TheVariants as turn
-use Rattle.guest_thread.specs.Standing.{Standing}
+use Rattle.guest_thread.specs.ThreadState.{ThreadState}
 
 -- in the middle of a write, some of whose bytes were loaded
-pub record IsPrinting (program : Program) (budget : ℕ) (start : Machine) (pairs : List Pair) (standing : Standing) (printing : Printing) : Type 0 where
+pub record IsPrinting (program : Program) (budget : ℕ) (start : Machine) (pairs : List Pair) (standing : ThreadState) (printing : Printing) : Type 0 where
   pub before : List Pair
   pub machine : Machine
   pub output : List ℕ
@@ -29,34 +29,34 @@ pub record IsPrinting (program : Program) (budget : ℕ) (start : Machine) (pair
   pub loaded : length bytes ≡ printing.loaded
   pub left : printing.loaded < printing.len
 
-abbrev pub HasComeBy : Program → ℕ → Machine → List Pair → Standing → Option Printing → Type 0
+abbrev pub HasComeBy : Program → ℕ → Machine → List Pair → ThreadState → Option Printing → Type 0
 HasComeBy program budget start pairs standing None = Reaches program budget start pairs standing.cpu standing.steps standing.output
 HasComeBy program budget start pairs standing (Some printing) = IsPrinting program budget start pairs standing printing
 
 -- a thread has come so far, with these accesses and replies
-abbrev pub HasCome : Program → ℕ → Machine → List Pair → Standing → Type 0
+abbrev pub HasCome : Program → ℕ → Machine → List Pair → ThreadState → Type 0
 HasCome program budget start pairs standing = HasComeBy program budget start pairs standing standing.printing
 
 -- in the middle of an instruction, which has asked for an access
-pub record IsAsking (program : Program) (budget : ℕ) (start : Machine) (pairs : List Pair) (ask : Ask) (standing : Standing) : Type 0 where
+pub record IsAsking (program : Program) (budget : ℕ) (start : Machine) (pairs : List Pair) (ask : Ask) (standing : ThreadState) : Type 0 where
   pub machine : Machine
   pub reached : Reaches program budget start pairs machine standing.steps standing.output
   pub within : standing.steps < budget
   pub asked : next_effect program machine ≡ asks ask
   pub cpu : standing.cpu ≡ after_next program machine
 
-abbrev pub AwaitsBy : Program → ℕ → Machine → List Pair → Ask → Standing → Option Printing → Type 0
+abbrev pub AwaitsBy : Program → ℕ → Machine → List Pair → Ask → ThreadState → Option Printing → Type 0
 AwaitsBy program budget start pairs ask standing None = IsAsking program budget start pairs ask standing
 AwaitsBy program budget start pairs ask standing (Some printing) =
     IsPrinting program budget start pairs standing printing × (ask ≡ byte_load (printing.from + printing.loaded))
 
 -- a thread has come so far and awaits the reply to this
-abbrev pub Awaits : Program → ℕ → Machine → List Pair → Ask → Standing → Type 0
+abbrev pub Awaits : Program → ℕ → Machine → List Pair → Ask → ThreadState → Type 0
 Awaits program budget start pairs ask standing = AwaitsBy program budget start pairs ask standing standing.printing
 
 -- What a thread's turn comes to: what it asks is what its run asks next, and it awaits the reply; or its run has ended,
 -- with its steps and its output.
-abbrev pub ComesTo : Program → ℕ → Machine → List Pair → Turn → Standing → Type 0
+abbrev pub ComesTo : Program → ℕ → Machine → List Pair → Turn → ThreadState → Type 0
 ComesTo program budget start pairs (turn.Asks ask) standing =
     Asks program budget start pairs ask × Awaits program budget start pairs ask standing
 ComesTo program budget start pairs (turn.Ended stop) standing =

@@ -32,7 +32,11 @@ impl Model for PlainMemory {
 }
 
 impl PlainMemory {
-    /// Memory of these bytes for so many threads, none of them marked.
+    /// Memory of these bytes, a multiple of 8 of them, for 1 to 16 threads, none of them marked.
+    ///
+    /// # Errors
+    ///
+    /// `AllocError` is want of memory.
     pub fn new(alloc: Global, bytes: &[u8], threads: u32) -> Result<PlainMemory, AllocError>
         requires whole { length bytes.now % 8 ≡ 0 }
         requires some { 1 ≤ threads }
@@ -44,7 +48,7 @@ impl PlainMemory {
         Ok(PlainMemory { cells, marks })
     }
 
-    /// A load: the value of the place.
+    /// A load: the value of the place, which is aligned and lies in memory, here as below.
     #[inline]
     pub fn load(&self, place: Place) -> u64
         requires aligned { IsTrue (is_aligned place) }
@@ -55,7 +59,8 @@ impl PlainMemory {
         value_of(&self.cells, place)
     }
 
-    /// A store of a thread.
+    /// A store of a thread, of a value below 2 to the 8, 16, 32 or 64 by the place's size. It ends each mark on the row of
+    /// the place, whosever it is.
     #[inline]
     pub fn store(&mut self, t: u32, place: Place, value: u64)
         requires thread { t < length self.old.marks }
@@ -85,7 +90,8 @@ impl PlainMemory {
     }
 
     /// A store-exclusive of a thread, and whether it succeeded: exactly where the thread is marked on the row of the
-    /// place.
+    /// place. One that succeeded ends each mark on the row; one that failed stores nothing. Either ends the thread's own
+    /// mark.
     #[inline]
     pub fn store_ex(&mut self, t: u32, place: Place, value: u64) -> bool
         requires thread { t < length self.old.marks }

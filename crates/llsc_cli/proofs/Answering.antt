@@ -3,10 +3,10 @@ use Rattle.std.proofs.Common.{◌≡◌, ℕ, ◌<◌, ◌⊎◌, inl, inr, List
 use Rattle.std.proofs.lemmas.Bool.Decides.{nat_tests}
 use Rattle.llsc_base.specs.Sizes.{Numbers}
 use Rattle.llsc_cli.specs.Host.{AreBytes, Adds, AddsFront}
-use Rattle.llsc_cli.specs.Refusals.{Answer, refused, read_text, refusal_text, most_bytes, too_long, size_refusal, Refusal, Refuses, Unless}
+use Rattle.llsc_cli.specs.Refusals.{Answer, refused, read_text, refusal_text, most_program, too_long, size_refusal, Refusal, Refuses, Unless}
 use Rattle.llsc_cli.specs.Programs.{fault_name, is_wanting, program_refusal, refusal_on, IsFaultBy}
 use Rattle.llsc_cli.specs.Answer.{Is, IsDone}
-use Rattle.llsc_cli.specs.Reads.{Answered, CutAfter, IsCutFile, Ends, EndsFor, Gives}
+use Rattle.llsc_cli.specs.Reads.{Answered, CutAfter, IsCutFile, CallEnds, EndsFor, Gives}
 use Rattle.llsc_cli.specs.declared.formats.Format.{Format}
 use Rattle.llsc_cli.specs.declared.programs.ProgramFault.{ProgramFault}
 use Rattle.llsc_cli.specs.declared.host.ReadFault.{ReadFault}
@@ -16,7 +16,7 @@ use Rattle.llsc_cli.specs.declared.host.ReadFault.TheVariants as read
 pub done_four : (status : ℕ) → (status ≡ 3) ⊎ ((status ≡ 4) ⊎ ((status ≡ 5) ⊎ (status ≡ 6))) → IsDone status → status ≡ 4
 done_four status ended done = grind arith
 
--- Ends.
+-- CallEnds.
 
 -- an end that is answered so is also answered otherwise, where the answers are among those
 pub ends_for : {F G : Type 0} {A : F → ℕ → List ℕ → Type 0} {B : G → ℕ → List ℕ → Type 0} {M : F → Type 0} {N : G → Type 0} {X Y : Type 0}
@@ -39,7 +39,7 @@ ends_for {F} {G} {A} {B} {M} {N} {X} {Y} old new status also more ends = record 
     cut_as (inr failed) = inr (more failed.0, failed.1)
 
 pub ends_as : {A B : List ℕ → ℕ → List ℕ → Type 0} {X Y : Type 0} (held old new : Option (List ℕ)) (status : ℕ)
-    → ((file : List ℕ) (s : ℕ) (text : List ℕ) → A file s text → B file s text) → (X → Y) → Ends A held X old new status → Ends B held Y old new status
+    → ((file : List ℕ) (s : ℕ) (text : List ℕ) → A file s text → B file s text) → (X → Y) → CallEnds A held X old new status → CallEnds B held Y old new status
 ends_as {A} {B} {X} {Y} held old new status also more ends = ends_for old new status (λ file s text may a. (file, (may, also file s text a))) more ends
 
 -- an answer of a file that the host may hold
@@ -47,7 +47,7 @@ pub ends_done : {A : List ℕ → ℕ → List ℕ → Type 0} {X : Type 0} (hel
     → AreBytes held file → IsDone status ⊎ ((status ≡ 5) ⊎ (status ≡ 6))
     → (IsDone status → (text : List ℕ) × (A file status text × Adds old new text))
     → (status ≡ 5 → (s : ℕ) × (text : List ℕ) × (A file s text × AddsFront old new text))
-    → (status ≡ 6 → new ≡ old) → Ends A held X old new status
+    → (status ≡ 6 → new ≡ old) → CallEnds A held X old new status
 ends_done held old new status file bytes ended done cut memory = record {
   ended = grind arith;
   done = λ d. let a = done d in (file, a.0, (bytes, a.1));
@@ -69,7 +69,7 @@ pub ends_unread : {X : Type 0} (most : ℕ) (fault : ReadFault) (held old new : 
     → (status ≡ 3 → fault ≡ read.Failed) → (status ≡ 4 → fault ≡ read.FileTooLong)
     → (status ≡ 3 → Adds old new read_text) → (status ≡ 4 → Adds old new (refusal_text (codes "FileTooLong")))
     → (status ≡ 5 → CutAfter fault old new) → (status ≡ 6 → new ≡ old)
-    → Ends (Refuses (too_long most)) held X old new status
+    → CallEnds (Refuses (too_long most)) held X old new status
 ends_unread {X} most fault held old new status failed long ended three four said said_long cut memory = record {
   ended = grind arith;
   done = λ done.
@@ -180,7 +180,7 @@ gives_wanting answer old new status other six same = record {
 -- an answer of a file that the host may hold
 pub ends_given : {X : Type 0} (answer : List ℕ → Answer) (held old new : Option (List ℕ)) (status : ℕ) (file : List ℕ)
     → AreBytes held file → IsDone (answer file).status → Gives (answer file) old new status
-    → Ends (λ f s t. Is (answer f) s t) held X old new status
+    → CallEnds (λ f s t. Is (answer f) s t) held X old new status
 ends_given answer held old new status file bytes done gives =
     ends_done held old new status file bytes (grind arith)
     (λ d. let is : status ≡ (answer file).status = grind arith in ((answer file).text, ((is, refl), gives.done is)))
@@ -196,12 +196,12 @@ refused_unsized format size file status text refused = (refused.0, (rw refused.1
 
 -- a file that is too long
 pub refuses_sized : (format : Format) (size : Numbers) → size_refusal size ≡ None → (file : List ℕ) (status : ℕ) (text : List ℕ)
-    → Refuses (too_long most_bytes) file status text → Refuses (program_refusal format size) file status text
+    → Refuses (too_long most_program) file status text → Refuses (program_refusal format size) file status text
 refuses_sized format size none file status text refused = (refused.0, (rw (none, refused.1.0) refl, refused.1.1))
 
 -- a file that isn't, which has a fault or has none
 pub program_refusal_is : (format : Format) (size wanted : Numbers) (file : List ℕ) (fault : Option (List ℕ)) → size_refusal wanted ≡ None → size ≡ wanted
-    → too_long most_bytes file ≡ None → refusal_on format size file ≡ fault → program_refusal format wanted file ≡ fault
+    → too_long most_program file ≡ None → refusal_on format size file ≡ fault → program_refusal format wanted file ≡ fault
 program_refusal_is format size wanted file fault none same short is = rw (none, short) (subst (λ s. refusal_on format s file ≡ fault) same is)
 
 -- a file that has a fault, or for whose image memory is wanting
@@ -220,7 +220,7 @@ answered_program format size file fault old new status is alone ended said cut m
     by_refusal None stands wanting = answered_wanting old new status (alone wanting) (memory (alone wanting))
 
 -- a file on a machine that can be, which is not too long, by what stands against it
-pub refused_short : (format : Format) (size wanted : Numbers) (file : List ℕ) → size_refusal wanted ≡ None → size ≡ wanted → too_long most_bytes file ≡ None
+pub refused_short : (format : Format) (size wanted : Numbers) (file : List ℕ) → size_refusal wanted ≡ None → size ≡ wanted → too_long most_program file ≡ None
     → (status : ℕ) (text : List ℕ) → Refusal (refusal_on format size file) status text → Refusal (program_refusal format wanted file) status text
 refused_short format size wanted file none same short status text refused =
     (refused.0, (program_refusal_is format size wanted file (Some refused.0) none same short refused.1.0, refused.1.1))

@@ -1,17 +1,17 @@
 -- How a call ends that was asked for something.
-use Rattle.std.proofs.Common.{◌≡◌, ◌≢◌, ℕ, ◌⊎◌, inl, inr, List, [], ◌∷◌, map, All, Option, Some, None, refl, sym, subst}
+use Rattle.std.proofs.Common.{◌≡◌, ◌≢◌, ℕ, ◌⊎◌, inl, inr, List, [], ◌∷◌, Option, Some, None, refl, subst}
 use Rattle.std.proofs.lemmas.List.Elements.{recursion_from_All}
 use Rattle.llsc_cli.specs.Host.{AreBytes, Adds}
 use Rattle.llsc_cli.specs.Request.{Request, Solo, Assemble, Disassemble, Trace, Check, files_of}
 use Rattle.llsc_cli.specs.Answer.{Answers, AreFiles, AreTold, IsDue, IsNoneOf}
-use Rattle.llsc_cli.specs.Reads.{Ends, EndsAsked}
+use Rattle.llsc_cli.specs.Reads.{CallEnds, EndsAsked}
 use Rattle.llsc_cli.proofs.Answering.{ends_for}
 
 -- a request of one file
 pub ends_one : {A : List ℕ → ℕ → List ℕ → Type 0} {X Y : Type 0} (held : List ℕ → Option (List ℕ)) (asked : Request) (name : List ℕ)
     (old new : Option (List ℕ)) (status : ℕ) → name ∷ [] ≡ files_of asked
     → ((file : List ℕ) (s : ℕ) (text : List ℕ) → A file s text → Answers asked (file ∷ []) s text) → (X → Y)
-    → Ends A (held name) X old new status → EndsAsked held asked Y old new status
+    → CallEnds A (held name) X old new status → EndsAsked held asked Y old new status
 ends_one {A} {X} {Y} held asked name old new status one also more ends =
     ends_for old new status
     (λ file s text may a. (file ∷ [], (subst (λ names. AreFiles held names (file ∷ [])) one (may, tt), also file s text a)))

@@ -1,15 +1,14 @@
 -- What a record is answered with.
-use Rattle.std.proofs.Common.{◌≡◌, ℕ, inl, inr, List, None, Ok, Err, Result, refl, sym, subst}
+use Rattle.std.proofs.Common.{◌≡◌, ℕ, inl, inr, List, None, refl, subst}
 use Rattle.llsc_base.specs.Sizes.{Numbers}
 use Rattle.llsc_base.specs.Images.{Program}
 use Rattle.run_record.specs.Reading.{record_of}
-use Rattle.run_record.specs.declared.faults.RecordFault.{RecordFault}
 use Rattle.run_record.specs.declared.records.RunRecord.{RunRecord}
 use Rattle.run_checker.specs.declared.verdicts.Verdict.{Verdict}
 use Rattle.run_checker.specs.declared.verdicts.Verdict.TheVariants as verdict
 use Rattle.llsc_cli.specs.declared.formats.Format.{Format}
 use Rattle.llsc_cli.specs.Programs.{image_of, program_refusal, refusal_on}
-use Rattle.llsc_cli.specs.Refusals.{machine_of, most_bytes, size_refusal, too_long, Refusal, Refuses}
+use Rattle.llsc_cli.specs.Refusals.{machine_of, most_program, size_refusal, too_long, Refusal, Refuses}
 use Rattle.llsc_cli.specs.Check.{files_refusal, most_record, verdict_status, AnswersCheck, IsJudged, JudgesRead, JudgesRun}
 use Rattle.llsc_cli.specs.Answer.{IsDone}
 use Rattle.llsc_cli.proofs.Answering.{program_refusal_is, refused_short, refused_unsized, unless_none, unless_refused}
@@ -28,7 +27,7 @@ run_unsized format mem threads file run same status text refused =
     unless_refused (IsJudged (image_of format file size) size run) (program_refusal format size file) status text (refused_unsized format size file status text here)
 
 pub run_refused : (format : Format) (mem : ℕ) (size : Numbers) (file : List ℕ) (run : RunRecord)
-    → size_refusal (machine_of run.threads mem) ≡ None → size ≡ machine_of run.threads mem → too_long most_bytes file ≡ None
+    → size_refusal (machine_of run.threads mem) ≡ None → size ≡ machine_of run.threads mem → too_long most_program file ≡ None
     → (status : ℕ) (text : List ℕ) → Refusal (refusal_on format size file) status text → JudgesRun format mem file run status text
 run_refused format mem size file run none same short status text refused =
     let wanted = machine_of run.threads mem in
@@ -36,7 +35,7 @@ run_refused format mem size file run none same short status text refused =
 
 -- a verdict on a record of an image's threads
 pub run_judged : (format : Format) (mem : ℕ) (size : Numbers) (file : List ℕ) (image : Program) (run : RunRecord)
-    → size_refusal (machine_of run.threads mem) ≡ None → size ≡ machine_of run.threads mem → too_long most_bytes file ≡ None
+    → size_refusal (machine_of run.threads mem) ≡ None → size ≡ machine_of run.threads mem → too_long most_program file ≡ None
     → refusal_on format size file ≡ None → image ≡ image_of format file size
     → (status : ℕ) (text : List ℕ) → IsJudged image size run status text → JudgesRun format mem file run status text
 run_judged format mem size file image run none same short clean whole status text judged =
@@ -47,16 +46,16 @@ run_judged format mem size file image run none same short clean whole status tex
 
 -- files that are too long, and those that are not
 pub check_program_long : (format : Format) (mem : ℕ) (file recorded : List ℕ) (status : ℕ) (text : List ℕ)
-    → Refuses (too_long most_bytes) file status text → AnswersCheck format mem file recorded status text
+    → Refuses (too_long most_program) file status text → AnswersCheck format mem file recorded status text
 check_program_long format mem file recorded status text refused =
     unless_refused (JudgesRead format mem file (record_of recorded)) (files_refusal file recorded) status text (refused.0, (rw refused.1.0 refl, refused.1.1))
 
-pub check_record_long : (format : Format) (mem : ℕ) (file recorded : List ℕ) → too_long most_bytes file ≡ None → (status : ℕ) (text : List ℕ)
+pub check_record_long : (format : Format) (mem : ℕ) (file recorded : List ℕ) → too_long most_program file ≡ None → (status : ℕ) (text : List ℕ)
     → Refuses (too_long most_record) recorded status text → AnswersCheck format mem file recorded status text
 check_record_long format mem file recorded short status text refused =
     unless_refused (JudgesRead format mem file (record_of recorded)) (files_refusal file recorded) status text (refused.0, (rw (short, refused.1.0) refl, refused.1.1))
 
-pub check_judged : (format : Format) (mem : ℕ) (file recorded : List ℕ) → too_long most_bytes file ≡ None → too_long most_record recorded ≡ None
+pub check_judged : (format : Format) (mem : ℕ) (file recorded : List ℕ) → too_long most_program file ≡ None → too_long most_record recorded ≡ None
     → (status : ℕ) (text : List ℕ) → JudgesRead format mem file (record_of recorded) status text → AnswersCheck format mem file recorded status text
 check_judged format mem file recorded short few status text judged =
     unless_none (JudgesRead format mem file (record_of recorded)) (files_refusal file recorded) status text (rw (short, few) refl) judged

@@ -1,5 +1,5 @@
 -- From an end of a run to its answer.
-use Rattle.std.proofs.Common.{◌≡◌, ℕ, ◌⊎◌, List, Option, None, refl, sym, subst, arith}
+use Rattle.std.proofs.Common.{◌≡◌, ℕ, ◌⊎◌, List, Option, None, refl, subst, arith}
 use Rattle.llsc_base.specs.Sizes.{Numbers}
 use Rattle.llsc_base.specs.Images.{Program}
 use Rattle.guest_thread.specs.declared.ends.GuestEnd.{GuestEnd}
@@ -11,7 +11,7 @@ use Rattle.llsc_cli.specs.Programs.{image_of, program_refusal}
 use Rattle.llsc_cli.specs.Refusals.{solo_size, Refuses}
 use Rattle.llsc_cli.specs.Trace.{status_of}
 use Rattle.llsc_cli.specs.Answer.{AnswersSolo, IsDone, IsReported}
-use Rattle.llsc_cli.specs.Reads.{Ends}
+use Rattle.llsc_cli.specs.Reads.{CallEnds}
 use Rattle.llsc_cli.proofs.Answering.{ends_done, unless_none, unless_refused}
 
 -- a refusal
@@ -39,7 +39,7 @@ pub ends_run : {X : Type 0} (format : Format) (mem budget : ℕ) (file : List �
     → ((status ≡ 0) ⊎ (status ≡ 1) → (end : GuestEnd) × (IsSoloEnd image size budget end × ((status ≡ status_of end.stop) × Adds old new (report_of budget end))))
     → (status ≡ 5 → (end : GuestEnd) × (IsSoloEnd image size budget end × AddsFront old new (report_of budget end)))
     → (status ≡ 6 → new ≡ old)
-    → Ends (AnswersSolo format mem budget) held X old new status
+    → CallEnds (AnswersSolo format mem budget) held X old new status
 ends_run format mem budget file size image held old new status bytes clean same whole ended done cut memory =
     ends_done held old new status file bytes (grind arith)
     (λ d. let r = done (grind arith) in (report_of budget r.0, (solo_run format mem budget file size image r.0 status clean same whole r.1.0 r.1.1.0, r.1.1.1)))

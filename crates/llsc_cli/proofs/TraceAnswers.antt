@@ -1,5 +1,5 @@
 -- What a trace is answered with.
-use Rattle.std.proofs.Common.{◌≡◌, ℕ, inl, inr, Bool, true, false, if◌then◌else◌, List, None, refl, sym, subst}
+use Rattle.std.proofs.Common.{◌≡◌, ℕ, inl, inr, Bool, true, false, if◌then◌else◌, List, None, refl, subst}
 use Rattle.llsc_base.specs.Sizes.{Numbers}
 use Rattle.llsc_base.specs.Images.{Program}
 use Rattle.guest_thread.specs.declared.ends.GuestEnd.{GuestEnd}

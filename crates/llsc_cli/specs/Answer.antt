@@ -12,7 +12,7 @@ use Rattle.llsc_cli.specs.Assembly.{asm_answer}
 use Rattle.llsc_cli.specs.Disassembly.{dis_answer}
 use Rattle.llsc_cli.specs.Trace.{status_of, AnswersTrace}
 use Rattle.llsc_cli.specs.Check.{AnswersCheck}
-use Rattle.llsc_cli.specs.Refusals.{Answer, words_text, read_text, machine_of, most_bytes, solo_size, size_refusal, too_long, Unless}
+use Rattle.llsc_cli.specs.Refusals.{Answer, words_text, read_text, machine_of, most_program, solo_size, size_refusal, too_long, Unless}
 use Rattle.llsc_cli.specs.Programs.{image_of, program_refusal}
 
 -- a run of a program's one thread, with the report and the status by its stop
@@ -67,7 +67,7 @@ IsDue held (Assemble file format) name = name ≡ file
 IsDue held (Disassemble file format mem) name = (name ≡ file) × (size_refusal (solo_size mem) ≡ None)
 IsDue held (Trace file format threads mem seed budget) name = (name ≡ file) × (size_refusal (machine_of threads mem) ≡ None)
 IsDue held (Check file recorded format mem) name =
-    (name ≡ file) ⊎ ((name ≡ recorded) × ((bytes : List ℕ) × (AreBytes (held file) bytes × (too_long most_bytes bytes ≡ None))))
+    (name ≡ file) ⊎ ((name ≡ recorded) × ((bytes : List ℕ) × (AreBytes (held file) bytes × (too_long most_program bytes ≡ None))))
 
 -- the statuses of an answer that was given whole
 abbrev pub IsDone : ℕ → Type 0

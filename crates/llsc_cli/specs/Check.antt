@@ -14,7 +14,7 @@ use Rattle.run_checker.specs.declared.verdicts.Verdict.{Verdict}
 use Rattle.run_checker.specs.declared.verdicts.Verdict.TheVariants as verdict
 use Rattle.llsc_cli.specs.declared.formats.Format.{Format}
 use Rattle.llsc_cli.specs.Programs.{image_of, program_refusal}
-use Rattle.llsc_cli.specs.Refusals.{machine_of, most_bytes, refusal_text, too_long, Unless}
+use Rattle.llsc_cli.specs.Refusals.{machine_of, most_program, refusal_text, too_long, Unless}
 
 -- the most bytes of a record's file
 abbrev pub most_record : ℕ
@@ -22,7 +22,7 @@ most_record = 67108864
 
 -- what stands against the files before they are looked into: that the program's is too long, or else that the record's is
 abbrev pub files_refusal : (file recorded : List ℕ) → Option (List ℕ)
-files_refusal file recorded = option_or (too_long most_bytes file) (too_long most_record recorded)
+files_refusal file recorded = option_or (too_long most_program file) (too_long most_record recorded)
 
 -- a record's fault by its name, and its line where it is a line's
 abbrev pub record_fault_text : RecordFault → List ℕ

@@ -40,10 +40,10 @@ read_of held name most =
     if is_some (failure_at held.failing held.calls) then Err Failed else bytes_within most (file_of held.files name)
 
 -- the answer is that one, or want of memory in place of bytes
-abbrev pub IsAnswer : Result (List ℕ) ReadFault → Result (Vec ℕ Global) ReadFault → Type 0
-IsAnswer (Ok bytes) (Ok given) = given.items ≡ bytes
-IsAnswer (Ok bytes) (Err fault) = fault ≡ Memory
-IsAnswer (Err fault) result = result ≡ Err fault
+abbrev pub IsReadAnswer : Result (List ℕ) ReadFault → Result (Vec ℕ Global) ReadFault → Type 0
+IsReadAnswer (Ok bytes) (Ok given) = given.items ≡ bytes
+IsReadAnswer (Ok bytes) (Err fault) = fault ≡ Memory
+IsReadAnswer (Err fault) result = result ≡ Err fault
 
 -- the host after a read that gave that
 abbrev pub after_read : Held → List ℕ → Result (List ℕ) ReadFault → Held

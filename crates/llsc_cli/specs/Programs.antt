@@ -12,7 +12,7 @@ use Rattle.llsc_cli.specs.declared.formats.Format.{Format}
 use Rattle.llsc_cli.specs.declared.formats.Format.TheVariants.{Elf, Flat}
 use Rattle.llsc_cli.specs.declared.programs.ProgramFault.{ProgramFault}
 use Rattle.llsc_cli.specs.declared.programs.ProgramFault.TheVariants as fault
-use Rattle.llsc_cli.specs.Refusals.{too_long, most_bytes, size_refusal}
+use Rattle.llsc_cli.specs.Refusals.{too_long, most_program, size_refusal}
 
 -- what stands against a file on a machine: the first fault that its format has
 abbrev pub refusal_on : Format → Numbers → List ℕ → Option (List ℕ)
@@ -23,7 +23,7 @@ refusal_on Flat size file = option_map flat_fault_name (flat_fault file size)
 -- length, or its first fault there
 abbrev pub program_refusal : Format → Numbers → List ℕ → Option (List ℕ)
 program_refusal format size file =
-    option_or (size_refusal size) (option_or (too_long most_bytes file) (refusal_on format size file))
+    option_or (size_refusal size) (option_or (too_long most_program file) (refusal_on format size file))
 
 -- the image of a file on a machine
 abbrev pub image_of : Format → List ℕ → Numbers → Program

@@ -34,8 +34,8 @@ pub record EndsFor {F : Type 0} (answers : F → ℕ → List ℕ → Type 0) (m
   pub memory : status ≡ 6 → new ≡ old
 
 -- a call ended that had one file to answer for
-abbrev pub Ends : (List ℕ → ℕ → List ℕ → Type 0) → Option (List ℕ) → Type 0 → Option (List ℕ) → Option (List ℕ) → ℕ → Type 0
-Ends answers held read_failed old new status = EndsFor answers (AreBytes held) read_failed old new status
+abbrev pub CallEnds : (List ℕ → ℕ → List ℕ → Type 0) → Option (List ℕ) → Type 0 → Option (List ℕ) → Option (List ℕ) → ℕ → Type 0
+CallEnds answers held read_failed old new status = EndsFor answers (AreBytes held) read_failed old new status
 
 -- a call ended that had the files of a request to answer for
 abbrev pub EndsAsked : (List ℕ → Option (List ℕ)) → Request → Type 0 → Option (List ℕ) → Option (List ℕ) → ℕ → Type 0

@@ -30,8 +30,8 @@ unless (Some name) answer = refused name
 unless None answer = answer
 
 -- the most bytes of a program file
-abbrev pub most_bytes : ℕ
-most_bytes = 33554432
+abbrev pub most_program : ℕ
+most_program = 33554432
 
 -- the machine of so many threads with so much memory: 4096 classes, and writes without a bound that a run could reach
 abbrev pub machine_of : (threads mem : ℕ) → Numbers

@@ -1,9 +1,9 @@
 //! The files of a call: had, or refused.
 ghost use Rattle.std.specs.Prelude.{◌≡◌, ◌≢◌, codes, ◌<◌, ◌≤◌, ◌⊎◌, List, ℕ, None, Some, IfOk, OnOk, IfErr, OnErr, IsTrue, length};
 ghost use Rattle.llsc_cli.specs.Host.{Adds, AddsFront, AreBytes, Rose};
-ghost use Rattle.llsc_cli.specs.Refusals.{machine_of, read_text, refusal_text, too_long, most_bytes, size_refusal, Refusal, Refuses};
+ghost use Rattle.llsc_cli.specs.Refusals.{machine_of, read_text, refusal_text, too_long, most_program, size_refusal, Refusal, Refuses};
 ghost use Rattle.llsc_cli.specs.Programs.{fault_name, image_of, is_wanting, program_refusal, refusal_on};
-ghost use Rattle.llsc_cli.specs.Reads.{Answered, CutAfter, Ends};
+ghost use Rattle.llsc_cli.specs.Reads.{Answered, CutAfter, CallEnds};
 
 use crate::ended::{Ended, out_of_memory, refuse, say};
 use crate::formats::Format;
@@ -53,7 +53,7 @@ pub fn read<H: Host>(alloc: Global, host: &mut H, name: &str, most: usize) -> Re
     ensures silent { OnOk result (H.written host.new ≡ H.written host.old) }
     ensures unfailed { OnOk result ((H.read_faults host.new ≡ H.read_faults host.old) × (H.write_faults host.new ≡ H.write_faults host.old)) }
     ensures files { OnOk result (H.file host.new ≡ H.file host.old) }
-    ensures ends { IfErr result (λ ended. Ends (Refuses (too_long most)) (H.file host.old name.now)
+    ensures ends { IfErr result (λ ended. CallEnds (Refuses (too_long most)) (H.file host.old name.now)
         (Rose (H.read_faults host.old) (H.read_faults host.new) × (H.lost host.new ≡ name.now)) (H.written host.old) (H.written host.new) ended.status) }
     ensures write { IfErr result (λ ended. ended.status ≡ 5 → Rose (H.write_faults host.old) (H.write_faults host.new)) }
     ensures write_answered { IfErr result (λ ended. ended.status ≢ 5 → H.write_faults host.new ≡ H.write_faults host.old) }
@@ -170,7 +170,7 @@ pub fn load<H: Host>(
     ensures whole { IfOk result (λ loaded. length loaded.image.bytes ≡ loaded.size.mem) }
     ensures silent { OnOk result (H.written host.new ≡ H.written host.old) }
     ensures unfailed { OnOk result ((H.read_faults host.new ≡ H.read_faults host.old) × (H.write_faults host.new ≡ H.write_faults host.old)) }
-    ensures ends { IfErr result (λ ended. Ends (Refuses (program_refusal format (machine_of threads mem))) (H.file host.old name.now)
+    ensures ends { IfErr result (λ ended. CallEnds (Refuses (program_refusal format (machine_of threads mem))) (H.file host.old name.now)
         (Rose (H.read_faults host.old) (H.read_faults host.new) × (H.lost host.new ≡ name.now) × (size_refusal (machine_of threads mem) ≡ None))
         (H.written host.old) (H.written host.new) ended.status) }
     ensures write { IfErr result (λ ended. ended.status ≡ 5 → Rose (H.write_faults host.old) (H.write_faults host.new)) }

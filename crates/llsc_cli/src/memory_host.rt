@@ -1,7 +1,7 @@
 //! A host in memory, which tells everything: for tests and for proofs about whole calls.
 ghost use Rattle.std.specs.Prelude.{◌≡◌, ◌≤◌, List, [], IfOk, Some, string_bytes, length, is_ok};
 ghost use Rattle.std.specs.Option.{option_copied};
-ghost use Rattle.llsc_cli.specs.MemoryHost.{IsAnswer, after_read, after_write, bytes_within, failure_at, file_of, goes_through, read_of};
+ghost use Rattle.llsc_cli.specs.MemoryHost.{IsReadAnswer, after_read, after_write, bytes_within, failure_at, file_of, goes_through, read_of};
 
 use crate::host::{Failed, Host, ReadFault};
 use std::alloc::{AllocError, Global};
@@ -97,7 +97,7 @@ fn failure_at(failing: &[(u64, u32)], call: u64) -> Option<u32>
 
 // A copy of a file's bytes, where there are `most` at most.
 fn copy_within(alloc: Global, bytes: &[u8], most: usize) -> Result<Vec<u8>, ReadFault>
-    ensures { IsAnswer (bytes_within most (Some bytes.now)) result }
+    ensures { IsReadAnswer (bytes_within most (Some bytes.now)) result }
 {
     if bytes.len() > most {
         return Err(ReadFault::FileTooLong);
@@ -121,7 +121,7 @@ impl Host for MemoryHost {
 
     /// A read of a name that it does not hold fails, and so does one whose call is to fail.
     fn read_file(&mut self, alloc: Global, name: String, most: usize) -> Result<Vec<u8>, ReadFault>
-        ensures answer { IsAnswer (read_of self.old (string_bytes name) most) result }
+        ensures answer { IsReadAnswer (read_of self.old (string_bytes name) most) result }
         ensures state { self.new ≡ after_read self.old (string_bytes name) (read_of self.old (string_bytes name) most) }
         ensures later { self.old.read_faults ≤ self.new.read_faults }
     {

@@ -5,7 +5,7 @@ ghost use Rattle.number_text.specs.Hexadecimal.{hex_digit, half_text, long_text,
 
 use llsc_base::Line;
 
-/// Adds a text at the end of a line.
+/// Adds a text at the end of a line, which has room for it: the line has at most 96 bytes then, here as below.
 pub fn write_text(line: &mut Line, text: &[u8])
     requires room { length line.old + length text.now ≤ 96 }
     ensures { line.new ≡ line.old ++ text.now }
@@ -15,7 +15,8 @@ pub fn write_text(line: &mut Line, text: &[u8])
     }
 }
 
-/// Adds a number at the end of a line, in decimal: at most 10 digits for a number of 32 bits, and 20 for any.
+/// Adds a number at the end of a line, in decimal without a zero before others: at most 10 digits for a number of 32
+/// bits, and 20 for any.
 #[tactic(auto, using(crate::proofs::Decimals::decimal_ends))]
 pub fn write_decimal(line: &mut Line, number: u64)
     requires room { length line.old + length (decimal number) ≤ 96 }
@@ -54,7 +55,7 @@ fn write_half(line: &mut Line, half: u32)
     line.push(hex_digit(half % 16));
 }
 
-/// Adds a word at the end of a line, in eight hexadecimal digits.
+/// Adds a word at the end of a line, in eight hexadecimal digits of lower case.
 #[tactic(auto, unfolding(crate::specs::Hexadecimal::half_text, crate::specs::Hexadecimal::word_text))]
 pub fn write_word(line: &mut Line, word: u32)
     requires room { length line.old + 8 ≤ 96 }
@@ -64,7 +65,7 @@ pub fn write_word(line: &mut Line, word: u32)
     write_half(line, word % 65536);
 }
 
-/// Adds a number of 64 bits at the end of a line, in sixteen hexadecimal digits.
+/// Adds a number of 64 bits at the end of a line, in sixteen hexadecimal digits of lower case.
 #[tactic(auto, using(crate::proofs::Lengths::word_length), unfolding(crate::specs::Hexadecimal::long_text))]
 pub fn write_long(line: &mut Line, long: u64)
     requires room { length line.old + 16 ≤ 96 }

@@ -13,7 +13,8 @@ ghost use Rattle.row_bytes.specs.Cell.{cell_with, value_in_cell};
 
 use llsc_base::{Place, Size};
 
-/// The value of a place, its least significant byte first, from the cell in which it lies.
+/// The value of an aligned place, its least significant byte first, from the cell in which it lies: below 2 to the 8,
+/// 16, 32 or 64 by the place's size.
 #[inline]
 pub fn take(cell: u64, place: Place) -> u64
     requires aligned { IsTrue (is_aligned place) }
@@ -23,8 +24,8 @@ pub fn take(cell: u64, place: Place) -> u64
     (cell >> shift(place)) & mask(place.size)
 }
 
-/// The cell with the bytes of a place set to a value, its least significant byte first, and all others
-/// kept.
+/// The cell with the bytes of an aligned place set to a value, its least significant byte first, and all others kept.
+/// The value is below 2 to the 8, 16, 32 or 64 by the place's size.
 #[inline]
 pub fn put(cell: u64, place: Place, value: u64) -> u64
     requires aligned { IsTrue (is_aligned place) }

@@ -5,7 +5,7 @@ ghost use Rattle.a32_instr.specs.Block.{registers_of, count_of, bytes_of, block,
 ghost use Rattle.a32_instr.specs.Effect.{acts};
 ghost use Rattle.a32_step.specs.Progress.{progress_of};
 ghost use Rattle.a32_step.specs.Classes.{class_of, block_access};
-ghost use Rattle.a32_step.specs.Standing.{moves};
+ghost use Rattle.a32_step.specs.ExecutionState.{moves};
 
 use super::Execution;
 use super::load_store::barred;

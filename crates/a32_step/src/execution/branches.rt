@@ -6,7 +6,7 @@ ghost use Rattle.a32_instr.specs.Branch.{branched, branches_by_register, call_of
 ghost use Rattle.a32_instr.specs.Effect.{acts};
 ghost use Rattle.a32_step.specs.Progress.{progress_of};
 ghost use Rattle.a32_step.specs.Classes.{class_of, branch_or_call};
-ghost use Rattle.a32_step.specs.Standing.{resting, moves};
+ghost use Rattle.a32_step.specs.ExecutionState.{resting, moves};
 
 use super::Execution;
 use crate::operands::branch_target;

@@ -4,7 +4,7 @@ ghost use Rattle.a32_instr.specs.Exclusive.{next_register, with_loaded, stored_p
 ghost use Rattle.a32_instr.specs.Effect.{acts};
 ghost use Rattle.a32_step.specs.Progress.{progress_of};
 ghost use Rattle.a32_step.specs.Classes.{class_of, synchronization};
-ghost use Rattle.a32_step.specs.Standing.{moves};
+ghost use Rattle.a32_step.specs.ExecutionState.{moves};
 
 use super::Execution;
 use crate::phases::Progress;

@@ -6,7 +6,7 @@ ghost use Rattle.a32_instr.specs.LoadStore.{half_accesses, asks_unless, barred, 
 ghost use Rattle.a32_instr.specs.Effect.{acts};
 ghost use Rattle.a32_step.specs.Progress.{progress_of};
 ghost use Rattle.a32_step.specs.Classes.{class_of, word_access, half_access};
-ghost use Rattle.a32_step.specs.Standing.{moves, resting};
+ghost use Rattle.a32_step.specs.ExecutionState.{moves, resting};
 
 use super::Execution;
 use crate::operands::{

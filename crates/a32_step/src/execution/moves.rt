@@ -2,7 +2,7 @@
 ghost use Rattle.std.specs.Prelude.{◌≡◌};
 ghost use Rattle.a32_instr.specs.Moves.{moves_wide, moves_top, counts_zeros, reverses, extends};
 ghost use Rattle.a32_step.specs.Progress.{progress_of};
-ghost use Rattle.a32_step.specs.Standing.{moves};
+ghost use Rattle.a32_step.specs.ExecutionState.{moves};
 
 use super::Execution;
 use crate::parts::{extend, reverse, with_upper_half};

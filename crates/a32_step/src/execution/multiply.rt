@@ -5,7 +5,7 @@ ghost use Rattle.a32_instr.specs.Multiply.{joined, multiplied, multiplies, multi
 ghost use Rattle.a32_instr.specs.Effect.{acts};
 ghost use Rattle.a32_step.specs.Progress.{progress_of};
 ghost use Rattle.a32_step.specs.Classes.{class_of, multiplication};
-ghost use Rattle.a32_step.specs.Standing.{moves, resting};
+ghost use Rattle.a32_step.specs.ExecutionState.{moves, resting};
 
 use super::Execution;
 use crate::phases::Progress;
@@ -88,7 +88,7 @@ impl Execution {
         u64::from(self.operand(hi)) * 0x1_0000_0000 + u64::from(self.operand(lo))
     }
 
-    /// UMULL, UMLAL, SMULL and SMLAL (DDI 0406C A8.8.257, A8.8.255, A8.8.189, A8.8.178).
+    /// UMULL, UMLAL, SMULL and SMLAL (DDI 0406C A8.8.257, A8.8.256, A8.8.189, A8.8.178).
     pub(super) fn multiply_long(
         &mut self,
         kind: LongKind,

@@ -6,7 +6,7 @@ ghost use Rattle.llsc_cli.specs.Host.{Rose};
 ghost use Rattle.llsc_cli.specs.Refusals.{refused, too_long};
 ghost use Rattle.llsc_cli.specs.Assembly.{asm_answer, fault_name, has_data, unit_answer, unit_file};
 ghost use Rattle.llsc_cli.specs.Answer.{AnswersAsm};
-ghost use Rattle.llsc_cli.specs.Reads.{Ends, Gives};
+ghost use Rattle.llsc_cli.specs.Reads.{CallEnds, Gives};
 
 use crate::ended::{Ended, out_of_memory, refuse, say};
 use crate::files::read;
@@ -115,7 +115,7 @@ fn respond<H: Host>(alloc: Global, host: &mut H, file: &[u8], format: Format) ->
 
 /// Assembles the text of a name as a file of a format.
 pub fn answer<H: Host>(alloc: Global, host: &mut H, file: &str, format: Format) -> Ended
-    ensures ends { Ends (AnswersAsm format) (H.file host.old file.now)
+    ensures ends { CallEnds (AnswersAsm format) (H.file host.old file.now)
         (Rose (H.read_faults host.old) (H.read_faults host.new) × (H.lost host.new ≡ file.now))
         (H.written host.old) (H.written host.new) result.status }
     ensures write { result.status ≡ 5 → Rose (H.write_faults host.old) (H.write_faults host.new) }

@@ -4,7 +4,7 @@ ghost use Rattle.run_checker.specs.Verdict.{Judges};
 ghost use Rattle.run_record.specs.Limits.{IsRecord};
 ghost use Rattle.run_record.specs.Reading.{record_of};
 ghost use Rattle.llsc_cli.specs.Host.{Adds, AddsFront, Rose};
-ghost use Rattle.llsc_cli.specs.Refusals.{machine_of, most_bytes, refusal_text, too_long};
+ghost use Rattle.llsc_cli.specs.Refusals.{machine_of, most_program, refusal_text, too_long};
 ghost use Rattle.llsc_cli.specs.Request.{Check};
 ghost use Rattle.llsc_cli.specs.Check.{files_refusal, most_record, record_fault_text, verdict_status, verdict_text, IsJudged, JudgesRead, JudgesRun};
 ghost use Rattle.llsc_cli.specs.Answer.{IsDue};
@@ -93,7 +93,7 @@ fn judge_file<H: Host>(
     file: &[u8],
     run: &RunRecord,
 ) -> Ended
-    requires short { too_long most_bytes file.now ≡ None }
+    requires short { too_long most_program file.now ≡ None }
     requires record_ { IsRecord run.now }
     ensures answered { Answered (JudgesRun format mem file.now run.now) (H.written host.old) (H.written host.new) result.status }
     ensures write { result.status ≡ 5 → Rose (H.write_faults host.old) (H.write_faults host.new) }
@@ -155,7 +155,7 @@ fn respond<H: Host>(
     file: &[u8],
     recorded: &[u8],
 ) -> Ended
-    requires { too_long most_bytes file.now ≡ None }
+    requires { too_long most_program file.now ≡ None }
     ensures answered { Answered (JudgesRead format mem file.now (record_of recorded.now)) (H.written host.old) (H.written host.new) result.status }
     ensures write { result.status ≡ 5 → Rose (H.write_faults host.old) (H.write_faults host.new) }
     ensures write_answered { result.status ≢ 5 → H.write_faults host.new ≡ H.write_faults host.old }

@@ -7,7 +7,7 @@ ghost use Rattle.llsc_cli.specs.Report.{report_of};
 ghost use Rattle.llsc_cli.specs.Refusals.{size_refusal, solo_size};
 ghost use Rattle.llsc_cli.specs.Trace.{status_of};
 ghost use Rattle.llsc_cli.specs.Answer.{AnswersSolo};
-ghost use Rattle.llsc_cli.specs.Reads.{Ends};
+ghost use Rattle.llsc_cli.specs.Reads.{CallEnds};
 
 use crate::ended::{Ended, out_of_memory, status};
 use crate::files::load;
@@ -65,7 +65,7 @@ pub fn answer<H: Host>(
     budget: u64,
 ) -> Ended
     requires { budget ≤ 1000000000000 }
-    ensures ends { Ends (AnswersSolo format mem budget) (H.file host.old file.now)
+    ensures ends { CallEnds (AnswersSolo format mem budget) (H.file host.old file.now)
         (Rose (H.read_faults host.old) (H.read_faults host.new) × (H.lost host.new ≡ file.now) × (size_refusal (solo_size mem) ≡ None))
         (H.written host.old) (H.written host.new) result.status }
     ensures write { result.status ≡ 5 → Rose (H.write_faults host.old) (H.write_faults host.new) }

@@ -6,7 +6,7 @@ ghost use Rattle.run_record.specs.Text.{record_text};
 ghost use Rattle.llsc_cli.specs.Host.{Adds, AddsFront, Rose};
 ghost use Rattle.llsc_cli.specs.Refusals.{machine_of, refusal_text, size_refusal};
 ghost use Rattle.llsc_cli.specs.Trace.{have_left, status_of_all, AnswersTrace, Traces};
-ghost use Rattle.llsc_cli.specs.Reads.{Answered, Ends};
+ghost use Rattle.llsc_cli.specs.Reads.{Answered, CallEnds};
 
 use crate::ended::{Ended, out_of_memory, say, status};
 use crate::files::load;
@@ -109,7 +109,7 @@ pub fn answer<H: Host>(
 ) -> Ended
     requires some { 1 ≤ numbers.budget }
     requires budget { numbers.budget ≤ 1000000000000 }
-    ensures ends { Ends (AnswersTrace format numbers.threads numbers.mem numbers.seed numbers.budget) (H.file host.old file.now)
+    ensures ends { CallEnds (AnswersTrace format numbers.threads numbers.mem numbers.seed numbers.budget) (H.file host.old file.now)
         (Rose (H.read_faults host.old) (H.read_faults host.new) × (H.lost host.new ≡ file.now) × (size_refusal (machine_of numbers.threads numbers.mem) ≡ None))
         (H.written host.old) (H.written host.new) result.status }
     ensures write { result.status ≡ 5 → Rose (H.write_faults host.old) (H.write_faults host.new) }

@@ -1,6 +1,7 @@
 use Rattle.std.proofs.Common.{refl}
 use Rattle.number_text.specs.Digits.{value_in}
-use Rattle.a32_instr.specs.Table.{alu_fits, alu_op, alu_unpredictable, barrier_kind, exclusive_size, half_fits, half_kind, half_unpredictable, block_unpredictable, index_fits, index_of, long_kind, meaning, no_pair, one_of_2_is_pc, one_of_3_is_pc, one_of_4_is_pc, shift_kind, signed24, status_clashes, word_unpredictable}
+use Rattle.a32_instr.specs.Fields.{alu_fits, alu_op, alu_unpredictable, barrier_kind, exclusive_size, half_fits, half_kind, half_unpredictable, block_unpredictable, index_fits, index_of, long_kind, no_pair, one_of_2_is_pc, one_of_3_is_pc, one_of_4_is_pc, shift_kind, signed24, status_clashes, word_unpredictable}
+use Rattle.a32_instr.specs.Table.{meaning}
 use Rattle.a32_instr.specs.Shift.{turned}
 use Rattle.a32_forms.specs.Text.{parts}
 use Rattle.a32_forms.specs.Names.{place_from}

@@ -1,6 +1,7 @@
 use Rattle.std.proofs.Common.{refl}
 use Rattle.number_text.specs.Hexadecimal.{half_text, word_text}
-use Rattle.a32_instr.specs.Table.{meaning, index_of, half_kind, exclusive_size, barrier_kind, alu_op, shift_kind, long_kind, alu_fits, alu_unpredictable, one_of_2_is_pc, one_of_3_is_pc, one_of_4_is_pc, no_pair, status_clashes, index_fits, word_unpredictable, half_fits, half_unpredictable, block_unpredictable, signed24}
+use Rattle.a32_instr.specs.Fields.{index_of, half_kind, exclusive_size, barrier_kind, alu_op, shift_kind, long_kind, alu_fits, alu_unpredictable, one_of_2_is_pc, one_of_3_is_pc, one_of_4_is_pc, no_pair, status_clashes, index_fits, word_unpredictable, half_fits, half_unpredictable, block_unpredictable, signed24}
+use Rattle.a32_instr.specs.Table.{meaning}
 use Rattle.a32_instr.specs.Shift.{turned}
 use Rattle.a32_instr.specs.Branch.{target_of}
 use Rattle.a32_instr.specs.Block.{registers_of}

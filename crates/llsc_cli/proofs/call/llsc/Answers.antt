@@ -1,8 +1,5 @@
-use Rattle.std.proofs.Common.{◌≡◌, Some, sym, ◌∙◌, subst}
-use Rattle.llsc_cli.specs.Request.{Request, asked}
-use Rattle.llsc_cli.specs.Answer.{IsDue}
-use Rattle.llsc_cli.specs.Host.{Rose}
-use Rattle.llsc_cli.specs.Reads.{EndsAsked}
+use Rattle.std.proofs.Common.{◌≡◌, sym}
+use Rattle.llsc_cli.specs.Request.{asked}
 use Rattle.llsc_cli.proofs.Asked.{told_answered}
 use Rattle.llsc_cli.proofs.call.llsc.Goals as goal
 

@@ -1,5 +1,5 @@
 use Rattle.std.proofs.Common.{◌≡◌, None}
-use Rattle.llsc_cli.specs.Refusals.{machine_of, size_refusal, too_long, most_bytes}
+use Rattle.llsc_cli.specs.Refusals.{machine_of, size_refusal, too_long, most_program}
 use Rattle.llsc_cli.specs.Host.{AreBytes}
 use Rattle.llsc_cli.proofs.Answering.{answered_for, are_held, ends_as, held_bytes, refused_short, refused_unsized, refuses_sized}
 use Rattle.llsc_cli.proofs.files.load.Goals as goal
@@ -22,7 +22,7 @@ returns-clause-ends g c =
     let none : size_refusal (machine_of c.args.threads c.args.mem) ≡ None = c.in-Ok.ensures.size.1 in
     let had = rw (c.machine.ensures.files) at c.in-Ok-read.ensures.had in
     let bytes : AreBytes (g.H.Host.file c.args.host.now c.args.name.now) c.as_slice.result.now = rw c.as_slice.ensures.value had.0 in
-    let short : too_long most_bytes c.as_slice.result.now ≡ None = rw c.as_slice.ensures.value had.1 in
+    let short : too_long most_program c.as_slice.result.now ≡ None = rw c.as_slice.ensures.value had.1 in
     let refused = rw (c.in-Ok-read.ensures.silent, c.in-Ok.ensures.written) at c.in-Err-image_on.ensures.refused in
     answered_for (g.H.Host.written c.args.host.now) (g.H.Host.written c.image_on.new.host) c.in-Err-image_on.ended.status c.as_slice.result.now bytes
     (refused_short c.args.format c.in-Ok.size (machine_of c.args.threads c.args.mem) c.as_slice.result.now none c.in-Ok.ensures.size.0 short)

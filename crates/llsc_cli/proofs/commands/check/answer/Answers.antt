@@ -1,6 +1,6 @@
 use Rattle.std.proofs.Common.{◌≡◌, ◌∷◌, [], None, inl, inr}
 use Rattle.llsc_cli.specs.Host.{AreBytes}
-use Rattle.llsc_cli.specs.Refusals.{most_bytes, too_long}
+use Rattle.llsc_cli.specs.Refusals.{most_program, too_long}
 use Rattle.llsc_cli.specs.Check.{most_record}
 use Rattle.llsc_cli.proofs.Answering.{answered_for, are_held, ends_for, held_bytes}
 use Rattle.llsc_cli.proofs.CheckAnswers.{check_program_long, check_record_long, check_judged}
@@ -18,7 +18,7 @@ returns-in-Ok-read-clause-ends g c =
     let file = c.as_slice.result.now in
     let recorded = c.as_slice-in-Ok-read.result.now in
     let first : AreBytes (g.H.Host.file c.args.host.now c.args.file.now) file = rw c.as_slice.ensures.value c.in-Ok.ensures.had.0 in
-    let short : too_long most_bytes file ≡ None = rw c.as_slice.ensures.value c.in-Ok.ensures.had.1 in
+    let short : too_long most_program file ≡ None = rw c.as_slice.ensures.value c.in-Ok.ensures.had.1 in
     let had = rw c.in-Ok.ensures.files at c.in-Ok-read.ensures.had in
     let second : AreBytes (g.H.Host.file c.args.host.now c.args.recorded.now) recorded = rw c.as_slice-in-Ok-read.ensures.value had.0 in
     let few : too_long most_record recorded ≡ None = rw c.as_slice-in-Ok-read.ensures.value had.1 in
@@ -30,7 +30,7 @@ pub returns-clause-ends : goal.returns-clause-ends
 returns-clause-ends g c =
     let file = c.in-Ok.program.items in
     let first : AreBytes (g.H.Host.file c.args.host.now c.args.file.now) file = c.in-Ok.ensures.had.0 in
-    let short : too_long most_bytes file ≡ None = c.in-Ok.ensures.had.1 in
+    let short : too_long most_program file ≡ None = c.in-Ok.ensures.had.1 in
     let ends = rw (c.in-Ok.ensures.files, c.in-Ok.ensures.silent, c.in-Ok.ensures.unfailed.0) at c.in-Err-read.ensures.ends in
     ends_for (g.H.Host.written c.args.host.now) (g.H.Host.written c.read-2.new.host) c.in-Err-read.ended.status
     (λ recorded s text may refused. (file ∷ recorded ∷ [], ((first, (may, tt)), check_record_long c.args.format c.args.mem file recorded short s text refused)))

@@ -1,6 +1,6 @@
 use Rattle.std.proofs.Common.{refl}
 use Rattle.llsc_cli.specs.Check.{verdict_status, verdict_text}
-use Rattle.llsc_cli.proofs.Answering.{answered_one, answered_wanting}
+use Rattle.llsc_cli.proofs.Answering.{answered_one}
 use Rattle.llsc_cli.proofs.CheckAnswers.{verdict_done}
 use Rattle.llsc_cli.proofs.commands.check.judge.Goals as goal
 

@@ -1,5 +1,3 @@
-use Rattle.std.proofs.Common.{◌≡◌, None, sym, ◌∙◌, ap}
-use Rattle.llsc_cli.specs.Refusals.{machine_of, size_refusal}
 use Rattle.llsc_cli.proofs.Answering.{answered_as}
 use Rattle.llsc_cli.proofs.CheckAnswers.{run_unsized, run_refused, run_judged}
 use Rattle.llsc_cli.proofs.commands.check.judge_file.Goals as goal

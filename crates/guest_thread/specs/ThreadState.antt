@@ -10,38 +10,38 @@ use Rattle.guest_thread.specs.declared.guests.Turn.{Turn}
 use Rattle.guest_thread.specs.declared.guests.Turn.TheVariants as turn
 
 -- its core, its steps, its output so far, and the write, if any, in the middle of which it is
-pub record Standing : Type 0 where
+pub record ThreadState : Type 0 where
   pub cpu : Machine
   pub steps : ℕ
   pub output : List ℕ
   pub printing : Option Printing
 
 -- the core waits for the answer to the write, which has bytes left, and these have room in the output
-pub record HasLeft (standing : Standing) (printing : Printing) : Type 0 where
+pub record HasLeft (standing : ThreadState) (printing : Printing) : Type 0 where
   pub calling : IsCalling standing.cpu.phase
   pub left : printing.loaded < printing.len
   pub room : length standing.output + (printing.len - printing.loaded) ≤ most_output
 
 -- its bytes lie in memory of so many bytes, and its instruction is within the budget
-pub record IsWriting (mem budget : ℕ) (standing : Standing) (printing : Printing) : Type 0 where
+pub record IsWriting (mem budget : ℕ) (standing : ThreadState) (printing : Printing) : Type 0 where
   pub has_left : HasLeft standing printing
   pub inside : printing.from + printing.len ≤ mem
   pub within : standing.steps < budget
 
-abbrev pub IsReadyBy : ℕ → ℕ → Standing → Option Printing → Type 0
+abbrev pub IsReadyBy : ℕ → ℕ → ThreadState → Option Printing → Type 0
 IsReadyBy mem budget standing None = IsReady standing.cpu.phase × (standing.steps ≤ budget)
 IsReadyBy mem budget standing (Some printing) = IsWriting mem budget standing printing
 
 -- no reply is awaited, in memory of so many bytes and with such a budget
-abbrev pub IsReadyIn : ℕ → ℕ → Standing → Type 0
+abbrev pub IsReadyIn : ℕ → ℕ → ThreadState → Type 0
 IsReadyIn mem budget standing = IsReadyBy mem budget standing standing.printing
 
-abbrev pub IsWaitingBy : ℕ → ℕ → Standing → Option Printing → Type 0
+abbrev pub IsWaitingBy : ℕ → ℕ → ThreadState → Option Printing → Type 0
 IsWaitingBy mem budget standing None = IsAwaiting standing.cpu.phase × (standing.steps < budget)
 IsWaitingBy mem budget standing (Some printing) = IsWriting mem budget standing printing
 
 -- a reply is awaited
-abbrev pub IsWaitingIn : ℕ → ℕ → Standing → Type 0
+abbrev pub IsWaitingIn : ℕ → ℕ → ThreadState → Type 0
 IsWaitingIn mem budget standing = IsWaitingBy mem budget standing standing.printing
 
 -- the place of an access is aligned and lies in memory
@@ -62,21 +62,21 @@ ReplyFits (Load place) reply = reply < 256 ^ size_bytes place.size
 ReplyFits (LoadEx place) reply = reply < 256 ^ size_bytes place.size
 ReplyFits _ reply = Unit {0}
 
-abbrev pub MayGiveBy : Standing → Option Printing → ℕ → Type 0
+abbrev pub MayGiveBy : ThreadState → Option Printing → ℕ → Type 0
 MayGiveBy standing None reply = IsAwaiting standing.cpu.phase
 MayGiveBy standing (Some printing) reply = HasLeft standing printing × (reply < 256)
 
 -- a reply may be given: one is awaited, and to the load of a byte it is a byte
-abbrev pub MayGive : Standing → ℕ → Type 0
+abbrev pub MayGive : ThreadState → ℕ → Type 0
 MayGive standing reply = (standing.steps < 2 ^ 63) × MayGiveBy standing standing.printing reply
 
 -- where an access was asked for, it may be made in memory of so many bytes, its reply is awaited, and any that fits may
 -- be given
-pub record IsPending (mem budget : ℕ) (ask : Ask) (standing : Standing) : Type 0 where
+pub record IsPending (mem budget : ℕ) (ask : Ask) (standing : ThreadState) : Type 0 where
   pub may : IsAskIn mem ask
   pub waiting : IsWaitingIn mem budget standing
   pub give : (reply : ℕ) → ReplyFits ask reply → MayGive standing reply
 
-abbrev pub IsPendingAfter : ℕ → ℕ → Turn → Standing → Type 0
+abbrev pub IsPendingAfter : ℕ → ℕ → Turn → ThreadState → Type 0
 IsPendingAfter mem budget (turn.Asks ask) standing = IsPending mem budget ask standing
 IsPendingAfter mem budget (turn.Ended stop) standing = Unit {0}

@@ -22,17 +22,17 @@ pub data Stage : Type 0 where
   Stopped : Stop → Stage
 
 -- The state from which the instruction began, how far it has come, and the replies that it has had.
-pub record Standing : Type 0 where
+pub record ExecutionState : Type 0 where
   pub state : State
   pub stage : Stage
   pub replies : List ℕ
 
 -- between two instructions, in this state
-abbrev pub resting : State → Standing
+abbrev pub resting : State → ExecutionState
 resting state = record { state = state; stage = Between; replies = [] }
 
 -- after an effect
-abbrev pub moves : Standing → Effect → Standing
+abbrev pub moves : ExecutionState → Effect → ExecutionState
 moves standing (asks ask) = record standing { stage = Awaiting ask }
 moves standing (calls call) = record standing { stage = Calling call }
 moves standing (completes state) = resting state
@@ -72,5 +72,5 @@ phase_of instr (Calling call) = phase.Calling call
 phase_of instr (Stopped stop) = phase.Stopped stop
 
 -- the machine that stands so in this instruction
-abbrev pub machine_in : Instr → Standing → Machine
+abbrev pub machine_in : Instr → ExecutionState → Machine
 machine_in instr standing = record { state = standing.state; phase = phase_of instr standing.stage; replies = standing.replies }

@@ -9,7 +9,7 @@ use Rattle.a32_step.specs.declared.phases.Progress.{Progress}
 use Rattle.a32_step.specs.declared.phases.Wanted.{Wanted}
 use Rattle.a32_step.specs.Progress.{progress_of}
 use Rattle.a32_step.specs.Slots.{instr_for}
-use Rattle.a32_step.specs.Standing.{Standing, Stage, Between, Inside, Awaiting, Calling, Stopped, HasRoom, IsAwaited, moves, wanted_at, phase_of, machine_in}
+use Rattle.a32_step.specs.ExecutionState.{ExecutionState, Stage, Between, Inside, Awaiting, Calling, Stopped, HasRoom, IsAwaited, moves, wanted_at, phase_of, machine_in}
 use Rattle.a32_step.specs.Machine.{Machine, given, next_effect, next_in, after_in, after_next, moved_on, wanted_of, HasBegun, IsAwaiting, IsInside}
 
 -- one that is awaited has room
@@ -27,7 +27,7 @@ is_awaited instr (Awaiting ask) awaiting = tt
 is_awaited instr (Calling call) awaiting = awaiting
 is_awaited instr (Stopped stop) awaiting = awaiting
 
-replied_at : (instr : Instr) (standing : Standing) (reply : ℕ) (stage : Stage) → IsAwaiting (phase_of instr stage)
+replied_at : (instr : Instr) (standing : ExecutionState) (reply : ℕ) (stage : Stage) → IsAwaiting (phase_of instr stage)
     → machine_in instr (record standing { stage = Inside; replies = standing.replies ++ reply ∷ [] }) ≡ given (machine_in instr (record standing { stage = stage })) reply
 replied_at instr standing reply Between awaiting = absurd awaiting
 replied_at instr standing reply Inside awaiting = absurd awaiting
@@ -36,32 +36,32 @@ replied_at instr standing reply (Calling call) awaiting = absurd awaiting
 replied_at instr standing reply (Stopped stop) awaiting = absurd awaiting
 
 -- the machine after a reply
-pub replied : (instr : Instr) (standing : Standing) (reply : ℕ) → IsAwaiting (phase_of instr standing.stage)
+pub replied : (instr : Instr) (standing : ExecutionState) (reply : ℕ) → IsAwaiting (phase_of instr standing.stage)
     → machine_in instr (record standing { stage = Inside; replies = standing.replies ++ reply ∷ [] }) ≡ given (machine_in instr standing) reply
 replied instr standing reply awaiting = replied_at instr standing reply standing.stage awaiting
 
 -- the machine after an effect of the instruction in hand
-moves_is : (instr : Instr) (standing : Standing) (effect : Effect) → machine_in instr (moves standing effect) ≡ moved_on instr (machine_in instr standing) effect
+moves_is : (instr : Instr) (standing : ExecutionState) (effect : Effect) → machine_in instr (moves standing effect) ≡ moved_on instr (machine_in instr standing) effect
 moves_is instr standing (asks ask) = refl
 moves_is instr standing (calls call) = refl
 moves_is instr standing (completes state) = refl
 moves_is instr standing (stops stop) = refl
 
 -- the instruction is the one in the slot of a PC, which an effect that isn't complete leaves as it was
-slot_stays : (slots : List Slot) (standing : Standing) (effect : Effect)
+slot_stays : (slots : List Slot) (standing : ExecutionState) (effect : Effect)
     → machine_in (instr_for slots (moves standing effect).state.pc) (moves standing effect) ≡ machine_in (instr_for slots standing.state.pc) (moves standing effect)
 slot_stays slots standing (asks ask) = refl
 slot_stays slots standing (calls call) = refl
 slot_stays slots standing (completes state) = refl
 slot_stays slots standing (stops stop) = refl
 
-effect_wants : (standing : Standing) (effect : Effect) → wanted_at (progress_of effect) (moves standing effect).stage ≡ wanted_of effect
+effect_wants : (standing : ExecutionState) (effect : Effect) → wanted_at (progress_of effect) (moves standing effect).stage ≡ wanted_of effect
 effect_wants standing (asks ask) = refl
 effect_wants standing (calls call) = refl
 effect_wants standing (completes state) = refl
 effect_wants standing (stops stop) = refl
 
-inside_acts : (program : Program) (instr : Instr) (standing : Standing) (stage : Stage) → IsInside (phase_of instr stage)
+inside_acts : (program : Program) (instr : Instr) (standing : ExecutionState) (stage : Stage) → IsInside (phase_of instr stage)
     → next_in program (machine_in instr standing) (phase_of instr stage) ≡ acts instr program standing.replies standing.state
 inside_acts program instr standing Between inside = absurd inside
 inside_acts program instr standing Inside inside = refl
@@ -69,7 +69,7 @@ inside_acts program instr standing (Awaiting ask) inside = absurd inside
 inside_acts program instr standing (Calling call) inside = absurd inside
 inside_acts program instr standing (Stopped stop) inside = absurd inside
 
-inside_moves : (program : Program) (instr : Instr) (standing : Standing) (stage : Stage) → IsInside (phase_of instr stage)
+inside_moves : (program : Program) (instr : Instr) (standing : ExecutionState) (stage : Stage) → IsInside (phase_of instr stage)
     → after_in program (machine_in instr standing) (phase_of instr stage) ≡ moved_on instr (machine_in instr standing) (acts instr program standing.replies standing.state)
 inside_moves program instr standing Between inside = absurd inside
 inside_moves program instr standing Inside inside = refl
@@ -80,7 +80,7 @@ inside_moves program instr standing (Stopped stop) inside = absurd inside
 -- What is wanted once the instruction in hand has acted, and the machine then. The instruction is the one in the slot
 -- of the PC.
 
-pub acted_wants : (program : Program) (old now : Machine) (slots : List Slot) (pc : ℕ) (instr : Instr) (before after : Standing) (p : Progress) (w : Wanted)
+pub acted_wants : (program : Program) (old now : Machine) (slots : List Slot) (pc : ℕ) (instr : Instr) (before after : ExecutionState) (p : Progress) (w : Wanted)
     → now ≡ machine_in (instr_for slots before.state.pc) before → HasBegun program old now → pc ≡ before.state.pc → instr ≡ instr_for slots pc
     → p ≡ progress_of (acts instr program before.replies before.state) → after ≡ moves before (acts instr program before.replies before.state)
     → w ≡ wanted_at p after.stage → w ≡ wanted_of (next_effect program old)
@@ -91,7 +91,7 @@ acted_wants program old now slots pc instr before after p w same begun at held s
     same_w ∙ ap (λ q. wanted_at q after.stage) same_p ∙ ap (λ s. wanted_at (progress_of effect) s.stage) same_after ∙ effect_wants before effect
     ∙ ap wanted_of (sym (inside_acts program instr before before.stage known.0) ∙ known.1)
 
-pub acted_stands : (program : Program) (old now : Machine) (slots : List Slot) (pc : ℕ) (instr : Instr) (before after : Standing)
+pub acted_stands : (program : Program) (old now : Machine) (slots : List Slot) (pc : ℕ) (instr : Instr) (before after : ExecutionState)
     → now ≡ machine_in (instr_for slots before.state.pc) before → HasBegun program old now → pc ≡ before.state.pc → instr ≡ instr_for slots pc
     → after ≡ moves before (acts instr program before.replies before.state)
     → machine_in (instr_for slots after.state.pc) after ≡ after_next program old
