@@ -132,8 +132,8 @@ word_of Clrex = 0xF57FF01F
 word_of (Barrier kind option) = 0xF57FF040 + barrier_bits kind * 2 ^ 4 + option
 
 -- loads and stores that are not exclusive (DDI 0406C A5.2.8, A5.3, A5.5)
-abbrev pub is_access : Instr → Bool
-is_access (Word cond load byte index rn rt offset) = true
-is_access (Half cond kind index rn rt offset) = true
-is_access (Block cond load before up wback rn list) = true
-is_access i = false
+abbrev pub is_transfer : Instr → Bool
+is_transfer (Word cond load byte index rn rt offset) = true
+is_transfer (Half cond kind index rn rt offset) = true
+is_transfer (Block cond load before up wback rn list) = true
+is_transfer i = false

@@ -1,7 +1,7 @@
 //! The one word that can be an instruction's.
 ghost use Rattle.std.specs.Prelude.{◌≡◌, IsTrue};
 ghost use Rattle.a32_instr.specs.Classes.{is_data, is_multiply};
-ghost use Rattle.a32_encode.specs.Word.{is_access, word_of};
+ghost use Rattle.a32_encode.specs.Word.{is_transfer, word_of};
 
 use crate::fields::{
     barrier_kind, bit, condition, distance, exclusive_size, half_kind, half_offset,
@@ -290,7 +290,7 @@ fn multiply_word(i: Instr) -> u64
 
 // Loads and stores that aren't exclusive (DDI 0406C A5.2.8, A5.3, A5.5).
 fn access_word(i: Instr) -> u64
-    requires { IsTrue (is_access i) }
+    requires { IsTrue (is_transfer i) }
     ensures { result ≡ word_of i }
 {
     match i {

@@ -95,8 +95,8 @@ alu_fits op sets rd rn =
     (not (is_compare op) || ((sets == 1) && (rd == 0)))
     && (not (is_move op) || (rn == 0))
 
--- the flags can't be set by an instruction that writes the PC: in the manual that is the return from an exception (SUBS
--- PC, LR and related instructions), which is unpredictable in User mode
+-- an instruction that writes the PC is to set the flags: in the manual that is the return from an exception (SUBS PC, LR
+-- and related instructions), which is unpredictable in User mode
 unfoldable pub alu_unpredictable : AluOp → ℕ → ℕ → Bool
 alu_unpredictable op sets rd = (sets == 1) && not (is_compare op) && (rd == 15)
 
@@ -118,11 +118,11 @@ exclusive_size size =
     if size == 2 then B1 else
     B2
 
--- a doubleword stands in a register of even number and the next, and not in lr and the PC
+-- a doubleword's first register has an odd number, or is lr, so that the second would be the PC
 unfoldable pub no_pair : ℕ → ℕ → Bool
 no_pair size rt = (size == 1) && ((rt % 2 == 1) || (rt == 14))
 
--- the status register is another than those of the address and the value
+-- the status register is also the address's, or one of the value's
 unfoldable pub status_clashes : ℕ → ℕ → ℕ → ℕ → Bool
 status_clashes size rn rd rt = (rd == rn) || (rd == rt) || ((size == 1) && (rd == rt + 1))
 
@@ -133,7 +133,7 @@ index_fits p w = not ((p == 0) && (w == 1))
 unfoldable pub index_of : ℕ → ℕ → Index
 index_of p w = if p == 0 then Post else if w == 1 then Pre else Plain
 
--- a base that is written back is neither the PC nor the other register; a byte is not loaded into the PC, nor stored from it
+-- a base is written back that is the PC or the other register; or a byte is loaded into the PC, or stored from it
 unfoldable pub word_unpredictable : ℕ → ℕ → ℕ → ℕ → ℕ → Bool
 word_unpredictable p w b rn rt =
     (((p == 0) || (w == 1)) && ((rn == 15) || (rn == rt))) || ((b == 1) && (rt == 15))
@@ -148,12 +148,12 @@ half_kind l x y =
     if y == 0 then Ldrsb else
     Ldrsh
 
--- a base that is written back is neither the PC nor the other register, which is never the PC
+-- the other register is the PC; or a base is written back that is the PC or the other register
 unfoldable pub half_unpredictable : ℕ → ℕ → ℕ → ℕ → Bool
 half_unpredictable p w rn rt = (rt == 15) || (((p == 0) || (w == 1)) && ((rn == 15) || (rn == rt)))
 
--- The base is no PC and the list isn't empty. A base that is written back isn't loaded, and is stored only as the lowest
--- register of the list: elsewhere in it the manual leaves the stored word unknown.
+-- The base is the PC, or the list is empty; or a base is written back that is also loaded, or stored without being the
+-- lowest register of the list: there the manual leaves the stored word unknown.
 unfoldable pub block_unpredictable : ℕ → ℕ → ℕ → ℕ → Bool
 block_unpredictable w l rn list =
     (rn == 15) || (list == 0)

@@ -19,8 +19,8 @@ stage_at point.Between held = Between
 stage_at point.Inside held = Inside
 stage_at point.Held held = stage_held held
 
-abbrev pub standing_of : fields.Inside → ExecutionState
-standing_of execution = record {
+abbrev pub execution_state_of : fields.Inside → ExecutionState
+execution_state_of execution = record {
   state = record { regs = execution.regs; flags = execution.flags; pc = execution.pc };
   stage = stage_at execution.point execution.hold;
   replies = execution.replies;

@@ -52,9 +52,9 @@ impl Model for Execution {
 
     ghost Value = { ExecutionState };
 
-    ghost use Rattle.a32_step.specs.Inside.{standing_of, IsSound};
+    ghost use Rattle.a32_step.specs.Inside.{execution_state_of, IsSound};
 
-    ghost view = { standing_of };
+    ghost view = { execution_state_of };
 
     ghost invariant = { IsSound };
 }

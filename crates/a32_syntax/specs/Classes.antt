@@ -4,10 +4,10 @@ use Rattle.a32_instr.specs.declared.instructions.Instr.{Instr}
 use Rattle.a32_instr.specs.declared.instructions.Instr.TheVariants.{Word, Half, LoadEx, StoreEx, Clrex, Barrier}
 
 -- loads and stores of one register that are not exclusive (DDI 0406C A5.2.8, A5.3)
-abbrev pub is_access : Instr → Bool
-is_access (Word cond load byte index rn rt offset) = true
-is_access (Half cond kind index rn rt offset) = true
-is_access i = false
+abbrev pub is_single_transfer : Instr → Bool
+is_single_transfer (Word cond load byte index rn rt offset) = true
+is_single_transfer (Half cond kind index rn rt offset) = true
+is_single_transfer i = false
 
 -- exclusives, CLREX and the barriers (DDI 0406C A5.2.10, A5.7.1)
 abbrev pub is_synchronization : Instr → Bool

@@ -2,7 +2,7 @@
 ghost use Rattle.std.specs.Prelude.{◌≡◌, ◌<◌, ◌≤◌, ◌^◌, IsTrue, false, length};
 ghost use Rattle.a32_instr.specs.Branch.{target_of};
 ghost use Rattle.a32_instr.specs.Classes.{is_data, is_multiply};
-ghost use Rattle.a32_syntax.specs.Classes.{is_access, is_synchronization};
+ghost use Rattle.a32_syntax.specs.Classes.{is_single_transfer, is_synchronization};
 ghost use Rattle.a32_syntax.specs.Shown.{always, flag, load_exclusive_numbers, showing, showing_of, store_exclusive_numbers};
 
 use crate::operations::{Mnemonic, Operation};
@@ -244,7 +244,7 @@ fn multiplication(instruction: &Instr, here: u32) -> Showing
 // Loads and stores of one register that aren't exclusive (DDI 0406C A5.2.8, A5.3).
 #[tactic(auto, unfolding(crate::specs::Shown::showing_of))]
 fn access(instruction: &Instr, here: u32) -> Showing
-    requires { IsTrue (is_access instruction.now) }
+    requires { IsTrue (is_single_transfer instruction.now) }
     ensures { result ≡ showing_of instruction.now here }
 {
     match *instruction {

@@ -21,7 +21,7 @@ use Rattle.guest_thread.specs.Accesses.{entry_of, entry_by, reply_of}
 use Rattle.guest_thread.specs.Counts.{reads_in, writes_in, fails_in}
 use Rattle.guest_thread.specs.Progress.{IsBounded, progress_of}
 use Rattle.guest_thread.specs.ThreadState.{ThreadState, IsReadyBy, IsReadyIn}
-use Rattle.guest_thread.specs.Start.{first_standing, thread_start}
+use Rattle.guest_thread.specs.Start.{first_state, thread_start}
 use Rattle.guest_thread.specs.declared.guests.Printing.{Printing}
 use Rattle.guest_thread.specs.Under.{HasCome, Awaits}
 use Rattle.guest_machine.specs.Turns.{access_by}
@@ -81,7 +81,7 @@ after_access program budget start bytes alone asked replied monitor counts ask a
     }
 
 -- at the start
-pub at_start : (program : Program) (size : Numbers) (budget : ℕ) (alone : Alone) → alone.guest ≡ first_standing program size 0
+pub at_start : (program : Program) (size : Numbers) (budget : ℕ) (alone : Alone) → alone.guest ≡ first_state program size 0
     → alone.memory ≡ at_rest program.bytes 1 → alone.counts ≡ record { reads = 0; writes = 0; fails = 0 }
     → IsUnderWay program budget (thread_start program size 0) program.bytes alone
 at_start program size budget alone guest memory counts = record {

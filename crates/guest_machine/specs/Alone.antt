@@ -34,6 +34,6 @@ pub record IsEndAlone (program : Program) (budget : ℕ) (start : Machine) (byte
   pub alone : IsAlone bytes history
   pub end_in : IsEndIn program budget start history end
 
--- the end of a program's one thread, on a memory that begins as the program's bytes
+-- the machine has one thread, and the end is that of the program's, on a memory that begins as the program's bytes
 abbrev pub IsSoloEnd : Program → Numbers → ℕ → GuestEnd → Type 0
-IsSoloEnd program size budget end = IsEndAlone program budget (thread_start program size 0) program.bytes end
+IsSoloEnd program size budget end = (size.threads ≡ 1) × IsEndAlone program budget (thread_start program size 0) program.bytes end

@@ -6,8 +6,8 @@ use Rattle.guest_thread.specs.Counts.{reads_of, writes_of, fails_of}
 use Rattle.guest_machine.specs.declared.counts.Counts.{Counts}
 
 -- how many accesses were counted
-abbrev pub sum_of : Counts → ℕ
-sum_of counts = counts.reads + counts.writes + counts.fails
+abbrev pub accesses_counted : Counts → ℕ
+accesses_counted counts = counts.reads + counts.writes + counts.fails
 
 -- the counts of a thread's loads, stores and failed store-exclusives in a history
 pub record AreCounts (thread : ℕ) (history : List Entry) (counts : Counts) : Type 0 where

@@ -12,7 +12,7 @@ use Rattle.guest_calls.specs.Run.{Pair, Ends}
 use Rattle.a32_step.specs.Machine.{Machine}
 use Rattle.guest_thread.specs.Accesses.{history_of, pairs_in}
 use Rattle.guest_thread.specs.ThreadState.{ThreadState, IsReadyIn}
-use Rattle.guest_thread.specs.Start.{first_standing, thread_start}
+use Rattle.guest_thread.specs.Start.{first_state, thread_start}
 use Rattle.guest_thread.specs.Under.{HasCome}
 use Rattle.guest_thread.specs.declared.ends.GuestEnd.{GuestEnd}
 use Rattle.guest_machine.specs.Counting.{AreCounts}
@@ -23,7 +23,7 @@ use Rattle.guest_machine.specs.declared.turns.Turns.{Turns}
 
 -- a thread at its start
 abbrev pub first_seat : Program → Numbers → ℕ → Seat
-first_seat program size t = record { guest = first_standing program size t; stop = None }
+first_seat program size t = record { guest = first_state program size t; stop = None }
 
 -- a thread is one of some
 abbrev pub is_one_of : List ℕ → ℕ → Bool

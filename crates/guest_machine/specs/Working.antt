@@ -11,17 +11,17 @@ use Rattle.guest_thread.specs.Progress.{IsBounded, progress_of}
 use Rattle.guest_thread.specs.ThreadState.{IsReadyIn}
 use Rattle.guest_thread.specs.Under.{HasCome}
 use Rattle.guest_machine.specs.Alone.{IsAlone}
-use Rattle.guest_machine.specs.Counting.{AreCounts}
+use Rattle.guest_machine.specs.Counting.{AreCounts, accesses_counted}
 use Rattle.guest_machine.specs.declared.alone.Alone.{Alone}
 
--- no reply is awaited, its memory is as long as the program's and has one thread, and it has counted no more accesses
--- than it has come far
+-- no reply is awaited; its instruction has had 16 replies at most, and its output is no longer than it may be; its memory
+-- is as long as the program's and has one thread; and its counts together are no more than how far it has come
 pub record IsWorking (program : Program) (budget : ℕ) (alone : Alone) : Type 0 where
   pub ready : IsReadyIn (length program.bytes) budget alone.guest
   pub bounded : IsBounded alone.guest
   pub inside : length alone.memory.memory ≡ length program.bytes
   pub one : length alone.memory.marks ≡ 1
-  pub counted : alone.counts.reads + alone.counts.writes + alone.counts.fails ≤ progress_of alone.guest
+  pub counted : accesses_counted alone.counts ≤ progress_of alone.guest
 
 -- the history that brought it here, where memory began as these bytes, its memory and its counts
 pub record IsUnderWay (program : Program) (budget : ℕ) (start : Machine) (bytes : List ℕ) (alone : Alone) : Type 0 where

@@ -2,7 +2,7 @@
 ghost use Rattle.std.specs.Prelude.{◌≡◌, ◌<◌, ◌≤◌, ◌+◌, ◌^◌};
 ghost use Rattle.guest_thread.specs.Accesses.{entry_of, history_of};
 ghost use Rattle.guest_thread.specs.Counts.{fails_in, reads_in, writes_in};
-ghost use Rattle.guest_machine.specs.Counting.{AreCounts, sum_of};
+ghost use Rattle.guest_machine.specs.Counting.{AreCounts, accesses_counted};
 
 use history::{Access, Deed};
 
@@ -29,11 +29,11 @@ impl Counts {
     /// One more access. CLREX counts for nothing.
     #[inline(always)]
     pub(crate) fn count(&mut self, access: &Access)
-        requires few { sum_of self.old < 2 ^ 63 }
+        requires few { accesses_counted self.old < 2 ^ 63 }
         ensures reads { self.new.reads ≡ self.old.reads + reads_in (entry_of access.now) }
         ensures writes { self.new.writes ≡ self.old.writes + writes_in (entry_of access.now) }
         ensures fails { self.new.fails ≡ self.old.fails + fails_in (entry_of access.now) }
-        ensures sum { sum_of self.new ≤ sum_of self.old + 1 }
+        ensures sum { accesses_counted self.new ≤ accesses_counted self.old + 1 }
     {
         match access.deed {
             Deed::Load | Deed::LoadEx => self.reads += 1,

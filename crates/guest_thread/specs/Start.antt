@@ -11,5 +11,5 @@ abbrev pub thread_start : Program → Numbers → ℕ → Machine
 thread_start program size t = start_of program.entry t size.threads (room_of size + 4096 * (t + 1))
 
 -- it has made no step, has written nothing, and is in the middle of no write
-abbrev pub first_standing : Program → Numbers → ℕ → ThreadState
-first_standing program size t = record { cpu = thread_start program size t; steps = 0; output = []; printing = None }
+abbrev pub first_state : Program → Numbers → ℕ → ThreadState
+first_state program size t = record { cpu = thread_start program size t; steps = 0; output = []; printing = None }

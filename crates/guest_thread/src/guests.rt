@@ -6,7 +6,7 @@ ghost use Rattle.a32_step.specs.Machine.{Machine, IsReady, IsCalling};
 ghost use Rattle.guest_calls.specs.Run.{Pair, byte_load, effect_of_call};
 ghost use Rattle.guest_thread.specs.Progress.{HasKept, HasMoved, IsBounded};
 ghost use Rattle.guest_thread.specs.ThreadState.{HasLeft, IsReadyIn, IsWaitingIn, IsPendingAfter, MayGive};
-ghost use Rattle.guest_thread.specs.Start.{first_standing, thread_start};
+ghost use Rattle.guest_thread.specs.Start.{first_state, thread_start};
 ghost use Rattle.guest_thread.specs.Turns.{AfterCall, IsAtTurn, IsOneStepOn, after_byte};
 ghost use Rattle.guest_thread.specs.Under.{HasCome, Awaits, ComesTo};
 
@@ -65,7 +65,7 @@ impl Guest {
         t: u32,
     ) -> Result<Guest, AllocError>
         requires { t < size.now.threads }
-        ensures state { IfOk result (λ guest. guest ≡ first_standing image.now size.now t) }
+        ensures state { IfOk result (λ guest. guest ≡ first_state image.now size.now t) }
         ensures ready { IfOk result (λ guest. (mem budget : ℕ) → IsReadyIn mem budget guest) }
         ensures comes { IfOk result (λ guest. (budget : ℕ) → HasCome image.now budget (thread_start image.now size.now t) [] guest) }
     {
@@ -108,11 +108,11 @@ impl Guest {
     /// Goes on until the thread asks for an access or has ended: by a stop, by the exit call, or since it has made
     /// `budget` steps. The budget is at most 1,000,000,000,000 steps.
     ///
-    /// No reply is awaited, and the image is that of the start, of at most 16,777,216 bytes. A thread that has ended
-    /// isn't asked again.
+    /// No reply is awaited, and the image is that of the start, whose length 32 bits hold. A thread that has ended isn't
+    /// asked again.
     pub fn next(&mut self, image: &Image, budget: u64) -> Turn
         requires ready { IsReadyIn (length image.now.bytes) budget self.old }
-        requires small { length image.now.bytes ≤ 16777216 }
+        requires small { length image.now.bytes < 2 ^ 32 }
         requires budget { budget ≤ 1000000000000 }
         ensures comes { (start : Machine) (pairs : List Pair) → HasCome image.now budget start pairs self.old
             → ComesTo image.now budget start pairs result self.new }
@@ -137,7 +137,7 @@ impl Guest {
     fn turn(&mut self, image: &Image) -> Option<Turn>
         requires at_turn { IsAtTurn self.old }
         requires few { self.old.steps < 1000000000000 }
-        requires small { length image.now.bytes ≤ 16777216 }
+        requires small { length image.now.bytes < 2 ^ 32 }
         ensures goes_on { IfNone result (IsOneStepOn self.old self.new) }
         ensures comes { (budget : ℕ) (start : Machine) (pairs : List Pair) → HasCome image.now budget start pairs self.old → self.old.steps < budget
             → MatchOption result (HasCome image.now budget start pairs self.new) (λ turn. ComesTo image.now budget start pairs turn self.new) }
@@ -160,7 +160,7 @@ impl Guest {
     fn call(&mut self, image: &Image, call: CallAsk) -> Option<Turn>
         requires calling { IsCalling self.old.cpu.phase }
         requires few { self.old.steps < 1000000000000 }
-        requires small { length image.now.bytes ≤ 16777216 }
+        requires small { length image.now.bytes < 2 ^ 32 }
         ensures made { AfterCall (length image.now.bytes) (effect_of_call image.now call (length self.old.output)) self.old result self.new }
         ensures at_most { self.new.steps ≤ self.old.steps + 1 }
         ensures kept { IsBounded self.old → HasKept self.old self.new }

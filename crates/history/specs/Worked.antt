@@ -21,5 +21,5 @@ abbrev pub next_row : Place
 next_row = record { addr = 16; size = B8 }
 
 -- a small machine of two threads with so many classes, each of which takes one write
-abbrev pub of_classes : ℕ → Numbers
-of_classes classes = record { mem = 65536; threads = 2; classes = classes; limit = 1 }
+abbrev pub small_machine : ℕ → Numbers
+small_machine classes = record { mem = 65536; threads = 2; classes = classes; limit = 1 }

@@ -7,7 +7,7 @@ ghost use Rattle.history.specs.Cause.{MayFail, MayMiss};
 ghost use Rattle.history.specs.Legal.{IsLegal};
 ghost use Rattle.history.specs.Monitor.{at_rest};
 ghost use Rattle.history.specs.Reservation.{reservation_of};
-ghost use Rattle.history.specs.Worked.{beside, last_byte, next_row, of_classes, word};
+ghost use Rattle.history.specs.Worked.{beside, last_byte, next_row, small_machine, word};
 
 use crate::entry::{Cause, Entry};
 
@@ -53,43 +53,43 @@ pub fn own_write_in_the_class()
 /// A store-exclusive may fail as lost where another thread has begun a write in the class since, and not where the
 /// thread alone has; it may fail as absent where the thread's own write has ended its reservation.
 pub fn failing_by_a_write()
-    ensures lost { MayFail (of_classes 1) (Entry.Watch 0 word ∷ Entry.Read 0 word 0 true ∷ Entry.Begin 1 next_row ∷ []) 0 word Cause.Lost }
-    ensures not_in_another_class { ¬ MayFail (of_classes 4096) (Entry.Watch 0 word ∷ Entry.Read 0 word 0 true ∷ Entry.Begin 1 next_row ∷ []) 0 word Cause.Lost }
-    ensures not_before { ¬ MayFail (of_classes 1) (Entry.Begin 1 next_row ∷ Entry.Watch 0 word ∷ Entry.Read 0 word 0 true ∷ []) 0 word Cause.Lost }
-    ensures absent { MayFail (of_classes 1) (Entry.Watch 0 word ∷ Entry.Read 0 word 0 true ∷ Entry.Begin 0 next_row ∷ []) 0 word Cause.Absent }
-    ensures not_absent { ¬ MayFail (of_classes 4096) (Entry.Watch 0 word ∷ Entry.Read 0 word 0 true ∷ Entry.Begin 0 next_row ∷ []) 0 word Cause.Absent }
+    ensures lost { MayFail (small_machine 1) (Entry.Watch 0 word ∷ Entry.Read 0 word 0 true ∷ Entry.Begin 1 next_row ∷ []) 0 word Cause.Lost }
+    ensures not_in_another_class { ¬ MayFail (small_machine 4096) (Entry.Watch 0 word ∷ Entry.Read 0 word 0 true ∷ Entry.Begin 1 next_row ∷ []) 0 word Cause.Lost }
+    ensures not_before { ¬ MayFail (small_machine 1) (Entry.Begin 1 next_row ∷ Entry.Watch 0 word ∷ Entry.Read 0 word 0 true ∷ []) 0 word Cause.Lost }
+    ensures absent { MayFail (small_machine 1) (Entry.Watch 0 word ∷ Entry.Read 0 word 0 true ∷ Entry.Begin 0 next_row ∷ []) 0 word Cause.Absent }
+    ensures not_absent { ¬ MayFail (small_machine 4096) (Entry.Watch 0 word ∷ Entry.Read 0 word 0 true ∷ Entry.Begin 0 next_row ∷ []) 0 word Cause.Absent }
 {}
 
 /// A store-exclusive may fail at the limit where its class has had so many writes, and not where it has had fewer, nor
 /// where another thread's write has begun since.
 pub fn failing_at_the_limit()
-    ensures full { MayFail (of_classes 1)
+    ensures full { MayFail (small_machine 1)
         (Entry.Begin 1 word ∷ Entry.Write 1 word 5 false ∷ Entry.End 1 word ∷ Entry.Watch 0 word ∷ Entry.Read 0 word 5 true ∷ []) 0 word Cause.Limit }
-    ensures not_full { ¬ MayFail (of_classes 1) (Entry.Watch 0 word ∷ Entry.Read 0 word 0 true ∷ []) 0 word Cause.Limit }
-    ensures lost_first { ¬ MayFail (of_classes 1)
+    ensures not_full { ¬ MayFail (small_machine 1) (Entry.Watch 0 word ∷ Entry.Read 0 word 0 true ∷ []) 0 word Cause.Limit }
+    ensures lost_first { ¬ MayFail (small_machine 1)
         (Entry.Watch 0 word ∷ Entry.Read 0 word 0 true ∷ Entry.Begin 1 word ∷ Entry.Write 1 word 5 false ∷ Entry.End 1 word ∷ []) 0 word Cause.Limit }
 {}
 
 /// A load-exclusive may get no reservation while another thread's write in the class is in flight, and not after it.
 pub fn missing_in_flight()
-    ensures in_flight { MayMiss (of_classes 1) (Entry.Begin 1 next_row ∷ []) 0 word }
-    ensures ended { ¬ MayMiss (of_classes 1) (Entry.Begin 1 next_row ∷ Entry.Write 1 next_row 5 false ∷ Entry.End 1 next_row ∷ []) 0 word }
-    ensures in_another_class { ¬ MayMiss (of_classes 4096) (Entry.Begin 1 next_row ∷ []) 0 word }
-    ensures own { ¬ MayMiss (of_classes 1) (Entry.Begin 0 next_row ∷ []) 0 word }
+    ensures in_flight { MayMiss (small_machine 1) (Entry.Begin 1 next_row ∷ []) 0 word }
+    ensures ended { ¬ MayMiss (small_machine 1) (Entry.Begin 1 next_row ∷ Entry.Write 1 next_row 5 false ∷ Entry.End 1 next_row ∷ []) 0 word }
+    ensures in_another_class { ¬ MayMiss (small_machine 4096) (Entry.Begin 1 next_row ∷ []) 0 word }
+    ensures own { ¬ MayMiss (small_machine 1) (Entry.Begin 0 next_row ∷ []) 0 word }
 {}
 
 /// A history is legal where Arm allows its accesses, each thread's entries are operations, and each failure has its cause;
 /// it isn't where another thread writes between a load-exclusive and the store-exclusive that succeeds, where a write has
 /// not begun, or where a store-exclusive fails for no cause.
 pub fn legal_histories()
-    ensures legal { IsLegal (of_classes 1) (replicate 32 0)
+    ensures legal { IsLegal (small_machine 1) (replicate 32 0)
         (Entry.Watch 0 word
         ∷ Entry.Read 0 word 0 true
         ∷ Entry.Begin 0 word
         ∷ Entry.Write 0 word 9 true
         ∷ Entry.End 0 word
         ∷ []) }
-    ensures overtaken { ¬ IsLegal (of_classes 1) (replicate 32 0)
+    ensures overtaken { ¬ IsLegal (small_machine 1) (replicate 32 0)
         (Entry.Watch 0 word
         ∷ Entry.Read 0 word 0 true
         ∷ Entry.Begin 1 word
@@ -99,6 +99,6 @@ pub fn legal_histories()
         ∷ Entry.Write 0 word 9 true
         ∷ Entry.End 0 word
         ∷ []) }
-    ensures not_begun { ¬ IsLegal (of_classes 1) (replicate 32 0) (Entry.Write 0 word 9 false ∷ []) }
-    ensures causeless { ¬ IsLegal (of_classes 1) (replicate 32 0) (Entry.Fail 0 word 9 Cause.Lost ∷ []) }
+    ensures not_begun { ¬ IsLegal (small_machine 1) (replicate 32 0) (Entry.Write 0 word 9 false ∷ []) }
+    ensures causeless { ¬ IsLegal (small_machine 1) (replicate 32 0) (Entry.Fail 0 word 9 Cause.Lost ∷ []) }
 {}

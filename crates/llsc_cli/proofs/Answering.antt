@@ -4,7 +4,7 @@ use Rattle.std.proofs.lemmas.Bool.Decides.{nat_tests}
 use Rattle.llsc_base.specs.Sizes.{Numbers}
 use Rattle.llsc_cli.specs.Host.{AreBytes, Adds, AddsFront}
 use Rattle.llsc_cli.specs.Refusals.{Answer, refused, read_text, refusal_text, most_program, too_long, size_refusal, Refusal, Refuses, Unless}
-use Rattle.llsc_cli.specs.Programs.{fault_name, is_wanting, program_refusal, refusal_on, IsFaultBy}
+use Rattle.llsc_cli.specs.Programs.{program_fault_name, is_wanting, program_refusal, refusal_on, IsFaultBy}
 use Rattle.llsc_cli.specs.Answer.{Is, IsDone}
 use Rattle.llsc_cli.specs.Reads.{Answered, CutAfter, IsCutFile, CallEnds, EndsFor, Gives}
 use Rattle.llsc_cli.specs.declared.formats.Format.{Format}
@@ -208,7 +208,7 @@ program_refusal_is format size wanted file fault none same short is = rw (none, 
 pub answered_program : (format : Format) (size : Numbers) (file : List ℕ) (fault : ProgramFault) (old new : Option (List ℕ)) (status : ℕ)
     → IsFaultBy (refusal_on format size file) fault → (IsTrue (is_wanting fault) → status ≡ 6)
     → (status ≡ 4) ⊎ ((status ≡ 5) ⊎ (status ≡ 6))
-    → (status ≡ 4 → Adds old new (refusal_text (fault_name fault))) → (status ≡ 5 → AddsFront old new (refusal_text (fault_name fault)))
+    → (status ≡ 4 → Adds old new (refusal_text (program_fault_name fault))) → (status ≡ 5 → AddsFront old new (refusal_text (program_fault_name fault)))
     → (status ≡ 6 → new ≡ old)
     → Answered (Refusal (refusal_on format size file)) old new status
 answered_program format size file fault old new status is alone ended said cut memory = by_refusal (refusal_on format size file) refl is
@@ -216,7 +216,7 @@ answered_program format size file fault old new status is alone ended said cut m
     by_refusal : (against : Option (List ℕ)) → refusal_on format size file ≡ against → IsFaultBy against fault
         → Answered (Refusal (refusal_on format size file)) old new status
     by_refusal (Some name) stands named =
-        answered_refused (refusal_on format size file) (fault_name fault) old new status (stands ∙ ap Some (sym named)) ended said cut memory
+        answered_refused (refusal_on format size file) (program_fault_name fault) old new status (stands ∙ ap Some (sym named)) ended said cut memory
     by_refusal None stands wanting = answered_wanting old new status (alone wanting) (memory (alone wanting))
 
 -- a file on a machine that can be, which is not too long, by what stands against it

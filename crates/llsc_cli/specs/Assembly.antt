@@ -22,8 +22,8 @@ abbrev pub text_refusal : List ℕ → Option (List ℕ)
 text_refusal file = option_or (too_long most_text file) (not_text file)
 
 -- a fault is named by its line and its kind
-abbrev pub fault_name : AsmFault → List ℕ
-fault_name fault = codes "line " ++ (decimal fault.line ++ (codes " " ++ kind_name fault.kind))
+abbrev pub asm_fault_text : AsmFault → List ℕ
+asm_fault_text fault = codes "line " ++ (decimal fault.line ++ (codes " " ++ kind_name fault.kind))
 
 -- a program has data, or space for it
 abbrev pub has_data : Unit → Bool
@@ -44,7 +44,7 @@ unit_answer format unit = unless (unit_refusal format unit) (record { status = 0
 
 abbrev pub text_answer : Format → Result Unit AsmFault → Answer
 text_answer format (Ok unit) = unit_answer format unit
-text_answer format (Err fault) = refused (fault_name fault)
+text_answer format (Err fault) = refused (asm_fault_text fault)
 
 -- the status and the text
 abbrev pub asm_answer : Format → List ℕ → Answer

@@ -4,7 +4,7 @@ use Rattle.std.specs.Fmt.{decimal}
 use Rattle.std.specs.Option.{option_or}
 use Rattle.llsc_base.specs.Images.{Program}
 use Rattle.llsc_base.specs.Sizes.{Numbers}
-use Rattle.run_record.specs.Names.{fault_name}
+use Rattle.run_record.specs.Names.{record_fault_name}
 use Rattle.run_record.specs.Reading.{record_of}
 use Rattle.run_record.specs.declared.faults.RecordFault.{RecordFault}
 use Rattle.run_record.specs.declared.faults.RecordFault.TheVariants as fault
@@ -28,7 +28,7 @@ files_refusal file recorded = option_or (too_long most_program file) (too_long m
 abbrev pub record_fault_text : RecordFault → List ℕ
 record_fault_text (fault.Line n) = codes "Line " ++ decimal n
 record_fault_text (fault.Thread n) = codes "Thread " ++ decimal n
-record_fault_text fault = fault_name fault
+record_fault_text fault = record_fault_name fault
 
 -- the text of a verdict, and its status
 abbrev pub verdict_text : Verdict → List ℕ

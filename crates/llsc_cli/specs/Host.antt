@@ -22,7 +22,7 @@ abbrev pub AddsFront : Option (List ℕ) → Option (List ℕ) → List ℕ → 
 AddsFront old new text = (k : ℕ) × Adds old new (take k text)
 
 -- the name of a read's fault
-abbrev pub fault_name : ReadFault → List ℕ
-fault_name Failed = codes "Failed"
-fault_name FileTooLong = codes "FileTooLong"
-fault_name Memory = codes "Memory"
+abbrev pub read_fault_name : ReadFault → List ℕ
+read_fault_name Failed = codes "Failed"
+read_fault_name FileTooLong = codes "FileTooLong"
+read_fault_name Memory = codes "Memory"

@@ -31,9 +31,9 @@ image_of Elf file size = elf_image file size
 image_of Flat file size = flat_image file size
 
 -- the name of a fault of either format
-abbrev pub fault_name : ProgramFault → List ℕ
-fault_name (fault.Elf fault) = elf_fault_name fault
-fault_name (fault.Flat fault) = flat_fault_name fault
+abbrev pub program_fault_name : ProgramFault → List ℕ
+program_fault_name (fault.Elf fault) = elf_fault_name fault
+program_fault_name (fault.Flat fault) = flat_fault_name fault
 
 -- a fault that the file doesn't have: memory is wanting for its image
 abbrev pub is_wanting : ProgramFault → Bool
@@ -43,5 +43,5 @@ is_wanting _ = false
 
 -- a fault is the one that stands against the file; where none does, memory is wanting
 abbrev pub IsFaultBy : Option (List ℕ) → ProgramFault → Type 0
-IsFaultBy (Some name) fault = fault_name fault ≡ name
+IsFaultBy (Some name) fault = program_fault_name fault ≡ name
 IsFaultBy None fault = IsTrue (is_wanting fault)

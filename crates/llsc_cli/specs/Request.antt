@@ -109,8 +109,8 @@ asked (call.Disassemble file format mem) = Disassemble file.now format mem
 asked (call.Trace file format numbers) = Trace file.now format numbers.threads numbers.mem numbers.seed numbers.budget
 asked (call.Check file recorded format mem) = Check file.now recorded.now format mem
 
--- a request's budget is in its range
+-- a request's budget, where it has one, is in its range
 abbrev pub HasBudget : Call → Type 0
-HasBudget (call.Solo file format mem budget) = budget ≤ most_budget
+HasBudget (call.Solo file format mem budget) = (1 ≤ budget) × (budget ≤ most_budget)
 HasBudget (call.Trace file format numbers) = (1 ≤ numbers.budget) × (numbers.budget ≤ most_budget)
 HasBudget _ = Unit {0}

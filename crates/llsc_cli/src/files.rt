@@ -2,7 +2,7 @@
 ghost use Rattle.std.specs.Prelude.{◌≡◌, ◌≢◌, codes, ◌<◌, ◌≤◌, ◌⊎◌, List, ℕ, None, Some, IfOk, OnOk, IfErr, OnErr, IsTrue, length};
 ghost use Rattle.llsc_cli.specs.Host.{Adds, AddsFront, AreBytes, Rose};
 ghost use Rattle.llsc_cli.specs.Refusals.{machine_of, read_text, refusal_text, too_long, most_program, size_refusal, Refusal, Refuses};
-ghost use Rattle.llsc_cli.specs.Programs.{fault_name, image_of, is_wanting, program_refusal, refusal_on};
+ghost use Rattle.llsc_cli.specs.Programs.{program_fault_name, image_of, is_wanting, program_refusal, refusal_on};
 ghost use Rattle.llsc_cli.specs.Reads.{Answered, CutAfter, CallEnds};
 
 use crate::ended::{Ended, out_of_memory, refuse, say};
@@ -72,8 +72,8 @@ pub fn read<H: Host>(alloc: Global, host: &mut H, name: &str, most: usize) -> Re
 fn refuse_program<H: Host>(alloc: Global, host: &mut H, fault: ProgramFault) -> Ended
     ensures ended { (result.status ≡ 4) ⊎ ((result.status ≡ 5) ⊎ (result.status ≡ 6)) }
     ensures memory_alone { IsTrue (is_wanting fault) → result.status ≡ 6 }
-    ensures said { result.status ≡ 4 → Adds (H.written host.old) (H.written host.new) (refusal_text (fault_name fault)) }
-    ensures cut { result.status ≡ 5 → Rose (H.write_faults host.old) (H.write_faults host.new) × AddsFront (H.written host.old) (H.written host.new) (refusal_text (fault_name fault)) }
+    ensures said { result.status ≡ 4 → Adds (H.written host.old) (H.written host.new) (refusal_text (program_fault_name fault)) }
+    ensures cut { result.status ≡ 5 → Rose (H.write_faults host.old) (H.write_faults host.new) × AddsFront (H.written host.old) (H.written host.new) (refusal_text (program_fault_name fault)) }
     ensures memory { result.status ≡ 6 → H.written host.new ≡ H.written host.old }
     ensures write_answered { result.status ≢ 5 → H.write_faults host.new ≡ H.write_faults host.old }
     ensures files { H.file host.new ≡ H.file host.old }

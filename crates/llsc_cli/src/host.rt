@@ -1,6 +1,6 @@
 //! What the program asks of the world outside: files to read and an output to write.
 ghost use Rattle.std.specs.Prelude.{◌≡◌, ◌⊎◌, ℕ, ◌<◌, ◌≤◌, List, length, Option, Some, IfOk, OnOk, OnErr, string_bytes};
-ghost use Rattle.llsc_cli.specs.Host.{Adds, AddsFront, AreBytes, Rose, fault_name};
+ghost use Rattle.llsc_cli.specs.Host.{Adds, AddsFront, AreBytes, Rose, read_fault_name};
 
 use std::alloc::Global;
 use thiserror::Error;
@@ -22,7 +22,7 @@ pub enum ReadFault {
 impl ReadFault {
     /// The fault's name, as a report prints it.
     pub fn name(&self) -> &str
-        ensures { result.now ≡ fault_name self.now }
+        ensures { result.now ≡ read_fault_name self.now }
     {
         match self {
             ReadFault::Failed => "Failed",

@@ -1,6 +1,6 @@
 //! The image of a program's file, of either format.
 ghost use Rattle.std.specs.Prelude.{◌≡◌, IfOk, IfErr, None};
-ghost use Rattle.llsc_cli.specs.Programs.{fault_name, image_of, is_wanting, refusal_on, IsFaultBy};
+ghost use Rattle.llsc_cli.specs.Programs.{program_fault_name, image_of, is_wanting, refusal_on, IsFaultBy};
 
 use crate::formats::Format;
 use elf32::ElfFault;
@@ -19,7 +19,7 @@ pub enum ProgramFault {
 impl ProgramFault {
     /// The fault's name, without its format.
     pub fn name(&self) -> &str
-        ensures { result.now ≡ fault_name self.now }
+        ensures { result.now ≡ program_fault_name self.now }
     {
         match self {
             ProgramFault::Elf(fault) => fault.name(),

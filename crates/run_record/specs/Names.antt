@@ -4,9 +4,9 @@ use Rattle.run_record.specs.declared.faults.RecordFault.{RecordFault}
 use Rattle.run_record.specs.declared.faults.RecordFault.TheVariants as fault
 
 -- the name of a fault
-abbrev pub fault_name : RecordFault → List ℕ
-fault_name fault.Header = codes "Header"
-fault_name fault.TooLong = codes "TooLong"
-fault_name (fault.Line n) = codes "Line"
-fault_name (fault.Thread n) = codes "Thread"
-fault_name fault.Memory = codes "Memory"
+abbrev pub record_fault_name : RecordFault → List ℕ
+record_fault_name fault.Header = codes "Header"
+record_fault_name fault.TooLong = codes "TooLong"
+record_fault_name (fault.Line n) = codes "Line"
+record_fault_name (fault.Thread n) = codes "Thread"
+record_fault_name fault.Memory = codes "Memory"

@@ -1,6 +1,6 @@
 //! Why bytes are no record.
 ghost use Rattle.std.specs.Prelude.{◌≡◌};
-ghost use Rattle.run_record.specs.Names.{fault_name};
+ghost use Rattle.run_record.specs.Names.{record_fault_name};
 
 use thiserror::Error;
 
@@ -29,7 +29,7 @@ pub enum RecordFault {
 impl RecordFault {
     /// The variant's name.
     pub fn name(&self) -> &str
-        ensures { result.now ≡ fault_name self.now }
+        ensures { result.now ≡ record_fault_name self.now }
     {
         match self {
             RecordFault::Header => "Header",

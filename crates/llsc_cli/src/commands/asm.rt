@@ -4,7 +4,7 @@ ghost use Rattle.a32_asm.specs.Assembled.{most_text};
 ghost use Rattle.elf32.specs.Units.{code_bytes, IsWithin};
 ghost use Rattle.llsc_cli.specs.Host.{Rose};
 ghost use Rattle.llsc_cli.specs.Refusals.{refused, too_long};
-ghost use Rattle.llsc_cli.specs.Assembly.{asm_answer, fault_name, has_data, unit_answer, unit_file};
+ghost use Rattle.llsc_cli.specs.Assembly.{asm_answer, asm_fault_text, has_data, unit_answer, unit_file};
 ghost use Rattle.llsc_cli.specs.Answer.{AnswersAsm};
 ghost use Rattle.llsc_cli.specs.Reads.{CallEnds, Gives};
 
@@ -70,14 +70,14 @@ fn write_unit<H: Host>(alloc: Global, host: &mut H, format: Format, unit: &Unit)
 
 /// The name of a fault: its line and its kind.
 fn name_of(alloc: Global, fault: AsmFault) -> Result<String, AllocError>
-    ensures { IfOk result (λ name. string_bytes name ≡ fault_name fault) }
+    ensures { IfOk result (λ name. string_bytes name ≡ asm_fault_text fault) }
 {
     format!(in alloc; "line {} {}", fault.line, fault.kind.name())
 }
 
 /// Says which line of a text has a fault, and which.
 fn refuse_text<H: Host>(alloc: Global, host: &mut H, fault: AsmFault) -> Ended
-    ensures gives { Gives (refused (fault_name fault)) (H.written host.old) (H.written host.new) result.status }
+    ensures gives { Gives (refused (asm_fault_text fault)) (H.written host.old) (H.written host.new) result.status }
     ensures memory_alone { fault.kind ≡ AsmKind.Memory → result.status ≡ 6 }
     ensures write { result.status ≡ 5 → Rose (H.write_faults host.old) (H.write_faults host.new) }
     ensures write_answered { result.status ≢ 5 → H.write_faults host.new ≡ H.write_faults host.old }

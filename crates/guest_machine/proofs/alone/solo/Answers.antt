@@ -10,8 +10,9 @@ returns c =
     let program = c.args.image.now in
     let start = thread_start program c.args.size.now 0 in
     let alone : Alone = record { guest = c.in_ok-start.field-0; memory = c.in_ok-new.field-0; counts = c.none.result } in
-    end_of program c.args.budget start program.bytes c.run-stop.result c.run-stop.new.self c.steps.result c.into_output.result
+    let ends = end_of program c.args.budget start program.bytes c.run-stop.result c.run-stop.new.self c.steps.result c.into_output.result
     c.steps.ensures c.into_output.ensures
     (c.run-stop.ensures start program.bytes
     (at_start program c.args.size.now c.args.budget alone c.in_ok-start.ensures.state
-    (c.in_ok-new.ensures ∙ ap (λ b. at_rest b 1) c.bytes.ensures.items) c.none.ensures))
+    (c.in_ok-new.ensures ∙ ap (λ b. at_rest b 1) c.bytes.ensures.items) c.none.ensures)) in
+    (c.requires.one_thread, ends)

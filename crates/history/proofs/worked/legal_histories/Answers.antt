@@ -1,7 +1,7 @@
 -- The histories' parts, one by one.
 use Rattle.std.proofs.Common.{◌≡◌, None, Some, [], lit<, refl}
 use Rattle.llsc_base.specs.Memory.{bytes_of, number_of, row_of}
-use Rattle.history.specs.Worked.{of_classes, word}
+use Rattle.history.specs.Worked.{small_machine, word}
 use Rattle.history.specs.declared.entry.Entry.TheVariants.{Fail}
 use Rattle.history.specs.declared.entry.Cause.TheVariants.{Lost}
 use Rattle.history.proofs.SmallHistories.{pair, pair_operations, quiet_causes, not_begun}
@@ -13,7 +13,7 @@ unfolding row_of number_of bytes_of
 returns-clause-legal c = record {
   accesses = ((sound_word 0 0 (lit< tt) (lit< tt), refl), ((sound_word 0 9 (lit< tt) (lit< tt), λ ex. refl), tt));
   operations = pair_operations;
-  causes = quiet_causes (of_classes 1) pair refl;
+  causes = quiet_causes (small_machine 1) pair refl;
 }
 
 pub returns-clause-overtaken : goal.returns-clause-overtaken
