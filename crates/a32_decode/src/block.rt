@@ -36,7 +36,7 @@ pub fn block(word: u32) -> Result<Instr, DecodeFault>
     })
 }
 
-// Whether the base is the PC, the list is empty, or a base that is written back clashes with the list.
+/// Whether the base is the PC, the list is empty, or a base that is written back clashes with the list.
 #[inline]
 #[tactic(auto, unfolding(a32_instr::specs::Fields::block_unpredictable))]
 fn clashes(w: u32, l: u32, rn: Reg, list: u32) -> bool
@@ -48,7 +48,7 @@ fn clashes(w: u32, l: u32, rn: Reg, list: u32) -> bool
     w == 1 && has(list, rn) && (l == 1 || has_lower(list, rn))
 }
 
-// Whether a register is in a list.
+/// Whether a register is in a list.
 #[inline(always)]
 fn has(list: u32, register: Reg) -> bool
     ensures { result ≡ (list / 2 ^ register % 2 == 1) }
@@ -56,7 +56,7 @@ fn has(list: u32, register: Reg) -> bool
     bit(list, register.num() as u32)
 }
 
-// Whether a register lower than this one is in a list.
+/// Whether a register lower than this one is in a list.
 #[inline(always)]
 fn has_lower(list: u32, register: Reg) -> bool
     ensures { result ≡ not (list % 2 ^ register == 0) }

@@ -63,7 +63,7 @@ pub fn supervisor_call(word: u32) -> Result<Instr, DecodeFault>
     })
 }
 
-// A number of 24 bits, read as signed.
+/// A number of 24 bits, read as signed.
 #[inline]
 #[tactic(auto, unfolding(a32_instr::specs::Fields::signed24))]
 fn signed(field: u32) -> i32

@@ -65,7 +65,7 @@ pub fn with_immediate(word: u32) -> Result<Instr, DecodeFault>
     immediate(word)
 }
 
-// Data processing with an immediate (DDI 0406C A5.2.3).
+/// Data processing with an immediate (DDI 0406C A5.2.3).
 #[inline]
 fn immediate(word: u32) -> Result<Instr, DecodeFault>
     requires group { bits_of word 25 3 ≡ 1 }
@@ -86,7 +86,7 @@ fn immediate(word: u32) -> Result<Instr, DecodeFault>
     Ok(alu(word, operand))
 }
 
-// Data processing with a register that is shifted by a number (DDI 0406C A5.2.1).
+/// Data processing with a register that is shifted by a number (DDI 0406C A5.2.1).
 #[inline]
 fn shifted_by_number(word: u32) -> Result<Instr, DecodeFault>
     requires group { bits_of word 25 3 ≡ 0 }
@@ -109,7 +109,7 @@ fn shifted_by_number(word: u32) -> Result<Instr, DecodeFault>
     Ok(alu(word, operand))
 }
 
-// Data processing with a register that is shifted by another, and its neighbours (DDI 0406C A5.2.2, A5.2.12).
+/// Data processing with a register that is shifted by another, and its neighbours (DDI 0406C A5.2.2, A5.2.12).
 #[inline]
 #[tactic(auto, using(a32_instr::proofs::SilentCompare::silent_compare))]
 fn shifted_by_register(word: u32) -> Result<Instr, DecodeFault>
@@ -141,7 +141,7 @@ fn shifted_by_register(word: u32) -> Result<Instr, DecodeFault>
     Ok(alu(word, operand))
 }
 
-// MOVW, MOVT and hints (DDI 0406C A5.2, A5.2.11).
+/// MOVW, MOVT and hints (DDI 0406C A5.2, A5.2.11).
 #[inline]
 fn wide_move_or_hint(word: u32) -> Result<Instr, DecodeFault>
     requires group { bits_of word 25 3 ≡ 1 }
@@ -169,7 +169,7 @@ fn wide_move_or_hint(word: u32) -> Result<Instr, DecodeFault>
     Ok(Instr::Movw { cond, rd, imm })
 }
 
-// NOP and YIELD (DDI 0406C A5.2.11).
+/// NOP and YIELD (DDI 0406C A5.2.11).
 #[inline]
 fn hint(word: u32) -> Result<Instr, DecodeFault>
     requires group { bits_of word 25 3 ≡ 1 }
@@ -188,7 +188,7 @@ fn hint(word: u32) -> Result<Instr, DecodeFault>
     }
 }
 
-// Miscellaneous instructions (DDI 0406C A5.2.12).
+/// Miscellaneous instructions (DDI 0406C A5.2.12).
 #[inline]
 fn miscellaneous(word: u32) -> Result<Instr, DecodeFault>
     requires group { bits_of word 25 3 ≡ 0 }
@@ -205,7 +205,7 @@ fn miscellaneous(word: u32) -> Result<Instr, DecodeFault>
     leading_zeros(word)
 }
 
-// CLZ (DDI 0406C A8.8.33).
+/// CLZ (DDI 0406C A8.8.33).
 #[inline]
 fn leading_zeros(word: u32) -> Result<Instr, DecodeFault>
     requires group { bits_of word 25 3 ≡ 0 }
@@ -229,7 +229,7 @@ fn leading_zeros(word: u32) -> Result<Instr, DecodeFault>
     })
 }
 
-// The instruction of data processing that a word is, with its operand.
+/// The instruction of data processing that a word is, with its operand.
 #[inline(always)]
 fn alu(word: u32, operand: Operand2) -> Instr
     requires { bits_of word 28 4 < 15 }
@@ -245,7 +245,7 @@ fn alu(word: u32, operand: Operand2) -> Instr
     }
 }
 
-// The operation of an opcode (DDI 0406C table A5-3).
+/// The operation of an opcode (DDI 0406C table A5-3).
 #[inline]
 #[tactic(auto, unfolding(a32_instr::specs::Fields::alu_op))]
 fn operation(opcode: u32) -> AluOp
@@ -271,7 +271,7 @@ fn operation(opcode: u32) -> AluOp
     }
 }
 
-// The kind of shift of two bits (DDI 0406C A8.4.3).
+/// The kind of shift of two bits (DDI 0406C A8.4.3).
 #[inline]
 #[tactic(auto, unfolding(a32_instr::specs::Fields::shift_kind))]
 pub fn kind_of_shift(kind: u32) -> ShiftKind
@@ -285,7 +285,7 @@ pub fn kind_of_shift(kind: u32) -> ShiftKind
     }
 }
 
-// Whether a word has the opcode of a compare and doesn't set the flags: those are other instructions.
+/// Whether a word has the opcode of a compare and doesn't set the flags: those are other instructions.
 #[inline(always)]
 fn is_silent_compare(word: u32) -> bool
     ensures { result ≡ ((bits_of word 23 2 == 2) && (bits_of word 20 1 == 0)) }
@@ -293,7 +293,7 @@ fn is_silent_compare(word: u32) -> bool
     bits(word, 23, 2) == 2 && bits(word, 20, 1) == 0
 }
 
-// Whether a word has the form of data processing.
+/// Whether a word has the form of data processing.
 #[inline(always)]
 fn is_form(word: u32) -> bool
     ensures { result ≡ alu_fits (alu_op (bits_of word 21 4)) (bits_of word 20 1) (bits_of word 12 4) (bits_of word 16 4) }
@@ -306,7 +306,7 @@ fn is_form(word: u32) -> bool
     )
 }
 
-// A compare sets the flags and names no destination, a move names no first operand.
+/// A compare sets the flags and names no destination, a move names no first operand.
 #[inline]
 #[tactic(auto, unfolding(a32_instr::specs::Fields::alu_fits))]
 fn is_form_of(op: AluOp, sets: u32, rd: Reg, rn: Reg) -> bool
@@ -318,7 +318,7 @@ fn is_form_of(op: AluOp, sets: u32, rd: Reg, rn: Reg) -> bool
     !op.is_move() || rn.num() == 0
 }
 
-// Whether a word of data processing sets the flags and writes the PC.
+/// Whether a word of data processing sets the flags and writes the PC.
 #[inline]
 #[tactic(auto, unfolding(a32_instr::specs::Fields::alu_unpredictable))]
 fn sets_flags_and_pc(word: u32) -> bool

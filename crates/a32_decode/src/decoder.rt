@@ -7,7 +7,12 @@ use crate::bits::{bit, bits};
 use crate::{block, branch, data_processing, load_store, media, synchronization};
 use a32_instr::{DecodeFault, Instr};
 
-/// The instruction that a word is, or why it is none: what the table of words says of it.
+/// The instruction that a word is, by the table of words (DDI 0406C A5, A8.8).
+///
+/// # Errors
+///
+/// `Undefined` exactly where the word fits no row of the table; `Unpredictable` exactly where it fits one, and the manual
+/// leaves open what it does.
 #[inline]
 pub fn decode(word: u32) -> Result<Instr, DecodeFault>
     ensures { result ≡ meaning table word }
@@ -15,8 +20,8 @@ pub fn decode(word: u32) -> Result<Instr, DecodeFault>
     by_class(word)
 }
 
-// The encodings by bits 27:25 (DDI 0406C A5.1, table A5-1). A condition field of 15 is another space of
-// encodings.
+/// The encodings by bits 27:25 (DDI 0406C A5.1, table A5-1). A condition field of 15 is another space of
+/// encodings.
 #[inline]
 fn by_class(word: u32) -> Result<Instr, DecodeFault>
     ensures clrex { Fits clrex word → Means clrex word result }
@@ -62,8 +67,8 @@ fn by_class(word: u32) -> Result<Instr, DecodeFault>
     }
 }
 
-// A load or a store with a register offset, or a media instruction: a word whose bits 27:25 are 011
-// (DDI 0406C A5.1).
+/// A load or a store with a register offset, or a media instruction: a word whose bits 27:25 are 011
+/// (DDI 0406C A5.1).
 #[inline]
 fn by_register_or_media(word: u32) -> Result<Instr, DecodeFault>
     requires group { bits_of word 25 3 ≡ 3 }

@@ -27,7 +27,7 @@ pub fn half(word: u32) -> Result<Instr, DecodeFault>
     by_register(word)
 }
 
-// With an immediate offset, whose upper four bits are bits 11:8 and whose lower four are bits 3:0.
+/// With an immediate offset, whose upper four bits are bits 11:8 and whose lower four are bits 3:0.
 #[inline]
 fn immediate(word: u32) -> Result<Instr, DecodeFault>
     requires group { bits_of word 25 3 ≡ 0 }
@@ -51,7 +51,7 @@ fn immediate(word: u32) -> Result<Instr, DecodeFault>
     Ok(of_half(word, offset))
 }
 
-// With a register offset, at which bits 11:8 are 0.
+/// With a register offset, at which bits 11:8 are 0.
 #[inline]
 fn by_register(word: u32) -> Result<Instr, DecodeFault>
     requires group { bits_of word 25 3 ≡ 0 }
@@ -81,7 +81,7 @@ fn by_register(word: u32) -> Result<Instr, DecodeFault>
     Ok(of_half(word, offset))
 }
 
-// The load or the store that a word is, with its offset.
+/// The load or the store that a word is, with its offset.
 #[inline(always)]
 fn of_half(word: u32, offset: Offset) -> Instr
     requires { bits_of word 28 4 < 15 }
@@ -98,7 +98,7 @@ fn of_half(word: u32, offset: Offset) -> Instr
     }
 }
 
-// Whether a word has an index form, and is a halfword's or a signed byte's.
+/// Whether a word has an index form, and is a halfword's or a signed byte's.
 #[inline(always)]
 fn is_form(word: u32) -> bool
     ensures { result ≡ (index_fits (bits_of word 24 1) (bits_of word 21 1) && half_fits (bits_of word 20 1) (bits_of word 6 1) (bits_of word 5 1)) }
@@ -107,7 +107,7 @@ fn is_form(word: u32) -> bool
         && is_half(bits(word, 20, 1), bits(word, 6, 1), bits(word, 5, 1))
 }
 
-// Whether bits 20, 6 and 5 name a load or a store of a halfword, or a load of a signed byte.
+/// Whether bits 20, 6 and 5 name a load or a store of a halfword, or a load of a signed byte.
 #[inline(always)]
 #[tactic(auto, unfolding(a32_instr::specs::Fields::half_fits))]
 fn is_half(l: u32, x: u32, y: u32) -> bool
@@ -116,7 +116,7 @@ fn is_half(l: u32, x: u32, y: u32) -> bool
     (x == 0 && y == 1) || (x == 1 && l == 1)
 }
 
-// The load or the store that bits 20, 6 and 5 name.
+/// The load or the store that bits 20, 6 and 5 name.
 #[inline]
 #[tactic(auto, unfolding(a32_instr::specs::Fields::half_kind))]
 fn kind_of_half(l: u32, x: u32, y: u32) -> HalfKind
@@ -134,7 +134,7 @@ fn kind_of_half(l: u32, x: u32, y: u32) -> HalfKind
     HalfKind::Ldrsh
 }
 
-// Whether the registers of a word's load or store clash.
+/// Whether the registers of a word's load or store clash.
 #[inline(always)]
 fn clashes(word: u32) -> bool
     ensures { result ≡ half_unpredictable (bits_of word 24 1) (bits_of word 21 1) (bits_of word 16 4) (bits_of word 12 4) }
@@ -147,7 +147,7 @@ fn clashes(word: u32) -> bool
     )
 }
 
-// Whether the register is the PC, or a base that is written back is the PC or that register.
+/// Whether the register is the PC, or a base that is written back is the PC or that register.
 #[inline(always)]
 #[tactic(auto, unfolding(a32_instr::specs::Fields::half_unpredictable))]
 fn registers_clash(p: u32, w: u32, rn: Reg, rt: Reg) -> bool

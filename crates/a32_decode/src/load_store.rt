@@ -55,7 +55,7 @@ pub fn by_register(word: u32) -> Result<Instr, DecodeFault>
     Ok(of_word(word, offset))
 }
 
-// The load or the store of a word, with its offset.
+/// The load or the store of a word, with its offset.
 #[inline(always)]
 fn of_word(word: u32, offset: Offset) -> Instr
     requires { bits_of word 28 4 < 15 }
@@ -73,7 +73,7 @@ fn of_word(word: u32, offset: Offset) -> Instr
     }
 }
 
-// Whether bits 24 and 21 name an index form.
+/// Whether bits 24 and 21 name an index form.
 #[inline(always)]
 #[tactic(auto, unfolding(a32_instr::specs::Fields::index_fits))]
 pub(crate) fn is_index(p: u32, w: u32) -> bool
@@ -82,7 +82,7 @@ pub(crate) fn is_index(p: u32, w: u32) -> bool
     !(p == 0 && w == 1)
 }
 
-// The index form that bits 24 and 21 name.
+/// The index form that bits 24 and 21 name.
 #[inline(always)]
 #[tactic(auto, unfolding(a32_instr::specs::Fields::index_of))]
 pub(crate) fn index(p: u32, w: u32) -> Index
@@ -94,7 +94,7 @@ pub(crate) fn index(p: u32, w: u32) -> Index
     if w == 1 { Index::Pre } else { Index::Plain }
 }
 
-// Whether the registers of a word's load or store clash.
+/// Whether the registers of a word's load or store clash.
 #[inline(always)]
 fn clashes(word: u32) -> bool
     ensures { result ≡ word_unpredictable (bits_of word 24 1) (bits_of word 21 1) (bits_of word 22 1) (bits_of word 16 4) (bits_of word 12 4) }
@@ -108,7 +108,7 @@ fn clashes(word: u32) -> bool
     )
 }
 
-// Whether a base that is written back is the PC or the other register, or a byte's register is the PC.
+/// Whether a base that is written back is the PC or the other register, or a byte's register is the PC.
 #[inline(always)]
 #[tactic(auto, unfolding(a32_instr::specs::Fields::word_unpredictable))]
 fn registers_clash(p: u32, w: u32, b: u32, rn: Reg, rt: Reg) -> bool

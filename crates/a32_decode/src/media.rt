@@ -24,7 +24,7 @@ pub fn media(word: u32) -> Result<Instr, DecodeFault>
     reversed(word)
 }
 
-// SXTB, SXTH, UXTB and UXTH.
+/// SXTB, SXTH, UXTB and UXTH.
 #[inline]
 fn extended(word: u32) -> Result<Instr, DecodeFault>
     requires group { bits_of word 25 3 ≡ 3 }
@@ -54,7 +54,7 @@ fn extended(word: u32) -> Result<Instr, DecodeFault>
     })
 }
 
-// REV (DDI 0406C A8.8.145).
+/// REV (DDI 0406C A8.8.145).
 #[inline]
 fn reversed(word: u32) -> Result<Instr, DecodeFault>
     requires group { bits_of word 25 3 ≡ 3 }

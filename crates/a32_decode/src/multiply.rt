@@ -33,7 +33,7 @@ pub fn multiplication(word: u32) -> Result<Instr, DecodeFault>
     product(word)
 }
 
-// MUL (DDI 0406C A8.8.114).
+/// MUL (DDI 0406C A8.8.114).
 #[inline]
 fn product(word: u32) -> Result<Instr, DecodeFault>
     requires group { bits_of word 21 7 ≡ 0 }
@@ -60,7 +60,7 @@ fn product(word: u32) -> Result<Instr, DecodeFault>
     })
 }
 
-// MLA (DDI 0406C A8.8.100).
+/// MLA (DDI 0406C A8.8.100).
 #[inline]
 fn product_added(word: u32) -> Result<Instr, DecodeFault>
     requires group { bits_of word 21 7 ≡ 1 }
@@ -86,7 +86,7 @@ fn product_added(word: u32) -> Result<Instr, DecodeFault>
     })
 }
 
-// MLS (DDI 0406C A8.8.101).
+/// MLS (DDI 0406C A8.8.101).
 #[inline]
 fn product_subtracted(word: u32) -> Result<Instr, DecodeFault>
     requires group { bits_of word 22 6 ≡ 1 }
@@ -114,7 +114,7 @@ fn product_subtracted(word: u32) -> Result<Instr, DecodeFault>
     })
 }
 
-// UMULL, UMLAL, SMULL and SMLAL.
+/// UMULL, UMLAL, SMULL and SMLAL.
 #[inline]
 fn product_of_64(word: u32) -> Result<Instr, DecodeFault>
     requires group { bits_of word 23 5 ≡ 1 }
@@ -144,7 +144,7 @@ fn product_of_64(word: u32) -> Result<Instr, DecodeFault>
     })
 }
 
-// The multiplication of bits 22:21.
+/// The multiplication of bits 22:21.
 #[inline]
 #[tactic(auto, unfolding(a32_instr::specs::Fields::long_kind))]
 fn kind_of_product(kind: u32) -> LongKind

@@ -29,7 +29,7 @@ pub fn exclusive(word: u32) -> Result<Instr, DecodeFault>
     store(word)
 }
 
-// LDREX and its kin (DDI 0406C A8.8.75 to A8.8.78).
+/// LDREX and its kin (DDI 0406C A8.8.75 to A8.8.78).
 #[inline]
 fn load(word: u32) -> Result<Instr, DecodeFault>
     requires group { bits_of word 23 5 ≡ 3 }
@@ -56,7 +56,7 @@ fn load(word: u32) -> Result<Instr, DecodeFault>
     })
 }
 
-// STREX and its kin (DDI 0406C A8.8.212 to A8.8.215).
+/// STREX and its kin (DDI 0406C A8.8.212 to A8.8.215).
 #[inline]
 fn store(word: u32) -> Result<Instr, DecodeFault>
     requires group { bits_of word 23 5 ≡ 3 }
@@ -102,7 +102,7 @@ pub fn unconditional(word: u32) -> Result<Instr, DecodeFault>
     Ok(Instr::Clrex)
 }
 
-// DSB, DMB and ISB (DDI 0406C A8.8.44, A8.8.43, A8.8.53).
+/// DSB, DMB and ISB (DDI 0406C A8.8.44, A8.8.43, A8.8.53).
 #[inline]
 fn memory_barrier(word: u32) -> Result<Instr, DecodeFault>
     requires space { bits_of word 28 4 ≡ 15 }
@@ -121,7 +121,7 @@ fn memory_barrier(word: u32) -> Result<Instr, DecodeFault>
     })
 }
 
-// The barrier that bits 5:4 name.
+/// The barrier that bits 5:4 name.
 #[inline(always)]
 #[tactic(auto, unfolding(a32_instr::specs::Fields::barrier_kind))]
 fn kind_of_barrier(kind: u32) -> BarrierKind
@@ -134,7 +134,7 @@ fn kind_of_barrier(kind: u32) -> BarrierKind
     }
 }
 
-// The size that bits 22:21 name.
+/// The size that bits 22:21 name.
 #[inline(always)]
 #[tactic(auto, unfolding(a32_instr::specs::Fields::exclusive_size))]
 fn size_of(size: u32) -> Size
@@ -148,7 +148,7 @@ fn size_of(size: u32) -> Size
     }
 }
 
-// Whether a doubleword doesn't stand in a register and the next.
+/// Whether a doubleword doesn't stand in a register and the next.
 #[inline(always)]
 #[tactic(auto, unfolding(a32_instr::specs::Fields::no_pair))]
 fn is_no_pair(size: u32, rt: Reg) -> bool
@@ -157,7 +157,7 @@ fn is_no_pair(size: u32, rt: Reg) -> bool
     size == 1 && (rt.num() % 2 == 1 || rt.num() == 14)
 }
 
-// Whether the status register is one of the others.
+/// Whether the status register is one of the others.
 #[inline(always)]
 #[tactic(auto, unfolding(a32_instr::specs::Fields::status_clashes))]
 fn clashes(size: u32, rn: Reg, rd: Reg, rt: Reg) -> bool

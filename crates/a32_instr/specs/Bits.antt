@@ -13,10 +13,11 @@ pub record Run : Type 0 where
   pub width : ℕ
   pub value : ℕ
 
--- a digit is 48 for 0 and 49 for 1
+-- the letter of a bit, or 0 for a fixed bit, whose digit is 48 for 0 and 49 for 1
 abbrev pub letter_of : ℕ → ℕ
 letter_of code = if (code == 48) || (code == 49) then 0 else code
 
+-- the value of a fixed bit by its digit
 abbrev pub digit_of : ℕ → ℕ
 digit_of code = if code == 49 then 1 else 0
 

@@ -19,8 +19,8 @@ registers_of list = filter (is_listed list) (0 ∷ 1 ∷ 2 ∷ 3 ∷ 4 ∷ 5 ∷
 abbrev pub count_of : ℕ → ℕ
 count_of list = length (registers_of list)
 
-abbrev pub bytes_of : ℕ → ℕ
-bytes_of list = 4 * count_of list
+abbrev pub block_size : ℕ → ℕ
+block_size list = 4 * count_of list
 
 -- The address of the lowest word of so many bytes. Upwards from the base the block begins at the base, or with `before`
 -- a word above it; downwards it ends at the base, or with `before` a word below it.
@@ -81,5 +81,5 @@ block_at program load lowest list back replies state =
 
 abbrev pub block : Program → Bool → Bool → Bool → Bool → ℕ → ℕ → List ℕ → State → Effect
 block program load before up wback rn list replies state =
-    block_at program load (lowest_address up before (register state rn) (bytes_of list)) list
-    (block_back wback up rn (bytes_of list) state) replies state
+    block_at program load (lowest_address up before (register state rn) (block_size list)) list
+    (block_back wback up rn (block_size list) state) replies state

@@ -1,5 +1,6 @@
--- Loads and stores of a word or a byte (DDI 0406C A5.3, A8.5, A8.8.62 to A8.8.70, A8.8.203 to A8.8.208), and of a
--- halfword or a signed byte (A5.2.8, A8.8.80 to A8.8.90, A8.8.217, A8.8.218).
+-- Loads and stores of a word or a byte (DDI 0406C A5.3, A8.5, A8.8.63, A8.8.64, A8.8.66, A8.8.68 to A8.8.70, A8.8.204,
+-- A8.8.205, A8.8.207, A8.8.208), and of a halfword or a signed byte (A5.2.8, A8.8.80 to A8.8.82, A8.8.84 to A8.8.86,
+-- A8.8.88 to A8.8.90, A8.8.217, A8.8.218).
 use Rattle.std.specs.Prelude.{ℕ, ◌+◌, ◌-◌, ◌%◌, ◌^◌, if◌then◌else◌, Bool, true, false, Option, Some, None, List, [], ◌∷◌, slice_set}
 use Rattle.llsc_base.specs.declared.access.Size.TheVariants.{B1, B2, B4}
 use Rattle.llsc_base.specs.declared.access.Size.{Size}
@@ -90,14 +91,14 @@ accesses program load byte place back rt replies state =
     else stores program place back (part_of byte (register state rt)) replies state
 
 -- a load or a store, by its base and its moved address
-abbrev pub word_at : Program → Bool → Bool → Index → ℕ → ℕ → ℕ → List ℕ → State → Effect
-word_at program load byte index rn rt moved replies state =
+abbrev pub word_by : Program → Bool → Bool → Index → ℕ → ℕ → ℕ → List ℕ → State → Effect
+word_by program load byte index rn rt moved replies state =
     accesses program load byte (record { addr = accessed_address index (register state rn) moved; size = access_size byte })
     (written_back index rn moved state) rt replies state
 
 abbrev pub word : Program → Bool → Bool → Index → ℕ → ℕ → Offset → List ℕ → State → Effect
 word program load byte index rn rt offset replies state =
-    word_at program load byte index rn rt (moved_address rn offset state) replies state
+    word_by program load byte index rn rt (moved_address rn offset state) replies state
 
 -- A halfword, or a signed byte.
 
@@ -126,11 +127,11 @@ half_accesses Ldrsb program place back rt replies state = loads_half Ldrsb progr
 half_accesses Ldrsh program place back rt replies state = loads_half Ldrsh program place back rt replies state
 
 -- a load or a store, by its base and its moved address
-abbrev pub half_at : Program → HalfKind → Index → ℕ → ℕ → ℕ → List ℕ → State → Effect
-half_at program kind index rn rt moved replies state =
+abbrev pub half_by : Program → HalfKind → Index → ℕ → ℕ → ℕ → List ℕ → State → Effect
+half_by program kind index rn rt moved replies state =
     half_accesses kind program (record { addr = accessed_address index (register state rn) moved; size = half_size kind })
     (written_back index rn moved state) rt replies state
 
 abbrev pub half : Program → HalfKind → Index → ℕ → ℕ → Offset → List ℕ → State → Effect
 half program kind index rn rt offset replies state =
-    half_at program kind index rn rt (moved_address rn offset state) replies state
+    half_by program kind index rn rt (moved_address rn offset state) replies state

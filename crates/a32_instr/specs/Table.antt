@@ -18,9 +18,9 @@ pub record Row : Type 0 where
   pub unpredictable : (ℕ → ℕ) → Bool
   pub instr : (ℕ → ℕ) → Instr
 
--- The letters of the fields, by their ASCII codes. Mostly a field has the letter that the manual's name of it begins
--- with: cond is c, Rd d, Rm m, Rn n, Rt t, S s, and P, U, B, W and L are p, u, b, w and l. The others are:
---   a  a shift's amount, or the register whose value a multiplication adds
+-- The letters of the fields, by their ASCII codes. Mostly a field has a letter of the manual's name of it: cond is
+-- c, Rd d, Rm m, Rn n, Rt t, S s, and P, U, B, W and L are p, u, b, w and l. The others are:
+--   a  a shift's amount, or the register to whose value a multiplication adds its product, or from which it takes it
 --   g  the registers of a list
 --   h  the high half of a product, or whether an extend takes a halfword
 --   i  a number, in one piece or more
@@ -28,7 +28,8 @@ pub record Row : Type 0 where
 --   o  an operation, or a barrier's option; b is also the barrier's kind, l the low half of a product or a link
 --   q  the register whose low byte is a shift's amount
 --   r  a turn to the right: in twos at a number of a data-processing instruction, in bytes at an extend
---   x, y  S and H of a halfword or a signed byte
+--   u  also whether an extend is unsigned
+--   x, y  at a halfword or a signed byte: whether what is loaded is signed, and whether it is a halfword
 --   z  the size of an exclusive access
 abbrev pub a : ℕ
 a = 97

@@ -10,7 +10,7 @@
 mod arithmetic;
 mod conditions;
 mod instructions;
-mod laws;
+pub mod laws;
 mod outside;
 mod registers;
 
@@ -18,11 +18,6 @@ pub use arithmetic::{Computed, Shifted, Sum};
 pub use conditions::{Cond, Flags};
 pub use instructions::{
     AluOp, BarrierKind, DecodeFault, HalfKind, Index, Instr, LongKind, Offset, Operand2, ShiftKind,
-};
-pub use laws::{
-    meanings_of_blocks, meanings_of_exclusives, meanings_of_halves, meanings_of_loads_and_stores,
-    meanings_of_operations, meanings_of_products_and_parts, meanings_of_words,
-    no_word_fits_two_rows, rows_have_32_bits, words_have_three_cases,
 };
 pub use outside::{Ask, CallAsk, Stop};
 pub use registers::Reg;

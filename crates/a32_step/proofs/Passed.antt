@@ -29,7 +29,7 @@ use Rattle.a32_instr.specs.DataProcessing.{operand_of, computed, with_flags, alu
 use Rattle.a32_instr.specs.Multiply.{multiplied, product_flags, less_product}
 use Rattle.a32_instr.specs.Moves.{with_top, reversed, extended, width_of}
 use Rattle.a32_instr.specs.LoadStore.{asks_unless, barred, loads, loads_half, stores, accesses, half_accesses, half_size, half_value, accessed_address, moved_address, written_back, access_size, part_of}
-use Rattle.a32_instr.specs.Block.{block_ask, block_done, block_loaded, is_listed, with_block, block_at, block_back, bytes_of, count_of, lowest_address, registers_of, unless_barred}
+use Rattle.a32_instr.specs.Block.{block_ask, block_done, block_loaded, is_listed, with_block, block_at, block_back, block_size, count_of, lowest_address, registers_of, unless_barred}
 use Rattle.a32_instr.specs.Branch.{linked}
 use Rattle.a32_instr.specs.Exclusive.{place_at, stored_part, loads_exclusive, stores_exclusive}
 use Rattle.a32_instr.specs.Effect.{acts, condition_of}
@@ -165,7 +165,7 @@ acts_pass (Word cond load byte index rn rt offset) program replies state =
 acts_pass (Half cond kind index rn rt offset) program replies state =
     half_passes kind program (record { addr = accessed_address index (register state rn) (moved_address rn offset state); size = half_size kind }) (written_back index rn (moved_address rn offset state) state) rt replies state
 acts_pass (Block cond load before up wback rn list) program replies state =
-    block_passes program load (lowest_address up before (register state rn) (bytes_of list)) list (block_back wback up rn (bytes_of list) state) replies state
+    block_passes program load (lowest_address up before (register state rn) (block_size list)) list (block_back wback up rn (block_size list) state) replies state
 acts_pass (Branch cond link distance) program replies state = tt
 acts_pass (BranchReg cond link rm) program replies state = jumps_pass program (linked link state) (register state rm)
 acts_pass (Svc cond imm) program replies state = tt

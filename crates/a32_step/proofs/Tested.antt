@@ -22,7 +22,7 @@ use Rattle.a32_instr.specs.Moves.{with_top, reversed, extended, width_of}
 use Rattle.a32_instr.specs.declared.instructions.HalfKind.{HalfKind}
 use Rattle.a32_instr.specs.declared.instructions.HalfKind.TheVariants.{Strh, Ldrh, Ldrsb, Ldrsh}
 use Rattle.a32_instr.specs.LoadStore.{asks_unless, loads, loads_half, stores, accesses, half_accesses, half_size, half_value, accessed_address, moved_address, written_back, access_size, part_of}
-use Rattle.a32_instr.specs.Block.{block_back, bytes_of, lowest_address}
+use Rattle.a32_instr.specs.Block.{block_back, block_size, lowest_address}
 use Rattle.a32_step.proofs.Blocks.{block_tested}
 use Rattle.a32_instr.specs.Exclusive.{next_register, place_at, stored_part, loads_exclusive, stores_exclusive}
 use Rattle.llsc_base.specs.declared.access.Size.{Size}
@@ -138,7 +138,7 @@ acts_tested (Word cond load byte index rn rt offset) program replies state words
 acts_tested (Half cond kind index rn rt offset) program replies state words =
     half_tested kind program (accessed_address index (register state rn) (moved_address rn offset state)) rt (written_back index rn (moved_address rn offset state) state) replies state
 acts_tested (Block cond load before up wback rn list) program replies state words =
-    block_tested program load (lowest_address up before (register state rn) (bytes_of list)) list (block_back wback up rn (bytes_of list) state) replies state (register_fits state words)
+    block_tested program load (lowest_address up before (register state rn) (block_size list)) list (block_back wback up rn (block_size list) state) replies state (register_fits state words)
 acts_tested (Branch cond link distance) program replies state words = tt
 acts_tested (BranchReg cond link rm) program replies state words = jumps_tested program replies (linked link state) (register state rm)
 acts_tested (Svc cond imm) program replies state words = tt

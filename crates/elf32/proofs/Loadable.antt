@@ -9,7 +9,7 @@ use Rattle.llsc_base.specs.Images.{IsProgram, program_of}
 use Rattle.llsc_base.proofs.Values.{length-values_below}
 use Rattle.elf32.specs.declared.faults.ElfFault.{ElfFault}
 use Rattle.elf32.specs.declared.faults.ElfFault.TheVariants as fault
-use Rattle.elf32.specs.Headers.{header_size, entry_field, entry_of, headers_of, segments_of}
+use Rattle.elf32.specs.Headers.{header_size, entry_field, entry_address, headers_of, segments_of}
 use Rattle.elf32.specs.Faults.{first_fault, header_fault, program_fault, is_past, is_unstored, is_writable_code, overlap}
 use Rattle.elf32.specs.Image.{IsPlaced, byte_at, span_of}
 use Rattle.elf32.proofs.Sound.{all-placed, all-spans, spans-apart}
@@ -84,5 +84,5 @@ entry-even : (field : ℕ) → field % 4 ≡ 0 → field - field % 2 ≡ field
 entry-even field e = grind arith
 
 -- its entry is no Thumb code's, so it stands as it is in the file
-pub loadable-entry : (file : List ℕ) (size : Numbers) → IsLoadable file size → entry_of file ≡ entry_field file
+pub loadable-entry : (file : List ℕ) (size : Numbers) → IsLoadable file size → entry_address file ≡ entry_field file
 loadable-entry file size sound = entry-even (entry_field file) sound.aligned

@@ -8,7 +8,7 @@ use Rattle.llsc_base.specs.Flat.{elf_magic}
 use Rattle.elf32.specs.declared.headers.ProgramHeader.{ProgramHeader}
 use Rattle.elf32.specs.declared.faults.ElfFault.{ElfFault}
 use Rattle.elf32.specs.declared.faults.ElfFault.TheVariants as fault
-use Rattle.elf32.specs.Headers.{header_size, entry_size, file_type, machine, entry_field, table_offset, table_entry_size, table_count, headers_of, segments_of, runs, writes, end_of, entry_of}
+use Rattle.elf32.specs.Headers.{header_size, entry_size, file_type, machine, entry_field, table_offset, table_entry_size, table_count, headers_of, segments_of, runs, writes, end_of, entry_address}
 
 -- the fault of the first test that holds
 abbrev pub first_of : List (Bool × ElfFault) → Option ElfFault
@@ -55,8 +55,8 @@ has_code_at addr segment = runs segment && (nat_le segment.address addr && nat_l
 -- no code of four bytes stands at the first instruction, or it is no word's address and not Thumb's
 abbrev pub is_bad_entry : List ℕ → List ProgramHeader → Bool
 is_bad_entry file segments =
-    not (list_any (has_code_at (entry_of file)) segments)
-    || ((entry_field file % 2 == 0) && not (entry_of file % 4 == 0))
+    not (list_any (has_code_at (entry_address file)) segments)
+    || ((entry_field file % 2 == 0) && not (entry_address file % 4 == 0))
 
 -- the faults of the file's header
 unfoldable pub header_fault : List ℕ → Option ElfFault

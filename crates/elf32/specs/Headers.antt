@@ -78,8 +78,8 @@ abbrev pub end_of : ProgramHeader → ℕ
 end_of header = header.address + header.memory_size
 
 -- the address of the first instruction: e_entry, whose lowest bit says Thumb and is no part of the address
-abbrev pub entry_of : List ℕ → ℕ
-entry_of file = entry_field file - entry_field file % 2
+abbrev pub entry_address : List ℕ → ℕ
+entry_address file = entry_field file - entry_field file % 2
 
 -- a file has its header, and in it at most 64 program headers in a table that ends within the file
 pub record HasTable (file : List ℕ) : Type 0 where

@@ -2,7 +2,7 @@
 ghost use Rattle.std.specs.Prelude.{◌≡◌, ◌≤◌, None, false, length};
 ghost use Rattle.std.specs.List.{list_any};
 ghost use Rattle.elf32.specs.Faults.{has_bad_table, has_code_at, header_fault, is_bad_entry, is_dynamic, is_past, is_unstored, is_writable_code, overlap, program_fault, share};
-ghost use Rattle.elf32.specs.Headers.{HasTable, entry_of, header_size, headers_of, runs, segments_of};
+ghost use Rattle.elf32.specs.Headers.{HasTable, entry_address, header_size, headers_of, runs, segments_of};
 
 use crate::faults::ElfFault;
 use crate::fields::{entry_field, file_type, machine, table_count, table_entry_size, table_offset};
@@ -57,7 +57,7 @@ pub(crate) fn header_fault(bytes: &[u8]) -> Option<ElfFault>
     None
 }
 
-// Whether the program headers are of another size, none or more than 64, or not all in the file.
+/// Whether the program headers are of another size, none or more than 64, or not all in the file.
 fn has_bad_table(bytes: &[u8]) -> bool
     requires { header_size ≤ length bytes.now }
     ensures bad { result ≡ has_bad_table bytes.now }
@@ -110,42 +110,42 @@ pub(crate) fn program_fault(
     None
 }
 
-// Whether a header asks for a dynamic linker.
+/// Whether a header asks for a dynamic linker.
 fn any_is_dynamic(headers: &[ProgramHeader]) -> bool
     ensures { result ≡ list_any is_dynamic headers.now }
 {
     headers.iter().any(|header| header.is_dynamic())
 }
 
-// Whether a segment is both run and written.
+/// Whether a segment is both run and written.
 fn any_is_writable_code(segments: &[ProgramHeader]) -> bool
     ensures { result ≡ list_any is_writable_code segments.now }
 {
     segments.iter().any(|segment| segment.is_writable_code())
 }
 
-// Whether a segment is run.
+/// Whether a segment is run.
 fn any_runs(segments: &[ProgramHeader]) -> bool
     ensures { result ≡ list_any runs segments.now }
 {
     segments.iter().any(|segment| segment.runs())
 }
 
-// Whether a segment reaches past the room.
+/// Whether a segment reaches past the room.
 fn any_is_past(room: u32, segments: &[ProgramHeader]) -> bool
     ensures { result ≡ list_any (is_past room) segments.now }
 {
     segments.iter().any(|segment| segment.is_past(room))
 }
 
-// Whether a segment has more bytes in the file than in memory, or than a file of this length has for it.
+/// Whether a segment has more bytes in the file than in memory, or than a file of this length has for it.
 fn any_is_unstored(len: usize, segments: &[ProgramHeader]) -> bool
     ensures { result ≡ list_any (is_unstored len) segments.now }
 {
     segments.iter().any(|segment| segment.is_unstored(len))
 }
 
-// Whether two of the segments share an address.
+/// Whether two of the segments share an address.
 fn overlap(segments: &[ProgramHeader]) -> bool
     ensures { result ≡ overlap segments.now }
 {
@@ -155,14 +155,14 @@ fn overlap(segments: &[ProgramHeader]) -> bool
     }
 }
 
-// Whether a segment shares an address with one of the others.
+/// Whether a segment shares an address with one of the others.
 fn any_shares(segment: &ProgramHeader, others: &[ProgramHeader]) -> bool
     ensures { result ≡ list_any (share segment.now) others.now }
 {
     others.iter().any(|other| segment.shares(other))
 }
 
-// Whether no code of four bytes stands at the first instruction, or it is no word's address and not Thumb's.
+/// Whether no code of four bytes stands at the first instruction, or it is no word's address and not Thumb's.
 fn is_bad_entry(bytes: &[u8], segments: &[ProgramHeader]) -> bool
     requires { header_size ≤ length bytes.now }
     ensures { result ≡ is_bad_entry bytes.now segments.now }
@@ -172,7 +172,7 @@ fn is_bad_entry(bytes: &[u8], segments: &[ProgramHeader]) -> bool
     !any_has_code_at(entry, segments) || (field % 2 == 0 && entry % 4 != 0)
 }
 
-// Whether the four bytes at an address lie in one segment that is run.
+/// Whether the four bytes at an address lie in one segment that is run.
 fn any_has_code_at(addr: u32, segments: &[ProgramHeader]) -> bool
     ensures { result ≡ list_any (has_code_at addr) segments.now }
 {

@@ -4,7 +4,7 @@ ghost use Rattle.elf32.specs.Headers.{entry_field, file_type, half_at, header_si
 
 use byteorder::{ByteOrder, LittleEndian};
 
-// The number of 16 bits at an offset of a file.
+/// The number of 16 bits at an offset of a file.
 fn half_at(bytes: &[u8], offset: usize) -> u16
     requires { offset + 2 ≤ length bytes.now }
     ensures { result ≡ half_at bytes.now offset }
@@ -12,7 +12,7 @@ fn half_at(bytes: &[u8], offset: usize) -> u16
     LittleEndian::read_u16(&bytes[offset..])
 }
 
-// The number of 32 bits at an offset of a file.
+/// The number of 32 bits at an offset of a file.
 pub(crate) fn word_at(bytes: &[u8], offset: usize) -> u32
     requires { offset + 4 ≤ length bytes.now }
     ensures { result ≡ word_at bytes.now offset }
@@ -20,7 +20,7 @@ pub(crate) fn word_at(bytes: &[u8], offset: usize) -> u32
     LittleEndian::read_u32(&bytes[offset..])
 }
 
-// What kind of file it is (e_type).
+/// What kind of file it is (e_type).
 pub(crate) fn file_type(bytes: &[u8]) -> u16
     requires { header_size ≤ length bytes.now }
     ensures { result ≡ file_type bytes.now }
@@ -28,7 +28,7 @@ pub(crate) fn file_type(bytes: &[u8]) -> u16
     half_at(bytes, 16)
 }
 
-// The machine that it is for (e_machine).
+/// The machine that it is for (e_machine).
 pub(crate) fn machine(bytes: &[u8]) -> u16
     requires { header_size ≤ length bytes.now }
     ensures { result ≡ machine bytes.now }
@@ -36,7 +36,7 @@ pub(crate) fn machine(bytes: &[u8]) -> u16
     half_at(bytes, 18)
 }
 
-// Where it is entered, with the lowest bit that says Thumb (e_entry).
+/// Where it is entered, with the lowest bit that says Thumb (e_entry).
 pub(crate) fn entry_field(bytes: &[u8]) -> u32
     requires { header_size ≤ length bytes.now }
     ensures { result ≡ entry_field bytes.now }
@@ -44,7 +44,7 @@ pub(crate) fn entry_field(bytes: &[u8]) -> u32
     word_at(bytes, 24)
 }
 
-// Where the table of program headers stands in the file (e_phoff).
+/// Where the table of program headers stands in the file (e_phoff).
 pub(crate) fn table_offset(bytes: &[u8]) -> u32
     requires { header_size ≤ length bytes.now }
     ensures { result ≡ table_offset bytes.now }
@@ -52,7 +52,7 @@ pub(crate) fn table_offset(bytes: &[u8]) -> u32
     word_at(bytes, 28)
 }
 
-// The bytes of a program header (e_phentsize).
+/// The bytes of a program header (e_phentsize).
 pub(crate) fn table_entry_size(bytes: &[u8]) -> u16
     requires { header_size ≤ length bytes.now }
     ensures { result ≡ table_entry_size bytes.now }
@@ -60,7 +60,7 @@ pub(crate) fn table_entry_size(bytes: &[u8]) -> u16
     half_at(bytes, 42)
 }
 
-// How many program headers there are (e_phnum).
+/// How many program headers there are (e_phnum).
 pub(crate) fn table_count(bytes: &[u8]) -> u16
     requires { header_size ≤ length bytes.now }
     ensures { result ≡ table_count bytes.now }

@@ -5,7 +5,7 @@ ghost use Rattle.elf32.specs.Headers.{end_of, entry_size, header_at, is_segment,
 use crate::fields::word_at;
 
 /// A program header of an ELF file, without p_paddr and p_align (System V gABI, Program Header).
-#[derive(Clone, Copy, Debug, PartialEq, Eq, Default, Drop)]
+#[derive(Clone, Copy, Debug, PartialEq, Eq, Default)]
 pub(crate) struct ProgramHeader {
     /// p_type: 1 is PT_LOAD, 2 PT_DYNAMIC and 3 PT_INTERP.
     pub(crate) kind: u32,

@@ -27,7 +27,7 @@ pub fn load(alloc: Global, bytes: &[u8], size: &MachineSize) -> Result<Image, El
     image(alloc, bytes, &segments, size).map_err(|_| ElfFault::Memory)
 }
 
-// The segments of a file that has no fault, or its first fault.
+/// The segments of a file that has no fault, or its first fault.
 #[tactic(auto, unfolding(crate::specs::Faults::first_fault, crate::specs::Headers::segments_of))]
 fn sound_segments(bytes: &[u8], size: &MachineSize) -> Result<Headers, ElfFault>
     ensures none { IfOk result (λ segments. first_fault bytes.now size.now ≡ None) }
@@ -45,7 +45,7 @@ fn sound_segments(bytes: &[u8], size: &MachineSize) -> Result<Headers, ElfFault>
     Ok(segments)
 }
 
-// The image of a file without a fault, of which these are the segments.
+/// The image of a file without a fault, of which these are the segments.
 fn image(
     alloc: Global,
     bytes: &[u8],
@@ -67,13 +67,13 @@ mod tests {
     use llsc_base::{Bar, Place, Size};
     use std::test::Fail;
 
-    // The bytes of the file below, and where its program headers end.
+    /// The bytes of the file below, and where its program headers end.
     const LEN: usize = 212;
 
     const TABLE_END: usize = 180;
 
-    // A file as the GNU linker lays it out: an exception table, code, data with eight bytes behind it that
-    // are in memory alone, and the stack's flags.
+    /// A file as the GNU linker lays it out: an exception table, code, data with eight bytes behind it that
+    /// are in memory alone, and the stack's flags.
     const HEADERS: [[u32; 8]; 4] = [
         [0x7000_0001, 0, 0, 0, 0, 0, 4, 4],
         [1, 0, 0x1_0000, 0x1_0000, 0xd0, 0xd0, 5, 0x1_0000],
@@ -81,7 +81,7 @@ mod tests {
         [0x6474_e551, 0, 0, 0, 0, 0, 6, 16],
     ];
 
-    // The code, which adds two words of the data and exits with the sum, and the data's first word.
+    /// The code, which adds two words of the data and exits with the sum, and the data's first word.
     const CONTENTS: [u32; 8] = [
         0xe300_10d0,
         0xe340_1002,
@@ -158,7 +158,7 @@ mod tests {
         Ok(())
     }
 
-    // Where a file is changed, the bytes that are put there, and its fault then.
+    /// Where a file is changed, the bytes that are put there, and its fault then.
     const CHANGES: [(usize, &[u8], Option<ElfFault>); 26] = [
         (0, &[0x7e], Some(ElfFault::Magic)),
         (4, &[2], Some(ElfFault::Class)),

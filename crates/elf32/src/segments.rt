@@ -21,7 +21,7 @@ pub(crate) fn spans(alloc: Global, segments: &[ProgramHeader]) -> Result<Vec<Spa
     Ok(spans)
 }
 
-// The span of a segment.
+/// The span of a segment.
 fn span(segment: &ProgramHeader) -> Span
     requires { end_of segment.now < 2 ^ 32 }
     ensures { result ≡ span_of segment.now }
@@ -52,7 +52,7 @@ pub(crate) fn memory(
     Ok(memory)
 }
 
-// Copies the bytes that a segment has in the file to its place in memory.
+/// Copies the bytes that a segment has in the file to its place in memory.
 fn copy(memory: &mut [u8], file: &[u8], segment: &ProgramHeader)
     requires { IsPlaced (length file.now) (length memory.old) segment.now }
     ensures { (addr : ℕ) → slice_index memory.new addr ≡ (if stores segment.now addr

@@ -30,6 +30,13 @@ impl Words {
     {
         self.items.as_slice()
     }
+
+    /// The vector of the words.
+    pub fn into_vec(self) -> Vec<u32>
+        ensures { result.items ≡ self }
+    {
+        self.items
+    }
 }
 
 /// The data bytes of a program, in order.
@@ -59,6 +66,13 @@ impl Bytes {
         ensures { result.now ≡ self.now }
     {
         self.items.as_slice()
+    }
+
+    /// The vector of the bytes.
+    pub fn into_vec(self) -> Vec<u8>
+        ensures { result.items ≡ self }
+    {
+        self.items
     }
 }
 
@@ -90,6 +104,8 @@ mod tests {
         assert_eq!(rt; unit.words.as_slice()[0], 0xe320_f000);
         assert_eq!(rt; unit.bytes.as_slice()[0], 7);
         assert_eq!(rt; unit.space, 4);
+        assert_eq!(rt; unit.words.into_vec()[0], 0xe320_f000);
+        assert_eq!(rt; unit.bytes.into_vec()[0], 7);
         Ok(())
     }
 }

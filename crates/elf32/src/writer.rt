@@ -152,7 +152,7 @@ mod tests {
     use crate::units::{Bytes, Words};
     use std::test::Fail;
 
-    // The rows of the file's table, for two words, three bytes and a space of 4.
+    /// The rows of the file's table, for two words, three bytes and a space of 4.
     const IDENTIFICATION: [u8; 16] = [0x7f, 0x45, 0x4c, 0x46, 1, 1, 1, 0, 0, 0, 0, 0, 0, 0, 0, 0];
 
     const KIND: [u8; 8] = [2, 0, 40, 0, 1, 0, 0, 0];

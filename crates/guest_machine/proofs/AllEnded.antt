@@ -10,7 +10,7 @@ use Rattle.guest_thread.specs.Accesses.{pairs_in}
 use Rattle.guest_thread.specs.Start.{thread_start}
 use Rattle.guest_machine.specs.Seats.{is_one_of}
 use Rattle.guest_machine.specs.Turns.{access_by, monitor_of, drawn, without, Takes, begins, makes, stops, IsTrace}
-use Rattle.guest_machine.specs.Laws.{HasEnded}
+use Rattle.guest_machine.specs.Ended.{HasEnded}
 use Rattle.guest_machine.proofs.Pushed.{other_push}
 use Rattle.guest_machine.proofs.Seated.{turn_live, left_in, in_range}
 

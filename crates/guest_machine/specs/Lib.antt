@@ -4,4 +4,4 @@ pub mod Seats
 pub mod Traces
 pub mod Alone
 pub mod Working
-pub mod Laws
+pub mod Ended

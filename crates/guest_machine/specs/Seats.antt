@@ -29,13 +29,14 @@ first_seat program size t = record { guest = first_state program size t; stop = 
 abbrev pub is_one_of : List ℕ → ℕ → Bool
 is_one_of threads t = list_any (λ other. other == t) threads
 
--- a thread with its accesses and replies: it has come so far and awaits none, or it has stopped, with its steps and its
--- output
+-- a thread with its accesses and replies: it has come so far and may be asked what it does next, or it has stopped, with
+-- its steps and its output
 abbrev pub StandsBy : Program → ℕ → Machine → List Pair → ThreadState → Option Stop → Type 0
 StandsBy program budget start pairs guest None = HasCome program budget start pairs guest × IsReadyIn (length program.bytes) budget guest
 StandsBy program budget start pairs guest (Some stop) = Ends program budget start pairs stop guest.steps guest.output
 
--- and it is one of those that have not stopped just where it has no stop
+-- a thread at its seat: it stands so with its accesses, and it is one of those that have not stopped just where its seat has
+-- no stop
 pub record IsSeated (program : Program) (size : Numbers) (budget : ℕ) (accesses : List Access) (live : List ℕ) (t : ℕ) (seat : Seat) : Type 0 where
   pub tells : is_one_of live t ≡ is_none seat.stop
   pub stands : StandsBy program budget (thread_start program size t) (pairs_in t accesses) seat.guest seat.stop

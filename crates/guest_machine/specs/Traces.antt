@@ -18,7 +18,7 @@ use Rattle.guest_machine.specs.declared.traces.TraceFault.TheVariants as fault
 -- the record of a trace: the machine's threads, the budget, and the accesses
 pub record IsTraceRecord (program : Program) (size : Numbers) (seed budget : ℕ) (run : RunRecord) : Type 0 where
   pub threads : run.threads ≡ size.threads
-  pub steps : run.budget ≡ budget
+  pub budget_is : run.budget ≡ budget
   pub trace : IsTrace program size seed budget run.accesses
   pub sound : IsRecord run
 

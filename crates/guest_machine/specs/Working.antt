@@ -1,5 +1,5 @@
 -- How a thread alone stands between two of its accesses.
-use Rattle.std.specs.Prelude.{◌≡◌, ℕ, ◌+◌, ◌≤◌, List, length}
+use Rattle.std.specs.Prelude.{◌≡◌, ℕ, ◌≤◌, List, length}
 use Rattle.llsc_base.specs.Images.{Program}
 use Rattle.history.specs.Monitor.{at_rest, monitor_after}
 use Rattle.history.specs.declared.entry.Entry.{Entry}
@@ -14,7 +14,7 @@ use Rattle.guest_machine.specs.Alone.{IsAlone}
 use Rattle.guest_machine.specs.Counting.{AreCounts, accesses_counted}
 use Rattle.guest_machine.specs.declared.alone.Alone.{Alone}
 
--- no reply is awaited; its instruction has had 16 replies at most, and its output is no longer than it may be; its memory
+-- it may be asked what it does next; its instruction has had 16 replies at most, and its output is no longer than it may be; its memory
 -- is as long as the program's and has one thread; and its counts together are no more than how far it has come
 pub record IsWorking (program : Program) (budget : ℕ) (alone : Alone) : Type 0 where
   pub ready : IsReadyIn (length program.bytes) budget alone.guest

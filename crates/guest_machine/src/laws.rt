@@ -7,7 +7,7 @@ ghost use Rattle.a32_step.specs.Machine.{Machine};
 ghost use Rattle.guest_thread.specs.declared.ends.GuestEnd.{GuestEnd};
 ghost use Rattle.run_record.specs.Limits.{most_accesses};
 ghost use Rattle.guest_machine.specs.Alone.{IsEndAlone, IsSoloEnd};
-ghost use Rattle.guest_machine.specs.Laws.{HasEnded};
+ghost use Rattle.guest_machine.specs.Ended.{HasEnded};
 ghost use Rattle.guest_machine.specs.Turns.{IsTooLong, IsTrace};
 
 /// A program, a machine, a number and a budget have one trace at most.

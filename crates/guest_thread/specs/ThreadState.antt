@@ -32,7 +32,8 @@ abbrev pub IsReadyBy : ℕ → ℕ → ThreadState → Option Printing → Type 
 IsReadyBy mem budget standing None = IsReady standing.cpu.phase × (standing.steps ≤ budget)
 IsReadyBy mem budget standing (Some printing) = IsWriting mem budget standing printing
 
--- no reply is awaited, in memory of so many bytes and with such a budget
+-- the thread may be asked what it does next, in memory of so many bytes and with such a budget: its core waits for nothing,
+-- or it is in the middle of a write, whether or not it has asked for the next byte
 abbrev pub IsReadyIn : ℕ → ℕ → ThreadState → Type 0
 IsReadyIn mem budget standing = IsReadyBy mem budget standing standing.printing
 
@@ -40,7 +41,7 @@ abbrev pub IsWaitingBy : ℕ → ℕ → ThreadState → Option Printing → Typ
 IsWaitingBy mem budget standing None = IsAwaiting standing.cpu.phase × (standing.steps < budget)
 IsWaitingBy mem budget standing (Some printing) = IsWriting mem budget standing printing
 
--- a reply is awaited
+-- a reply may come: its core waits for one, or it is in the middle of a write, where this says the same as IsReadyIn
 abbrev pub IsWaitingIn : ℕ → ℕ → ThreadState → Type 0
 IsWaitingIn mem budget standing = IsWaitingBy mem budget standing standing.printing
 
@@ -66,12 +67,13 @@ abbrev pub MayGiveBy : ThreadState → Option Printing → ℕ → Type 0
 MayGiveBy standing None reply = IsAwaiting standing.cpu.phase
 MayGiveBy standing (Some printing) reply = HasLeft standing printing × (reply < 256)
 
--- a reply may be given: one is awaited, and to the load of a byte it is a byte
+-- a reply may be given: the core waits for one, or the thread is in the middle of a write and the reply is a byte; and its
+-- steps are below 2 to the 63
 abbrev pub MayGive : ThreadState → ℕ → Type 0
 MayGive standing reply = (standing.steps < 2 ^ 63) × MayGiveBy standing standing.printing reply
 
--- where an access was asked for, it may be made in memory of so many bytes, its reply is awaited, and any that fits may
--- be given
+-- where an access was asked for, it may be made in memory of so many bytes, its reply may come, and any that fits may be
+-- given
 pub record IsPending (mem budget : ℕ) (ask : Ask) (standing : ThreadState) : Type 0 where
   pub may : IsAskIn mem ask
   pub waiting : IsWaitingIn mem budget standing

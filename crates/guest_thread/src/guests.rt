@@ -108,8 +108,8 @@ impl Guest {
     /// Goes on until the thread asks for an access or has ended: by a stop, by the exit call, or since it has made
     /// `budget` steps. The budget is at most 1,000,000,000,000 steps.
     ///
-    /// No reply is awaited, and the image is that of the start, whose length 32 bits hold. A thread that has ended isn't
-    /// asked again.
+    /// The core waits for no reply, and the image is that of the start, whose length 32 bits hold. A thread that has ended
+    /// isn't asked again. In the middle of a write the answer is the next byte's load, also where it was asked for before.
     pub fn next(&mut self, image: &Image, budget: u64) -> Turn
         requires ready { IsReadyIn (length image.now.bytes) budget self.old }
         requires small { length image.now.bytes < 2 ^ 32 }

@@ -8,7 +8,7 @@ use Rattle.llsc_base.proofs.Cells.{row_of-byte}
 use Rattle.llsc_base.proofs.Stores.{stored-before, stored-past}
 use Rattle.history.specs.Monitor.{Monitor, accessed, at_rest, marked_row, monitor_after, unless_on}
 use Rattle.history.specs.ArmLegal.{IsArmLegal, IsSound, MayAccess}
-use Rattle.history.specs.Marked.{IsMarkedSince, KeepsRow, is_load_ex, is_write_in}
+use Rattle.history.specs.Marked.{IsUnwrittenSince, KeepsRow, is_load_ex, is_write_in}
 use Rattle.history.specs.Standing.{mark_after}
 use Rattle.history.specs.declared.entry.Entry.{Entry}
 use Rattle.history.specs.declared.entry.Entry.TheVariants.{Read, Write, Fail, Clear, Watch, Miss, Begin, End}
@@ -68,7 +68,7 @@ left m (End thread place) t row may other h = (h, (λ k here. refl), refl)
 -- ---- over a list
 
 abbrev MarksKeep : Monitor → ℕ → ℕ → List Entry → Type 0
-MarksKeep start t row accesses = IsArmLegal start accesses → marked_row (monitor_after start accesses) t ≡ Some row → IsMarkedSince start accesses t row
+MarksKeep start t row accesses = IsArmLegal start accesses → marked_row (monitor_after start accesses) t ≡ Some row → IsUnwrittenSince start accesses t row
 
 -- one more entry that isn't the thread's load-exclusive
 later : (start : Monitor) (t row : ℕ) (entries : List Entry) (e : Entry) → MarksKeep start t row entries
@@ -147,7 +147,7 @@ more start t row entries e before = elim (cases_Bool (is_load_ex t e)) [
 -- where a thread is marked on a row after accesses that Arm allows, its last load-exclusive read the row, in which nobody
 -- has written since
 pub marks_keep : (bytes : List ℕ) (threads t row : ℕ) (accesses : List Entry) → IsArmLegal (at_rest bytes threads) accesses
-    → marked_row (monitor_after (at_rest bytes threads) accesses) t ≡ Some row → IsMarkedSince (at_rest bytes threads) accesses t row
+    → marked_row (monitor_after (at_rest bytes threads) accesses) t ≡ Some row → IsUnwrittenSince (at_rest bytes threads) accesses t row
 marks_keep bytes threads t row accesses = by_ends (MarksKeep (at_rest bytes threads) t row)
     (λ legal marked. absurd (let none : None ≡ Some row = sym (get_or-replicate_none threads t) ∙ marked in let f : ⊥ = cc in f))
     (more (at_rest bytes threads) t row)
@@ -156,7 +156,7 @@ marks_keep bytes threads t row accesses = by_ends (MarksKeep (at_rest bytes thre
 -- where a store-exclusive succeeds its thread is marked on its row
 pub store_keeps : (bytes : List ℕ) (threads thread : ℕ) (place : Place) (value : ℕ) (front back : List Entry)
     → IsArmLegal (at_rest bytes threads) (front ++ (Write thread place value true ∷ back))
-    → IsMarkedSince (at_rest bytes threads) front thread (row_of place)
+    → IsUnwrittenSince (at_rest bytes threads) front thread (row_of place)
 store_keeps bytes threads thread place value front back legal =
     let start = at_rest bytes threads in
     let e = Write thread place value true in

@@ -1,5 +1,5 @@
 -- Entries of a history, this project's own: whose they are, and which of them are accesses.
-use Rattle.std.specs.Prelude.{ℕ, ◌==◌, Bool, true, false, not}
+use Rattle.std.specs.Prelude.{ℕ, ◌==◌, Bool, true, false}
 use Rattle.llsc_base.specs.Memory.{class_of, row_of}
 use Rattle.llsc_base.specs.declared.access.Place.{Place}
 use Rattle.history.specs.declared.entry.Entry.{Entry}
@@ -26,10 +26,6 @@ is_access (Watch thread place) = false
 is_access (Miss thread place) = false
 is_access (Begin thread place) = false
 is_access (End thread place) = false
-
--- that an operation has begun, or is over
-abbrev pub is_mark : Entry → Bool
-is_mark entry = not (is_access entry)
 
 -- a place lies in the class of a row, where rows are dealt out to so many classes
 abbrev pub is_in_class : ℕ → ℕ → Place → Bool

@@ -28,7 +28,7 @@ is_write_in row (Write thread place value ex) = row_of place == row
 is_write_in row _ = false
 
 -- the last load-exclusive of a thread read this row; nobody has written in the row since, so each byte of it is what it was
-pub record IsMarkedSince (start : Monitor) (accesses : List Entry) (thread row : ℕ) : Type 0 where
+pub record IsUnwrittenSince (start : Monitor) (accesses : List Entry) (thread row : ℕ) : Type 0 where
   pub before : List Entry
   pub place : Place
   pub value : ℕ

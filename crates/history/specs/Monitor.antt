@@ -38,8 +38,8 @@ memory_after memory _ = memory
 
 -- the marks after one more access. A load-exclusive marks its row for its thread, in place of an earlier mark. A write
 -- ends each mark on its row, whosever it is and whatever its value, and an exclusive one also its thread's mark. A
--- store-exclusive that fails, and CLREX, end their thread's mark. (That a thread's own plain store ends its mark is this
--- project's choice, which DDI 0406C A3.4.1 leaves open.)
+-- store-exclusive that fails, and CLREX, end their thread's mark. (That a thread's own plain store in its marked row ends the
+-- mark is this project's choice, which DDI 0406C A3.4.1 leaves open.)
 abbrev pub marks_after : List (Option ℕ) → Entry → List (Option ℕ)
 marks_after marks (Read thread place value true) = slice_set marks thread (Some (row_of place))
 marks_after marks (Write thread place value true) = slice_set (map (unless_on (row_of place)) marks) thread None

@@ -2,7 +2,7 @@
 use llsc_base::Place;
 
 /// Why a store-exclusive failed.
-#[derive(Clone, Copy, Debug, PartialEq, Eq, Drop)]
+#[derive(Clone, Copy, Debug, PartialEq, Eq)]
 pub enum Cause {
     /// Its thread held no reservation on the row.
     Absent,
@@ -16,7 +16,7 @@ pub enum Cause {
 ///
 /// `Read`, `Write`, `Fail` and `Clear` are accesses, and the others marks: they say when an operation began, or
 /// that it is over.
-#[derive(Clone, Copy, Debug, PartialEq, Eq, Drop)]
+#[derive(Clone, Copy, Debug, PartialEq, Eq)]
 pub enum Entry {
     /// A load, or a load-exclusive, took this value.
     Read {
@@ -66,7 +66,7 @@ pub enum Entry {
 }
 
 /// What an access does.
-#[derive(Clone, Copy, Debug, PartialEq, Eq, Drop)]
+#[derive(Clone, Copy, Debug, PartialEq, Eq)]
 pub enum Deed {
     Load,
     LoadEx,
@@ -81,7 +81,7 @@ pub enum Deed {
 /// An access as a record keeps it.
 ///
 /// A `Clear` has the place of one byte at address 0, and the value 0.
-#[derive(Clone, Copy, Debug, PartialEq, Eq, Drop)]
+#[derive(Clone, Copy, Debug, PartialEq, Eq)]
 pub struct Access {
     pub thread: u32,
     pub deed: Deed,

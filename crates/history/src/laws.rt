@@ -9,7 +9,7 @@ ghost use Rattle.row_bytes.specs.Cell.{cell_at, value_in_cell};
 ghost use Rattle.history.specs.Parts.{accesses_of};
 ghost use Rattle.history.specs.Monitor.{at_rest, marked_row, monitor_after};
 ghost use Rattle.history.specs.ArmLegal.{IsArmLegal};
-ghost use Rattle.history.specs.Marked.{IsMarkedSince};
+ghost use Rattle.history.specs.Marked.{IsUnwrittenSince};
 ghost use Rattle.history.specs.Reservation.{reservation_of};
 ghost use Rattle.history.specs.Cause.{flight_of, is_begin, is_begin_of_another, is_start_of_another, since_watch, writes_in_class};
 ghost use Rattle.history.specs.Class.{comer_in, edges_of, last_of, name_of, writer_in};
@@ -38,7 +38,7 @@ pub fn successful_stores_are_undisturbed(
     value: u64,
 )
     requires { IsArmLegal (at_rest bytes.now threads) (front.now ++ Entry.Write thread place value true ∷ back.now) }
-    ensures { IsMarkedSince (at_rest bytes.now threads) front.now thread (row_of place) }
+    ensures { IsUnwrittenSince (at_rest bytes.now threads) front.now thread (row_of place) }
 {}
 
 /// Where a thread is marked on a row after accesses that Arm allows, its last load-exclusive read that row, and nobody has
@@ -46,7 +46,7 @@ pub fn successful_stores_are_undisturbed(
 pub fn marks_keep_their_rows(bytes: &[u8], threads: u32, accesses: &[Entry], thread: u32, row: u32)
     requires legal { IsArmLegal (at_rest bytes.now threads) accesses.now }
     requires marked { marked_row (monitor_after (at_rest bytes.now threads) accesses.now) thread ≡ Some row }
-    ensures { IsMarkedSince (at_rest bytes.now threads) accesses.now thread row }
+    ensures { IsUnwrittenSince (at_rest bytes.now threads) accesses.now thread row }
 {}
 
 /// The memory that a history leaves is the cells that stand after it.

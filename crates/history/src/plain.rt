@@ -124,7 +124,7 @@ impl PlainMemory {
     }
 }
 
-// The cells that spell these bytes.
+/// The cells that spell these bytes.
 fn cells_of(alloc: Global, bytes: &[u8]) -> Result<Vec<u64>, AllocError>
     requires { length bytes.now % 8 ≡ 0 }
     ensures { IfOk result (λ cells. bytes_of_cells cells.items ≡ bytes.now) }
@@ -137,7 +137,7 @@ fn cells_of(alloc: Global, bytes: &[u8]) -> Result<Vec<u64>, AllocError>
     Ok(cells)
 }
 
-// The cell of the first eight bytes.
+/// The cell of the first eight bytes.
 fn first_cell(bytes: &[u8]) -> u64
     requires { 8 ≤ length bytes.now }
     ensures { result ≡ number_of (take 8 bytes.now) }
@@ -149,7 +149,7 @@ fn first_cell(bytes: &[u8]) -> u64
     llsc_base::load(bytes, place)
 }
 
-// The value of a place in the memory that cells make.
+/// The value of a place in the memory that cells make.
 #[inline]
 fn value_of(cells: &[u64], place: Place) -> u64
     requires aligned { IsTrue (is_aligned place) }
@@ -160,7 +160,7 @@ fn value_of(cells: &[u64], place: Place) -> u64
     take(cells[place.cell() as usize], place)
 }
 
-// Sets a place in the memory that cells make.
+/// Sets a place in the memory that cells make.
 #[inline]
 fn set(cells: &mut [u64], place: Place, value: u64)
     requires aligned { IsTrue (is_aligned place) }
@@ -172,7 +172,7 @@ fn set(cells: &mut [u64], place: Place, value: u64)
     cells[at] = put(cells[at], place, value);
 }
 
-// Ends the marks on a row.
+/// Ends the marks on a row.
 #[inline]
 fn unmark(marks: &mut [Option<u32>], row: u32)
     ensures { marks.new ≡ map (unless_on row) marks.old }
@@ -182,7 +182,7 @@ fn unmark(marks: &mut [Option<u32>], row: u32)
     }
 }
 
-// A mark, unless it is on a row.
+/// A mark, unless it is on a row.
 #[inline]
 fn unless_on(mark: Option<u32>, row: u32) -> Option<u32>
     ensures { result ≡ unless_on row mark }
@@ -190,7 +190,7 @@ fn unless_on(mark: Option<u32>, row: u32) -> Option<u32>
     if is_marked_on(mark, row) { None } else { mark }
 }
 
-// Whether a mark is on a row.
+/// Whether a mark is on a row.
 #[inline]
 fn is_marked_on(mark: Option<u32>, row: u32) -> bool
     ensures { result ≡ is_on row mark }
@@ -206,7 +206,7 @@ mod tests {
     use super::*;
     use crate::entry::{Access, Deed};
 
-    // Whether a value has no more bytes than a size.
+    /// Whether a value has no more bytes than a size.
     fn fits(value: u64, size: Size) -> bool
         ensures { IsTrue result → value < 256 ^ size_bytes size }
     {
@@ -218,7 +218,7 @@ mod tests {
         }
     }
 
-    // Makes an access, and says whether it answers as the record has it.
+    /// Makes an access, and says whether it answers as the record has it.
     fn answers(memory: &mut PlainMemory, access: Access) -> bool
         requires bytes { length memory.old.memory ≡ 16384 }
         requires threads { length memory.old.marks ≡ 2 }
@@ -245,7 +245,7 @@ mod tests {
         }
     }
 
-    // Whether the accesses answer as they are recorded, one after the other, in memory that begins as zeros.
+    /// Whether the accesses answer as they are recorded, one after the other, in memory that begins as zeros.
     fn all_answer(alloc: Global, accesses: &[Access]) -> Result<bool, AllocError> {
         let mut memory = PlainMemory::new(alloc, &[0; 16_384], 2)?;
         for access in accesses {
@@ -265,7 +265,7 @@ mod tests {
         }
     }
 
-    // Thread 0's load-exclusive and its store-exclusive of a word, as that answers.
+    /// Thread 0's load-exclusive and its store-exclusive of a word, as that answers.
     fn loaded() -> Access {
         access(0, Deed::LoadEx, 0x2000, Size::B4, 0)
     }

@@ -27,7 +27,7 @@ is_threads threads = nat_le 1 threads && nat_le threads 16
 abbrev pub is_classes : ℕ → Bool
 is_classes classes = is_power_of_two classes && nat_le classes 4096
 
--- 1 to 2 to the 62
+-- from 1 to 4,611,686,018,427,387,904, which is 2 to the 62
 abbrev pub is_limit : ℕ → Bool
 is_limit limit = nat_le 1 limit && nat_le limit (2 ^ 62)
 

@@ -2,7 +2,7 @@ ghost use Rattle.std.specs.Prelude.{◌≡◌, ◌==◌, ◌%◌};
 ghost use Rattle.llsc_base.specs.Memory.{cell_of, is_aligned, row_of, size_bytes};
 
 /// How many bytes an access has.
-#[derive(Clone, Copy, Debug, PartialEq, Eq, Drop)]
+#[derive(Clone, Copy, Debug, PartialEq, Eq)]
 pub enum Size {
     B1,
     B2,
@@ -26,7 +26,7 @@ impl Size {
 }
 
 /// The bytes that an access names: as many as its size says, from an address up.
-#[derive(Clone, Copy, Debug, PartialEq, Eq, Drop)]
+#[derive(Clone, Copy, Debug, PartialEq, Eq)]
 pub struct Place {
     pub addr: u32,
     pub size: Size,
@@ -66,7 +66,7 @@ impl Place {
 }
 
 /// What stands against an access.
-#[derive(Clone, Copy, Debug, PartialEq, Eq, Drop)]
+#[derive(Clone, Copy, Debug, PartialEq, Eq)]
 pub enum Bar {
     /// The address is no multiple of the size.
     Alignment,
@@ -77,7 +77,7 @@ pub enum Bar {
 }
 
 /// A word that may not be accessed, and what stands against it.
-#[derive(Clone, Copy, Debug, PartialEq, Eq, Drop)]
+#[derive(Clone, Copy, Debug, PartialEq, Eq)]
 pub struct BarredWord {
     pub addr: u32,
     pub bar: Bar,

@@ -77,7 +77,7 @@ impl Image {
     }
 }
 
-// The first fault of a flat file.
+/// The first fault of a flat file.
 fn flat_fault(bytes: &[u8], size: &MachineSize) -> Option<FlatFault>
     ensures { result ≡ flat_fault bytes.now size.now }
 {
@@ -93,7 +93,7 @@ fn flat_fault(bytes: &[u8], size: &MachineSize) -> Option<FlatFault>
     None
 }
 
-// All of memory, with the file's bytes in it and 0 elsewhere.
+/// All of memory, with the file's bytes in it and 0 elsewhere.
 fn flat_memory(alloc: Global, file: &[u8], mem: u32) -> Result<Vec<u8>, AllocError>
     requires { flat_start + length file.now ≤ mem }
     ensures { IfOk result (λ memory. memory.items ≡ values_below mem (flat_byte file.now)) }
@@ -108,7 +108,7 @@ mod tests {
     use super::*;
     use crate::access::{Bar, BarredWord, Place, Size};
 
-    // Three words: mov r0, #0; mov r7, #1; svc #0.
+    /// Three words: mov r0, #0; mov r7, #1; svc #0.
     const EXIT: [u8; 12] = [0, 0, 0xa0, 0xe3, 1, 0x70, 0xa0, 0xe3, 0, 0, 0, 0xef];
 
     #[derive(Debug, Drop, Error)]

@@ -1,4 +1,4 @@
-ghost use Rattle.std.specs.Prelude.{◌≡◌, ◌+◌, ◌*◌, ◌-◌, ◌%◌, ◌<◌, ◌≤◌, IfSome, IsTrue, length, slice_index, position};
+ghost use Rattle.std.specs.Prelude.{◌≡◌, ◌+◌, ◌*◌, ◌-◌, ◌%◌, ◌^◌, ◌<◌, ◌≤◌, IfSome, IsTrue, length, slice_index, position};
 ghost use Rattle.llsc_base.specs.Images.{IsProgram, Program, bar_of, first_barred, holds_word, program_of, serves, touches_read_only, word_at};
 
 use crate::access::{Bar, BarredWord, Place, Size};
@@ -131,10 +131,10 @@ impl Image {
 
 impl Image {
     /// The first of `count` words, one after another from an address up, that may not be accessed, with
-    /// what stands against it. Addresses count modulo 2 to the 32, and there are at most 16 words.
+    /// what stands against it. Addresses count modulo 2 to the 32, and `count` is below 2 to the 30.
     #[inline]
     pub fn test_words(&self, addr: u32, count: u32, store: bool) -> Option<BarredWord>
-        requires { count ≤ 16 }
+        requires { 4 * count < 2 ^ 32 }
         ensures { result ≡ first_barred self.now store addr count }
     {
         if self.all_pass(addr, count, store) {
@@ -143,12 +143,12 @@ impl Image {
         self.first_barred(addr, count, store)
     }
 
-    // Whether it is plain at once that no word is barred: the block is aligned, ends within memory and
-    // below 2 to the 32, and, if it is stored, touches as one piece no span that isn't written.
+    /// Whether it is plain at once that no word is barred: the block is aligned, ends within memory and
+    /// below 2 to the 32, and, if it is stored, touches as one piece no span that isn't written.
     #[inline]
     #[tactic(auto, using(crate::proofs::Blocks::block_passes))]
     fn all_pass(&self, addr: u32, count: u32, store: bool) -> bool
-        requires { count ≤ 16 }
+        requires { 4 * count < 2 ^ 32 }
         ensures { IsTrue result → first_barred self.now store addr count ≡ None }
     {
         if addr % 4 != 0 {
@@ -163,11 +163,11 @@ impl Image {
         !(store && touches_read_only(&self.spans, addr as usize, end as usize))
     }
 
-    // The first word that is barred, by the words one after another.
+    /// The first word that is barred, by the words one after another.
     #[cold]
     #[tactic(auto, using(crate::proofs::Barred::barred_none, crate::proofs::Barred::barred_step))]
     fn first_barred(&self, addr: u32, count: u32, store: bool) -> Option<BarredWord>
-        requires { count ≤ 16 }
+        requires { 4 * count < 2 ^ 32 }
         ensures { result ≡ first_barred self.now store addr count }
     {
         for i in 0..count {
@@ -186,7 +186,7 @@ impl Image {
     }
 }
 
-// Whether a span runs and holds the four bytes from an address on.
+/// Whether a span runs and holds the four bytes from an address on.
 #[inline]
 fn holds_word(span: &Span, addr: u32) -> bool
     ensures { result ≡ holds_word span.now addr }
@@ -194,7 +194,7 @@ fn holds_word(span: &Span, addr: u32) -> bool
     span.run && span.start <= addr && addr as usize + 4 <= span.end as usize
 }
 
-// Whether the span of this index, if there is one, runs and holds the four bytes.
+/// Whether the span of this index, if there is one, runs and holds the four bytes.
 #[inline]
 fn is_held_at(spans: &[Span], at: usize, addr: u32) -> bool
     ensures { result ≡ serves spans.now at addr }
@@ -205,14 +205,14 @@ fn is_held_at(spans: &[Span], at: usize, addr: u32) -> bool
     }
 }
 
-// The index of the first span that runs and holds the four bytes.
+/// The index of the first span that runs and holds the four bytes.
 fn holder(spans: &[Span], addr: u32) -> Option<usize>
     ensures { result ≡ position (λ span. holds_word span addr) spans.now }
 {
     spans.iter().position(|span| holds_word(span, addr))
 }
 
-// Whether some byte from one address up to another lies in a span that isn't written.
+/// Whether some byte from one address up to another lies in a span that isn't written.
 fn touches_read_only(spans: &[Span], from: usize, to: usize) -> bool
     ensures { result ≡ touches_read_only spans.now from to }
 {

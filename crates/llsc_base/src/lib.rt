@@ -17,5 +17,5 @@ pub use access::{Bar, BarredWord, Place, Size};
 pub use flat::FlatFault;
 pub use images::{Image, Span};
 pub use lines::Line;
-pub use memory::{load, store};
+pub use memory::load;
 pub use sizes::{MachineSize, SizeFault};

@@ -60,7 +60,8 @@ abbrev pub IsNoneOf : List (List ℕ) → List ℕ → Type 0
 IsNoneOf names name = All (λ other. name ≢ other) names
 
 -- A read of that name is due: the name is that of a request's file, and nothing stands against the request before that file
--- is read. It may be that there is no machine, or for the second file that the first is too long.
+-- is read. What could: that there is no such machine (but not for a check, where the record says how many threads it has),
+-- and for the second file that the first is too long.
 abbrev pub IsDue : (List ℕ → Option (List ℕ)) → Request → List ℕ → Type 0
 IsDue held (Solo file format mem budget) name = (name ≡ file) × (size_refusal (solo_size mem) ≡ None)
 IsDue held (Assemble file format) name = name ≡ file

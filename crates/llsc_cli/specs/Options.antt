@@ -48,7 +48,7 @@ abbrev pub given_by : Options → List ℕ → List (List ℕ) → Given
 given_by options file others = record { options = options; file = file; others = others }
 
 -- the words behind the earlier ones, which gave these options: further options, and then the file, which is the first
--- word that is no option
+-- word that is neither an option nor an option's value
 unfoldable pub given_of : Option Options → List (List ℕ) → Option Given
 given_of None words = None
 given_of (Some options) [] = None
@@ -70,7 +70,7 @@ format_of options = if options.flat then Flat else Elf
 abbrev pub has_no_values : Options → Bool
 has_no_values options = (is_none options.threads && is_none options.mem) && (is_none options.seed && is_none options.budget)
 
--- or `--mem` alone
+-- no option that has a value is given but maybe `--mem`
 abbrev pub has_mem_at_most : Options → Bool
 has_mem_at_most options = has_no_values (record options { mem = None })
 

@@ -28,6 +28,6 @@ abbrev pub last_line : GuestEnd → List ℕ
 last_line end =
     codes "reads " ++ (decimal end.reads ++ (codes " writes " ++ (decimal end.writes ++ (codes " fails " ++ (decimal end.fails ++ codes "\n")))))
 
--- the report of a thread: its line, its output and the end of that line, and the counts
+-- the report of a thread: its line, its output with a newline behind it, and the line of the counts
 abbrev pub report_of : ℕ → GuestEnd → List ℕ
 report_of budget end = head_line budget end ++ (end.out ++ (codes "\n" ++ last_line end))

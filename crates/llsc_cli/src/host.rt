@@ -6,7 +6,7 @@ use std::alloc::Global;
 use thiserror::Error;
 
 /// Why a file could not be had.
-#[derive(Debug, Drop, Error)]
+#[derive(Clone, Copy, Debug, PartialEq, Eq, Error)]
 pub enum ReadFault {
     /// The host could not read the file.
     #[error("the read failed")]
@@ -33,7 +33,7 @@ impl ReadFault {
 }
 
 /// The host could not write all of the bytes.
-#[derive(Debug, Drop, Error)]
+#[derive(Clone, Copy, Debug, PartialEq, Eq, Error)]
 #[error("the write failed")]
 pub struct Failed;
 

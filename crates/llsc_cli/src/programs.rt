@@ -6,13 +6,16 @@ use crate::formats::Format;
 use elf32::ElfFault;
 use llsc_base::{FlatFault, Image, MachineSize};
 use std::alloc::Global;
+use thiserror::Error;
 
 /// Why a program's file gives no image.
-#[derive(Clone, Copy, Debug, PartialEq, Eq)]
+#[derive(Clone, Copy, Debug, PartialEq, Eq, Error)]
 pub enum ProgramFault {
     /// A fault of an ELF file.
+    #[error(transparent)]
     Elf(ElfFault),
     /// A fault of a flat file.
+    #[error(transparent)]
     Flat(FlatFault),
 }
 

@@ -37,7 +37,7 @@ pub fn put(cell: u64, place: Place, value: u64) -> u64
     cell - (take(cell, place) << shift) + (value << shift)
 }
 
-// How many bits of a cell lie below a place.
+/// How many bits of a cell lie below a place.
 #[inline]
 fn shift(place: Place) -> u32
     ensures { result ≡ 8 * (place.addr % 8) }
@@ -45,7 +45,7 @@ fn shift(place: Place) -> u32
     8 * (place.addr % 8)
 }
 
-// As many bits as a size has, all set.
+/// As many bits as a size has, all set.
 #[inline]
 fn mask(size: Size) -> u64
     ensures { result ≡ 2 ^ (8 * size_bytes size) - 1 }

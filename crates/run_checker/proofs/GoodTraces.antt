@@ -11,11 +11,10 @@ use Rattle.history.specs.declared.entry.Deed.{Deed}
 use Rattle.history.specs.declared.entry.Deed.TheVariants as deed
 use Rattle.a32_instr.specs.declared.outside.Ask.{Ask}
 use Rattle.a32_instr.specs.declared.outside.Ask.TheVariants.{Load, LoadEx, Store, StoreEx, Clear}
-use Rattle.guest_machine.specs.Laws.{HasEnded}
 use Rattle.guest_machine.specs.Turns.{access_by, monitor_of, Takes, begins, makes, stops, IsTrace}
 use Rattle.guest_machine.proofs.AllEnded.{all_ended}
 use Rattle.guest_machine.proofs.Pushed.{made_by}
-use Rattle.run_checker.specs.Verdict.{fits, is_asked, is_load, is_place, AreRight, AsksNext, HasStopped, HasWrongValue, IsRight, Judges, LacksReservation, good}
+use Rattle.run_checker.specs.Verdict.{fits, is_asked, is_load, is_place, AreRight, AsksNext, HasWrongValue, IsRight, Judges, LacksReservation, good}
 use Rattle.run_checker.specs.declared.verdicts.Verdict.TheVariants as verdict
 use Rattle.run_checker.proofs.Right.{right_none, right_push}
 
@@ -97,14 +96,9 @@ module _ (program : Program) (size : Numbers) (budget : ℕ) where
       (turns_right seed x live accesses before) (made_right accesses t ask asks)
   turns_right seed _ _ _ (stops x live accesses t stop steps output before turn ends) = turns_right seed x live accesses before
 
--- a thread that has ended has stopped
-ended_stopped : (program : Program) (size : Numbers) (budget : ℕ) (accesses : List Access) (t : ℕ) → HasEnded program size budget accesses t
-    → HasStopped program size budget accesses t
-ended_stopped program size budget accesses t ended = (ended.stop, ended.steps, ended.output, ended.ends)
-
 -- a trace's record is good
 pub trace_good : (program : Program) (size : Numbers) (seed budget : ℕ) (accesses : List Access) → IsTrace program size seed budget accesses
     → Judges program size budget accesses verdict.Good
 trace_good program size seed budget accesses trace =
     good (turns_right program size budget seed trace.0 [] accesses trace.1)
-    (λ t known. ended_stopped program size budget accesses t (all_ended program size seed budget accesses t known trace))
+    (λ t known. all_ended program size seed budget accesses t known trace)

@@ -4,7 +4,7 @@ use Rattle.llsc_base.specs.Images.{Program}
 use Rattle.llsc_base.specs.Sizes.{Numbers}
 use Rattle.history.specs.declared.entry.Access.{Access}
 use Rattle.run_checker.specs.Verdict.{IsRight, IsWrong, AreRight, Judges, good, wrong, unfinished}
-use Rattle.run_checker.specs.Positions.{AreBrought, HaveStopped, SomeAsks}
+use Rattle.run_checker.specs.Positions.{AreBrought, HaveEnded, SomeAsks}
 use Rattle.run_checker.specs.declared.checker.Checker.{Checker}
 use Rattle.run_checker.specs.declared.verdicts.Reason.{Reason}
 use Rattle.run_checker.specs.declared.verdicts.Reason.TheVariants.{Unfinished}
@@ -66,7 +66,7 @@ module _ (program : Program) (size : Numbers) (budget : ℕ) (accesses : List Ac
   -- every thread has stopped
   pub under_good : (checker : Checker) (index threads : ℕ) (rest : List Access) → rest ≡ [] → size.threads ≡ threads
       → IsUnder program size budget accesses checker index rest
-      → ((early : List Access) → AreBrought program size budget early checker → HaveStopped program size budget early threads)
+      → ((early : List Access) → AreBrought program size budget early checker → HaveEnded program size budget early threads)
       → Judges program size budget accesses Good
   under_good checker index threads rest none all was step =
       let whole = all_early was.early rest was.parts none in

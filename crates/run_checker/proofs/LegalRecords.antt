@@ -18,7 +18,8 @@ use Rattle.guest_thread.specs.Accesses.{entry_by, entry_of, history_of, pairs_in
 use Rattle.guest_thread.specs.Start.{thread_start}
 use Rattle.run_record.specs.Limits.{IsAccess}
 use Rattle.guest_machine.specs.Turns.{monitor_of}
-use Rattle.run_checker.specs.Verdict.{is_load, HasStopped, IsRight, AreRight, Judges, good}
+use Rattle.guest_machine.specs.Ended.{HasEnded}
+use Rattle.run_checker.specs.Verdict.{is_load, IsRight, AreRight, Judges, good}
 use Rattle.run_checker.specs.declared.verdicts.Verdict.TheVariants as verdict
 use Rattle.run_checker.proofs.AskedPairs.{asked_inside}
 use Rattle.guest_thread.proofs.Placed.{asks_placed}
@@ -104,5 +105,5 @@ module _ (program : Program) (size : Numbers) (budget : ℕ) where
   good_right accesses (good right stopped) = right
 
   -- and each thread has stopped
-  pub good_stopped : (accesses : List Access) (t : ℕ) → Judges program size budget accesses verdict.Good → t < size.threads → HasStopped program size budget accesses t
+  pub good_stopped : (accesses : List Access) (t : ℕ) → Judges program size budget accesses verdict.Good → t < size.threads → HasEnded program size budget accesses t
   good_stopped accesses t (good right stopped) known = stopped t known

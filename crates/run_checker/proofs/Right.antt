@@ -7,7 +7,8 @@ use Rattle.history.specs.declared.entry.Deed.{Deed}
 use Rattle.history.specs.declared.entry.Deed.TheVariants as deed
 use Rattle.a32_instr.specs.declared.outside.Ask.{Ask}
 use Rattle.guest_calls.proofs.Asked.{one_ask, asks_or_ends}
-use Rattle.run_checker.specs.Verdict.{is_asked, is_load, AsksNext, HasStopped, IsRight, IsWrong, AreRight, Judges, good, wrong, unfinished}
+use Rattle.guest_machine.specs.Ended.{HasEnded}
+use Rattle.run_checker.specs.Verdict.{is_asked, is_load, AsksNext, IsRight, IsWrong, AreRight, Judges, good, wrong, unfinished}
 use Rattle.run_checker.specs.declared.verdicts.Reason.{Reason}
 use Rattle.run_checker.specs.declared.verdicts.Reason.TheVariants.{AfterStop, NotAsked, WrongValue, NoReservation, Unfinished}
 use Rattle.run_checker.specs.declared.verdicts.Verdict.{Verdict}
@@ -57,8 +58,8 @@ same_test access ask other b same test = subst (λ a. is_asked a access ≡ b) (
 
 module _ (program : Program) (size : Numbers) (budget : ℕ) where
   -- a thread that asks hasn't stopped
-  asks_or_stopped : (early : List Access) (t : ℕ) (ask : Ask) → AsksNext program size budget early t ask → HasStopped program size budget early t → ⊥
-  asks_or_stopped early t ask next stopped = asks_or_ends program budget _ _ ask stopped.0 stopped.1 stopped.2 next stopped.3
+  asks_or_stopped : (early : List Access) (t : ℕ) (ask : Ask) → AsksNext program size budget early t ask → HasEnded program size budget early t → ⊥
+  asks_or_stopped early t ask next stopped = asks_or_ends program budget _ _ ask stopped.stop stopped.steps stopped.output next stopped.ends
 
   same_ask : (early : List Access) (t : ℕ) (ask other : Ask) → AsksNext program size budget early t ask → AsksNext program size budget early t other → ask ≡ other
   same_ask early t ask other next also = one_ask program budget _ _ ask other next also

@@ -9,7 +9,8 @@ use Rattle.guest_thread.specs.ThreadState.{ThreadState, IsReadyIn}
 use Rattle.guest_thread.specs.Start.{thread_start}
 use Rattle.guest_thread.specs.Under.{HasCome}
 use Rattle.guest_machine.specs.Turns.{monitor_of}
-use Rattle.run_checker.specs.Verdict.{AsksNext, HasStopped, IsRight}
+use Rattle.guest_machine.specs.Ended.{HasEnded}
+use Rattle.run_checker.specs.Verdict.{AsksNext, IsRight}
 use Rattle.a32_instr.specs.declared.outside.Ask.{Ask}
 use Rattle.run_checker.specs.declared.checker.Checker.{Checker}
 
@@ -42,6 +43,6 @@ pub record SomeAsks (program : Program) (size : Numbers) (budget : ℕ) (early :
   pub known : thread < threads
   pub next : AsksNext program size budget early thread ask
 
--- so many threads have stopped
-abbrev pub HaveStopped : Program → Numbers → ℕ → List Access → ℕ → Type 0
-HaveStopped program size budget early threads = (t : ℕ) → t < threads → HasStopped program size budget early t
+-- each of the threads below a number has ended
+abbrev pub HaveEnded : Program → Numbers → ℕ → List Access → ℕ → Type 0
+HaveEnded program size budget early threads = (t : ℕ) → t < threads → HasEnded program size budget early t

@@ -10,10 +10,10 @@ use Rattle.history.specs.declared.entry.Deed.{Deed}
 use Rattle.history.specs.declared.entry.Deed.TheVariants as deed
 use Rattle.a32_instr.specs.declared.outside.Ask.{Ask}
 use Rattle.a32_instr.specs.declared.outside.Ask.TheVariants.{Load, LoadEx, Store, StoreEx, Clear}
-use Rattle.a32_instr.specs.declared.outside.Stop.{Stop}
-use Rattle.guest_calls.specs.Run.{Asks, Ends}
+use Rattle.guest_calls.specs.Run.{Asks}
 use Rattle.guest_thread.specs.Accesses.{pairs_in}
 use Rattle.guest_thread.specs.Start.{thread_start}
+use Rattle.guest_machine.specs.Ended.{HasEnded}
 use Rattle.guest_machine.specs.Turns.{monitor_of}
 use Rattle.run_checker.specs.declared.verdicts.Reason.{Reason}
 use Rattle.run_checker.specs.declared.verdicts.Reason.TheVariants as reason
@@ -56,11 +56,6 @@ LacksReservation monitor access =
 abbrev pub AsksNext : Program → Numbers → ℕ → List Access → ℕ → Ask → Type 0
 AsksNext program size budget before t ask = Asks program budget (thread_start program size t) (pairs_in t before) ask
 
--- A thread has stopped, given its accesses before.
-abbrev pub HasStopped : Program → Numbers → ℕ → List Access → ℕ → Type 0
-HasStopped program size budget before t =
-    (stop : Stop) × (steps : ℕ) × (output : List ℕ) × Ends program budget (thread_start program size t) (pairs_in t before) stop steps output
-
 -- an access is what its thread asks next, and nothing stands against it
 pub record IsRight (program : Program) (size : Numbers) (budget : ℕ) (before : List Access) (access : Access) : Type 0 where
   pub ask : Ask
@@ -69,10 +64,10 @@ pub record IsRight (program : Program) (size : Numbers) (budget : ℕ) (before :
   pub value : HasWrongValue (monitor_of program size before) access → ⊥
   pub reserved : LacksReservation (monitor_of program size before) access → ⊥
 
--- Why an access is wrong, the reasons tried in this order: its thread has stopped; its thread asks something else next; it
+-- Why an access is wrong, the reasons tried in this order: its thread has ended; its thread asks something else next; it
 -- is what its thread asks next, but has a wrong value; or it is, but stores without a reservation.
 abbrev pub IsWrong : Program → Numbers → ℕ → List Access → Access → Reason → Type 0
-IsWrong program size budget before access reason.AfterStop = HasStopped program size budget before access.thread
+IsWrong program size budget before access reason.AfterStop = HasEnded program size budget before access.thread
 IsWrong program size budget before access reason.NotAsked =
     (ask : Ask) × (AsksNext program size budget before access.thread ask × (is_asked ask access ≡ false))
 IsWrong program size budget before access reason.WrongValue =
@@ -86,11 +81,11 @@ abbrev pub AreRight : Program → Numbers → ℕ → List Access → Type 0
 AreRight program size budget accesses =
     (before after : List Access) (access : Access) → accesses ≡ before ++ access ∷ after → IsRight program size budget before access
 
--- The verdict on accesses of a program's threads: good, where each access is right and each thread has stopped; bad at the
+-- The verdict on accesses of a program's threads: good, where each access is right and each thread has ended; bad at the
 -- first access that is wrong, for the first reason why; or bad behind them all, where each is right and a thread still asks.
 pub data Judges (program : Program) (size : Numbers) (budget : ℕ) (accesses : List Access) : Verdict → Type 0 where
   good : AreRight program size budget accesses
-      → ((t : ℕ) → t < size.threads → HasStopped program size budget accesses t)
+      → ((t : ℕ) → t < size.threads → HasEnded program size budget accesses t)
       → Judges program size budget accesses verdict.Good
   wrong : (before after : List Access) (access : Access) (why : Reason)
       → accesses ≡ before ++ access ∷ after

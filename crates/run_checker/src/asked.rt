@@ -23,7 +23,7 @@ pub fn is_asked(ask: Ask, access: Access) -> bool
     }
 }
 
-// Whether two places are the same.
+/// Whether two places are the same.
 fn is_place(one: Place, other: Place) -> bool
     ensures { result ≡ is_place one other }
 {

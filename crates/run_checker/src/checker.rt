@@ -7,7 +7,7 @@ ghost use Rattle.guest_thread.specs.ThreadState.{IsReadyIn};
 ghost use Rattle.run_record.specs.Limits.{IsAccess};
 ghost use Rattle.guest_machine.specs.Turns.{monitor_of};
 ghost use Rattle.run_checker.specs.Verdict.{IsRight, IsWrong};
-ghost use Rattle.run_checker.specs.Positions.{AreBrought, BringsOn, HaveStopped, IsBrought, MayGoOn, SomeAsks};
+ghost use Rattle.run_checker.specs.Positions.{AreBrought, BringsOn, HaveEnded, IsBrought, MayGoOn, SomeAsks};
 
 use crate::asked::is_asked;
 use crate::serving::serve;
@@ -65,7 +65,7 @@ impl Checker {
         ensures asks { OnTrue result ((size : Numbers) (early : List Access) → AreBrought image.now size budget early self.old
             → SomeAsks image.now size budget early (length self.old.guests.items)) }
         ensures stopped { OnFalse result ((size : Numbers) (early : List Access) → AreBrought image.now size budget early self.old
-            → HaveStopped image.now size budget early (length self.old.guests.items)) }
+            → HaveEnded image.now size budget early (length self.old.guests.items)) }
     {
         for guest in self.guests.iter_mut() {
             if let Turn::Asks(_) = guest.next(image, budget) {
@@ -76,7 +76,7 @@ impl Checker {
     }
 }
 
-// Makes an access of a thread as it is recorded, or says why it is wrong.
+/// Makes an access of a thread as it is recorded, or says why it is wrong.
 fn make(
     guest: &mut Guest,
     memory: &mut PlainMemory,

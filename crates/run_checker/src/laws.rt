@@ -14,7 +14,8 @@ ghost use Rattle.guest_thread.specs.Start.{thread_start};
 ghost use Rattle.guest_thread.specs.declared.ends.GuestEnd.{GuestEnd};
 ghost use Rattle.run_record.specs.Limits.{IsRecord};
 ghost use Rattle.run_record.specs.declared.records.RunRecord.{RunRecord};
-ghost use Rattle.run_checker.specs.Verdict.{HasStopped, Judges};
+ghost use Rattle.guest_machine.specs.Ended.{HasEnded};
+ghost use Rattle.run_checker.specs.Verdict.{Judges};
 
 use crate::verdicts::Verdict;
 
@@ -32,7 +33,7 @@ pub fn good_records_are_legal()
         IsArmLegal (at_rest program.bytes size.threads) (history_of run.accesses) }
     ensures stopped { (program : Program) (size : Numbers) (run : RunRecord) (t : ℕ) →
         Judges program size run.budget run.accesses Verdict.Good → t < size.threads →
-        HasStopped program size run.budget run.accesses t }
+        HasEnded program size run.budget run.accesses t }
 {}
 
 /// The record of a trace is good.

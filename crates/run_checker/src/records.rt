@@ -36,7 +36,7 @@ pub fn check_record(
     Ok(verdict_of(checker, image, run.budget, run.accesses.as_slice()))
 }
 
-// The verdict on accesses, by threads and memory at their start.
+/// The verdict on accesses, by threads and memory at their start.
 fn verdict_of(mut checker: Checker, image: &Image, budget: u64, accesses: &[Access]) -> Verdict
     requires ready { MayGoOn (length image.now.bytes) budget checker }
     requires budget { budget ≤ 1000000000000 }

@@ -39,7 +39,7 @@ pub fn serve(memory: &mut PlainMemory, access: Access) -> Option<Reason>
     }
 }
 
-// What stands against a load's value, where memory has this one.
+/// What stands against a load's value, where memory has this one.
 fn wrong_value(has: u64, value: u64) -> Option<Reason>
     ensures wrong { IfSome result (λ reason. (reason ≡ Reason.WrongValue) × (value ≡ has → ⊥)) }
     ensures right { IfNone result (value ≡ has) }

@@ -12,7 +12,7 @@ use Rattle.run_record.specs.declared.records.RunRecord.{RunRecord}
 use Rattle.run_record.specs.Fault.{Begins, HasFault, HasHeader, HasLine}
 use Rattle.run_record.specs.Fields.{Read}
 use Rattle.run_record.specs.Limits.{IsAccess, IsRecord, most_accesses}
-use Rattle.run_record.specs.Reading.{accesses_of, behind_header, ended, followed, header_of, in_front, line_access, made, next_access, of_thread, record_of}
+use Rattle.run_record.specs.Reading.{accesses_from, behind_header, ended, followed, header_of, in_front, line_access, made, next_access, of_thread, record_of}
 use Rattle.run_record.specs.Text.{header_text, line_text, record_text}
 use Rattle.run_record.proofs.LineTexts.{line_again, line_takes}
 use Rattle.run_record.proofs.HeaderTexts.{header_again, header_takes}
@@ -98,13 +98,13 @@ next_fault threads number bytes cause h = fault_of_read threads number bytes (li
 
 -- lines, one after another
 
-pub lines_end : (threads number : ℕ) (bytes : List ℕ) → accesses_of threads 0 number bytes ≡ ended number bytes
-unfolding accesses_of
+pub lines_end : (threads number : ℕ) (bytes : List ℕ) → accesses_from threads 0 number bytes ≡ ended number bytes
+unfolding accesses_from
 lines_end threads number bytes = refl
 
 pub lines_more : (threads count number : ℕ) (bytes : List ℕ)
-    → accesses_of threads (suc count) number bytes ≡ followed (next_access threads number bytes) (accesses_of threads count (number + 1))
-unfolding accesses_of
+    → accesses_from threads (suc count) number bytes ≡ followed (next_access threads number bytes) (accesses_from threads count (number + 1))
+unfolding accesses_from
 lines_more threads count number bytes = refl
 
 -- accesses in front of those that are read
@@ -126,11 +126,11 @@ small_thread : (threads : ℕ) (access : Access) → threads ≤ 16 → IsAccess
 small_thread threads access few is = omega (arith, few, is.thread)
 
 pub lines_front : (threads : ℕ) (few : threads ≤ 16) (accesses : List Access) (count number : ℕ) (rest : List ℕ) → AllByRecursion (IsAccess threads) accesses
-    → accesses_of threads (length accesses + count) number (flat_map line_text accesses ++ rest)
-    ≡ joined accesses (accesses_of threads count (number + length accesses) rest)
+    → accesses_from threads (length accesses + count) number (flat_map line_text accesses ++ rest)
+    ≡ joined accesses (accesses_from threads count (number + length accesses) rest)
 lines_front threads few [] count number rest good =
-    ap (λ k. accesses_of threads k number rest) (omega arith) ∙ ap (λ n. accesses_of threads count n rest) (omega arith)
-    ∙ sym (joined_nothing (accesses_of threads count (number + 0) rest))
+    ap (λ k. accesses_from threads k number rest) (omega arith) ∙ ap (λ n. accesses_from threads count n rest) (omega arith)
+    ∙ sym (joined_nothing (accesses_from threads count (number + 0) rest))
 lines_front threads few (access ∷ accesses) count number rest good =
     let later : List ℕ = flat_map line_text accesses ++ rest in
     let text : List ℕ = flat_map line_text (access ∷ accesses) ++ rest in
@@ -138,12 +138,12 @@ lines_front threads few (access ∷ accesses) count number rest good =
     let line : HasLine text access later = record { thread = small_thread threads access few good.0; formed = good.0.formed; text = parts } in
     let total : suc (length accesses) + count ≡ suc (length accesses + count) = omega arith in
     let place : number + 1 + length accesses ≡ number + suc (length accesses) = omega arith in
-    ap (λ k. accesses_of threads k number text) total
+    ap (λ k. accesses_from threads k number text) total
     ∙ lines_more threads (length accesses + count) number text
-    ∙ ap (λ r. followed r (accesses_of threads (length accesses + count) (number + 1))) (next_again threads number text access later line good.0.thread)
+    ∙ ap (λ r. followed r (accesses_from threads (length accesses + count) (number + 1))) (next_again threads number text access later line good.0.thread)
     ∙ ap (in_front access) (lines_front threads few accesses count (number + 1) rest good.1)
-    ∙ in_front_joined access accesses (accesses_of threads count (number + 1 + length accesses) rest)
-    ∙ ap (λ n. joined (access ∷ accesses) (accesses_of threads count n rest)) place
+    ∙ in_front_joined access accesses (accesses_from threads count (number + 1 + length accesses) rest)
+    ∙ ap (λ n. joined (access ∷ accesses) (accesses_from threads count n rest)) place
 
 -- accesses that are read have these lines, and nothing is behind them
 
@@ -175,11 +175,11 @@ followed_some : (next : Result (Access × List ℕ) RecordFault) (later : List �
 followed_some (Ok r) later accesses h = let front = front_some r.0 (later r.1) accesses h in (r, refl, front.0, front.1, front.2)
 followed_some (Err cause) later accesses h = absurd (no_ok accesses cause h)
 
-pub lines_take : (threads count number : ℕ) (bytes : List ℕ) (accesses : List Access) → accesses_of threads count number bytes ≡ Ok accesses
+pub lines_take : (threads count number : ℕ) (bytes : List ℕ) (accesses : List Access) → accesses_from threads count number bytes ≡ Ok accesses
     → AreLines threads count bytes accesses
 lines_take threads zero number bytes accesses h = ended_some threads number bytes accesses (sym (lines_end threads number bytes) ∙ h)
 lines_take threads (suc count) number bytes accesses h =
-    let parts = followed_some (next_access threads number bytes) (accesses_of threads count (number + 1)) accesses (sym (lines_more threads count number bytes) ∙ h) in
+    let parts = followed_some (next_access threads number bytes) (accesses_from threads count (number + 1)) accesses (sym (lines_more threads count number bytes) ∙ h) in
     let line = next_takes threads number bytes parts.0 parts.1 in
     let others = lines_take threads count (number + 1) parts.0.1 parts.2 parts.3 in
     subst (AreLines threads (suc count) bytes) (sym parts.4) (lines_cons threads count number bytes parts.0 parts.2 line.0 line.1 others)
@@ -247,11 +247,11 @@ followed_fault : (next : Result (Access × List ℕ) RecordFault) (later : List 
 followed_fault (Ok r) later cause h = inr (r, refl, front_fault r.0 (later r.1) cause h)
 followed_fault (Err other) later cause h = inl (ap Err (err_same other cause h))
 
-pub lines_fault : (threads count number : ℕ) (bytes : List ℕ) (cause : RecordFault) → accesses_of threads count number bytes ≡ Err cause
+pub lines_fault : (threads count number : ℕ) (bytes : List ℕ) (cause : RecordFault) → accesses_from threads count number bytes ≡ Err cause
     → Stops threads count number bytes cause
 lines_fault threads zero number bytes cause h = ended_stops threads number bytes cause (sym (lines_end threads number bytes) ∙ h)
 lines_fault threads (suc count) number bytes cause h =
-    elim (followed_fault (next_access threads number bytes) (accesses_of threads count (number + 1)) cause (sym (lines_more threads count number bytes) ∙ h)) [
+    elim (followed_fault (next_access threads number bytes) (accesses_from threads count (number + 1)) cause (sym (lines_more threads count number bytes) ∙ h)) [
       | inl here ↦ next_stops threads count number bytes cause (next_fault threads number bytes cause here)
       | inr more ↦
           let line = next_takes threads number bytes more.0 more.1 in
@@ -276,14 +276,14 @@ run_of threads budget accesses = record { threads = threads; budget = budget; ac
 
 -- behind a header that says no more accesses than a record may have
 pub short : (threads budget count : ℕ) (rest : List ℕ) → count ≤ most_accesses
-    → behind_header (Some (header threads budget count, rest)) ≡ made (header threads budget count) (accesses_of threads count 2 rest)
+    → behind_header (Some (header threads budget count, rest)) ≡ made (header threads budget count) (accesses_from threads count 2 rest)
 short threads budget count rest h = rw (le-ltb most_accesses count h) refl
 
 pub long : (threads budget count : ℕ) (rest : List ℕ) → most_accesses < count → behind_header (Some (header threads budget count, rest)) ≡ Err fault.TooLong
 long threads budget count rest h = rw (lt-ltb most_accesses count h) refl
 
 read_behind : (bytes : List ℕ) (threads budget count : ℕ) (rest : List ℕ) → HasHeader bytes threads budget count rest → count ≤ most_accesses
-    → record_of bytes ≡ made (header threads budget count) (accesses_of threads count 2 rest)
+    → record_of bytes ≡ made (header threads budget count) (accesses_from threads count 2 rest)
 read_behind bytes threads budget count rest has few =
     steps bytes ∙ ap behind_header (header_again bytes threads budget count rest has) ∙ short threads budget count rest few
 
@@ -298,9 +298,9 @@ made_fault head (Err other) cause h = ap Err (err_same other cause h)
 
 -- a record that is read has this text
 record_read : (bytes : List ℕ) (line : Header × List ℕ) (run : RunRecord) → HasHeader bytes line.0.threads line.0.budget line.0.count line.1
-    → line.0.count ≤ most_accesses → made line.0 (accesses_of line.0.threads line.0.count 2 line.1) ≡ Ok run → (record_text run ≡ bytes) × IsRecord run
+    → line.0.count ≤ most_accesses → made line.0 (accesses_from line.0.threads line.0.count 2 line.1) ≡ Ok run → (record_text run ≡ bytes) × IsRecord run
 record_read bytes line run has few h =
-    let parts = made_some line.0 (accesses_of line.0.threads line.0.count 2 line.1) run h in
+    let parts = made_some line.0 (accesses_from line.0.threads line.0.count 2 line.1) run h in
     let lines = lines_take line.0.threads line.0.count 2 line.1 parts.0 parts.1 in
     let made_run : RunRecord = run_of line.0.threads line.0.budget parts.0 in
     let text : record_text made_run ≡ bytes =
@@ -337,9 +337,9 @@ record_again run is =
     let head : Header = header run.threads run.budget count in
     let has : HasHeader (record_text run) run.threads run.budget count lines =
     record { numbers = is.numbers; small = omega (arith, is.count); text = text_is run } in
-    let all : accesses_of run.threads count 2 lines ≡ Ok run.accesses =
-    ap (λ k. accesses_of run.threads k 2 lines) (omega arith)
-    ∙ ap (accesses_of run.threads (count + 0) 2) (sym (append-nil lines))
+    let all : accesses_from run.threads count 2 lines ≡ Ok run.accesses =
+    ap (λ k. accesses_from run.threads k 2 lines) (omega arith)
+    ∙ ap (accesses_from run.threads (count + 0) 2) (sym (append-nil lines))
     ∙ lines_front run.threads is.numbers.few run.accesses 0 2 [] (recursion_from_All (IsAccess run.threads) run.accesses is.accesses)
     ∙ ap (joined run.accesses) (lines_end run.threads (2 + count) [])
     ∙ ap Ok (append-nil run.accesses)
@@ -391,7 +391,7 @@ fault_by_header bytes (Some line) cause e h =
           subst (HasFault bytes) (err_same fault.TooLong cause (sym (long line.0.threads line.0.budget line.0.count line.1 more) ∙ h))
           (HasFault.too_long line.0.threads line.0.budget line.0.count line.1 has more)
       | inr few ↦
-          let lines = made_fault line.0 (accesses_of line.0.threads line.0.count 2 line.1) cause (sym (short line.0.threads line.0.budget line.0.count line.1 few) ∙ h) in
+          let lines = made_fault line.0 (accesses_from line.0.threads line.0.count 2 line.1) cause (sym (short line.0.threads line.0.budget line.0.count line.1 few) ∙ h) in
           stops_first bytes line cause has few (lines_fault line.0.threads line.0.count 2 line.1 cause lines)
     ]
 
@@ -406,24 +406,24 @@ none_if_no_header bytes None e none = refl
 none_if_no_header bytes (Some line) e none = absurd (none line.0.threads line.0.budget line.0.count line.1 (header_takes bytes line e))
 
 begun : (bytes : List ℕ) (threads count : ℕ) (accesses : List Access) (rest : List ℕ) (cause : RecordFault) (begins : Begins bytes threads count accesses rest)
-    → accesses_of threads (count - length accesses) (2 + length accesses) rest ≡ Err cause → record_of bytes ≡ Err cause
+    → accesses_from threads (count - length accesses) (2 + length accesses) rest ≡ Err cause → record_of bytes ≡ Err cause
 begun bytes threads count accesses rest cause begins h =
     let lines : List ℕ = flat_map line_text accesses ++ rest in
     let head : Header = header threads begins.budget count in
     let total : count ≡ length accesses + (count - length accesses) = omega (arith, begins.within) in
     read_behind bytes threads begins.budget count lines begins.header begins.few
-    ∙ ap (λ k. made head (accesses_of threads k 2 lines)) total
+    ∙ ap (λ k. made head (accesses_from threads k 2 lines)) total
     ∙ ap (made head) (lines_front threads begins.header.numbers.few accesses (count - length accesses) 2 rest (recursion_from_All (IsAccess threads) accesses begins.good))
     ∙ ap (λ r. made head (joined accesses r)) h
 
 pub more_fault : (threads left number : ℕ) (rest : List ℕ) (cause : RecordFault) → 0 < left → next_access threads number rest ≡ Err cause
-    → accesses_of threads left number rest ≡ Err cause
+    → accesses_from threads left number rest ≡ Err cause
 more_fault threads zero number rest cause h e = absurd (omega (arith, h))
-more_fault threads (suc left) number rest cause h e = lines_more threads left number rest ∙ ap (λ r. followed r (accesses_of threads left (number + 1))) e
+more_fault threads (suc left) number rest cause h e = lines_more threads left number rest ∙ ap (λ r. followed r (accesses_from threads left (number + 1))) e
 
-pub left_fault : (threads left number : ℕ) (rest : List ℕ) → left ≡ 0 → rest ≢ [] → accesses_of threads left number rest ≡ Err (fault.Line number)
+pub left_fault : (threads left number : ℕ) (rest : List ℕ) → left ≡ 0 → rest ≢ [] → accesses_from threads left number rest ≡ Err (fault.Line number)
 left_fault threads left number [] e some = absurd (some refl)
-left_fault threads left number (byte ∷ rest) e some = ap (λ k. accesses_of threads k number (byte ∷ rest)) e ∙ lines_end threads number (byte ∷ rest)
+left_fault threads left number (byte ∷ rest) e some = ap (λ k. accesses_from threads k number (byte ∷ rest)) e ∙ lines_end threads number (byte ∷ rest)
 
 pub first_read : (bytes : List ℕ) (cause : RecordFault) → HasFault bytes cause → record_of bytes ≡ Err cause
 first_read bytes _ (HasFault.header none) = steps bytes ∙ ap behind_header (none_if_no_header bytes (header_of bytes) refl none)

@@ -81,14 +81,15 @@ abbrev pub followed : Result (Access × List ℕ) RecordFault → (List ℕ → 
 followed (Ok line) later = in_front line.0 (later line.1)
 followed (Err fault) later = Err fault
 
--- the accesses of so many lines, from the line of this number on; behind them nothing is left
+-- behind the last line nothing is left
 abbrev pub ended : ℕ → List ℕ → Result (List Access) RecordFault
 ended number [] = Ok []
 ended number (byte ∷ bytes) = Err (fault.Line number)
 
-unfoldable pub accesses_of : ℕ → ℕ → ℕ → List ℕ → Result (List Access) RecordFault
-accesses_of threads zero number bytes = ended number bytes
-accesses_of threads (suc count) number bytes = followed (next_access threads number bytes) (accesses_of threads count (number + 1))
+-- the accesses of so many lines, from the line of this number on
+unfoldable pub accesses_from : ℕ → ℕ → ℕ → List ℕ → Result (List Access) RecordFault
+accesses_from threads zero number bytes = ended number bytes
+accesses_from threads (suc count) number bytes = followed (next_access threads number bytes) (accesses_from threads count (number + 1))
 
 -- a number behind a label
 abbrev pub labelled : List ℕ → ℕ → List ℕ → Read ℕ
@@ -121,7 +122,7 @@ made header (Err fault) = Err fault
 abbrev pub behind_header : Read Header → Result RunRecord RecordFault
 behind_header None = Err fault.Header
 behind_header (Some line) =
-    if nat_lt most_accesses line.0.count then Err fault.TooLong else made line.0 (accesses_of line.0.threads line.0.count 2 line.1)
+    if nat_lt most_accesses line.0.count then Err fault.TooLong else made line.0 (accesses_from line.0.threads line.0.count 2 line.1)
 
 -- the record whose text bytes are, or their fault
 unfoldable pub record_of : List ℕ → Result RunRecord RecordFault

@@ -142,7 +142,7 @@ fn access_line(access: &Access) -> Line
 
 /// The text of a record: the header line and a line for each access, in order. The record has 1 to 16 threads, a budget
 /// of 1 to 1,000,000,000,000 and at most 1,000,000 accesses, each by one of its threads, at an aligned place, of a value
-/// that its size holds.
+/// that its size holds; a `Clear` has the place of one byte at address 0 and the value 0.
 ///
 /// # Errors
 ///

@@ -2,7 +2,7 @@
 ghost use Rattle.std.specs.Prelude.{◌≡◌, ◌⊎◌, ◌+◌, ◌<◌, ◌≤◌, ◌^◌, IfErr, IfOk, Ok, Err};
 ghost use Rattle.run_record.specs.Fault.{HasFault};
 ghost use Rattle.run_record.specs.Limits.{IsRecord};
-ghost use Rattle.run_record.specs.Reading.{accesses_of, record_of};
+ghost use Rattle.run_record.specs.Reading.{accesses_from, record_of};
 ghost use Rattle.run_record.specs.Seen.{fault_or_memory};
 ghost use Rattle.run_record.specs.Text.{record_text};
 
@@ -19,7 +19,7 @@ const MOST_ACCESSES: u64 = 1_000_000;
 /// The first fault of so many lines, the first of which has this number, and `Memory` where they have none.
 fn fault_of_lines(threads: u32, count: u32, number: u32, bytes: &[u8]) -> RecordFault
     requires { number + count < 2 ^ 32 }
-    ensures { result ≡ fault_or_memory (accesses_of threads count number bytes.now) }
+    ensures { result ≡ fault_or_memory (accesses_from threads count number bytes.now) }
 {
     let mut rest = bytes;
     for line in 0..count {
@@ -35,15 +35,15 @@ fn fault_of_lines(threads: u32, count: u32, number: u32, bytes: &[u8]) -> Record
 }
 
 /// The accesses of so many lines, the first of which is line 2.
-fn accesses_of(
+fn accesses_from(
     alloc: Global,
     threads: u32,
     count: u32,
     bytes: &[u8],
 ) -> Result<Vec<Access>, RecordFault>
     requires { count ≤ 1000000 }
-    ensures read { IfOk result (λ accesses. accesses_of threads count 2 bytes.now ≡ Ok accesses.items) }
-    ensures fault { IfErr result (λ fault. fault ≡ fault_or_memory (accesses_of threads count 2 bytes.now)) }
+    ensures read { IfOk result (λ accesses. accesses_from threads count 2 bytes.now ≡ Ok accesses.items) }
+    ensures fault { IfErr result (λ fault. fault ≡ fault_or_memory (accesses_from threads count 2 bytes.now)) }
 {
     let mut accesses = Vec::new(alloc);
     let mut rest = bytes;
@@ -72,7 +72,7 @@ fn record_of(alloc: Global, bytes: &[u8]) -> Result<RunRecord, RecordFault>
         return Err(RecordFault::TooLong);
     }
     let threads = header.threads as u32;
-    match accesses_of(alloc, threads, header.count as u32, rest) {
+    match accesses_from(alloc, threads, header.count as u32, rest) {
         Ok(accesses) => Ok(RunRecord {
             threads,
             budget: header.budget,

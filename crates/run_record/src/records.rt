@@ -33,6 +33,13 @@ impl Accesses {
     {
         self.items.as_slice()
     }
+
+    /// The vector of the accesses.
+    pub fn into_vec(self) -> Vec<Access>
+        ensures { result.items ≡ self }
+    {
+        self.items
+    }
 }
 
 /// The record of a run: its threads, 1 to 16, the budget of instructions that each had, 1 to 1,000,000,000,000, and

@@ -33,17 +33,17 @@ fn half(
     })
 }
 
-// A number of bytes above the base register's address.
+/// A number of bytes above the base register's address.
 fn up(imm: u16) -> Offset {
     Offset::Imm { add: true, imm }
 }
 
-// A number of bytes below it.
+/// A number of bytes below it.
 fn down(imm: u16) -> Offset {
     Offset::Imm { add: false, imm }
 }
 
-// A register, added to the base register's value or taken from it.
+/// A register, added to the base register's value or taken from it.
 fn reg(add: bool, rm: u8) -> Offset
     requires { rm < 16 }
 {
@@ -55,7 +55,7 @@ fn reg(add: bool, rm: u8) -> Offset
     }
 }
 
-// A block whose base register is written back where `wback`.
+/// A block whose base register is written back where `wback`.
 fn block(
     cond: u8,
     load: bool,

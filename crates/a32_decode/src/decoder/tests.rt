@@ -9,7 +9,7 @@ const UNDEFINED: Result<Instr, DecodeFault> = Err(DecodeFault::Undefined);
 
 const UNPREDICTABLE: Result<Instr, DecodeFault> = Err(DecodeFault::Unpredictable);
 
-// Data processing under the condition AL.
+/// Data processing under the condition AL.
 fn alu(op: AluOp, s: bool, rd: u8, rn: u8, turn: u8, imm8: u8) -> Result<Instr, DecodeFault>
     requires rd { rd < 16 }
     requires rn { rn < 16 }
@@ -25,7 +25,7 @@ fn alu(op: AluOp, s: bool, rd: u8, rn: u8, turn: u8, imm8: u8) -> Result<Instr, 
     })
 }
 
-// A load or a store of a word under the condition AL, with a number as its offset.
+/// A load or a store of a word under the condition AL, with a number as its offset.
 fn word(load: bool, rt: u8, rn: u8, add: bool, imm: u16) -> Result<Instr, DecodeFault>
     requires rt { rt < 16 }
     requires rn { rn < 16 }
@@ -33,7 +33,7 @@ fn word(load: bool, rt: u8, rn: u8, add: bool, imm: u16) -> Result<Instr, Decode
     access(load, false, Index::Plain, rt, rn, Offset::Imm { add, imm })
 }
 
-// A load or a store under the condition AL.
+/// A load or a store under the condition AL.
 fn access(
     load: bool,
     byte: bool,
@@ -56,7 +56,7 @@ fn access(
     })
 }
 
-// Register 2 added, shifted left.
+/// Register 2 added, shifted left.
 fn scaled(amount: u8) -> Offset {
     Offset::Shifted {
         add: true,
@@ -66,7 +66,7 @@ fn scaled(amount: u8) -> Offset {
     }
 }
 
-// A load-exclusive of r0 at r1.
+/// A load-exclusive of r0 at r1.
 fn load_ex(size: Size) -> Result<Instr, DecodeFault> {
     Ok(Instr::LoadEx {
         cond: Cond::new(14),
@@ -76,7 +76,7 @@ fn load_ex(size: Size) -> Result<Instr, DecodeFault> {
     })
 }
 
-// A store-exclusive of r2 at r1, with its status in r0.
+/// A store-exclusive of r2 at r1, with its status in r0.
 fn store_ex(size: Size) -> Result<Instr, DecodeFault> {
     Ok(Instr::StoreEx {
         cond: Cond::new(14),

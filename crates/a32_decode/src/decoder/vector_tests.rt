@@ -88,7 +88,7 @@ fn uxtb(rd: Reg, rm: Reg, turn: u8) -> Instr {
     }
 }
 
-// A load or a store with a shifted register added.
+/// A load or a store with a shifted register added.
 fn word(load: bool, rt: Reg, rn: Reg, rm: Reg, amount: u8) -> Instr {
     Instr::Word {
         cond: Cond::new(ALWAYS),
@@ -117,7 +117,7 @@ fn ldrh(rt: Reg, rn: Reg, imm: u16) -> Instr {
     }
 }
 
-// A block from the base's address up.
+/// A block from the base's address up.
 fn block(load: bool, wback: bool, rn: Reg, list: u16) -> Instr {
     Instr::Block {
         cond: Cond::new(ALWAYS),

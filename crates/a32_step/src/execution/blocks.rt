@@ -1,7 +1,7 @@
 //! Loads and stores of a block of registers (DDI 0406C A5.5).
 ghost use Rattle.std.specs.Prelude.{◌≡◌, ◌<◌, ◌≤◌, length};
 ghost use Rattle.a32_instr.specs.State.{jumps};
-ghost use Rattle.a32_instr.specs.Block.{registers_of, count_of, bytes_of, block, block_ask, block_back, block_loaded, with_block};
+ghost use Rattle.a32_instr.specs.Block.{registers_of, count_of, block_size, block, block_ask, block_back, block_loaded, with_block};
 ghost use Rattle.a32_instr.specs.Effect.{acts};
 ghost use Rattle.a32_step.specs.Progress.{progress_of};
 ghost use Rattle.a32_step.specs.Classes.{class_of, block_access};
@@ -80,8 +80,8 @@ impl Execution {
         requires count { count ≡ count_of transfer.list }
         requires most { count ≤ 16 }
         requires all { count_of transfer.list ≤ length self.old.replies }
-        ensures progress { result ≡ progress_of (block_loaded transfer.list self.old.replies (block_back transfer.wback transfer.up transfer.rn (bytes_of transfer.list) self.old.state)) }
-        ensures state { self.new ≡ moves self.old (block_loaded transfer.list self.old.replies (block_back transfer.wback transfer.up transfer.rn (bytes_of transfer.list) self.old.state)) }
+        ensures progress { result ≡ progress_of (block_loaded transfer.list self.old.replies (block_back transfer.wback transfer.up transfer.rn (block_size transfer.list) self.old.state)) }
+        ensures state { self.new ≡ moves self.old (block_loaded transfer.list self.old.replies (block_back transfer.wback transfer.up transfer.rn (block_size transfer.list) self.old.state)) }
     {
         let list = transfer.list;
         if is_listed(list, 15) {
@@ -98,8 +98,8 @@ impl Execution {
         requires count { count ≡ count_of transfer.list }
         requires most { count ≤ 16 }
         requires all { count_of transfer.list ≤ length self.old.replies }
-        ensures progress { result ≡ progress_of (jumps (with_block transfer.list self.old.replies (block_back transfer.wback transfer.up transfer.rn (bytes_of transfer.list) self.old.state)) value) }
-        ensures state { self.new ≡ moves self.old (jumps (with_block transfer.list self.old.replies (block_back transfer.wback transfer.up transfer.rn (bytes_of transfer.list) self.old.state)) value) }
+        ensures progress { result ≡ progress_of (jumps (with_block transfer.list self.old.replies (block_back transfer.wback transfer.up transfer.rn (block_size transfer.list) self.old.state)) value) }
+        ensures state { self.new ≡ moves self.old (jumps (with_block transfer.list self.old.replies (block_back transfer.wback transfer.up transfer.rn (block_size transfer.list) self.old.state)) value) }
     {
         if value % 2 == 1 {
             return self.stop(Stop::Thumb(self.pc));

@@ -4,7 +4,7 @@ use run_record::read_record;
 use std::process::Abort;
 use std::test::Fail;
 
-// mov r1, #0x2000; ldrex r0, [r1]; add r0, r0, #7; strex r2, r0, [r1]; mov r0, r2; exit.
+/// mov r1, #0x2000; ldrex r0, [r1]; add r0, r0, #7; strex r2, r0, [r1]; mov r0, r2; exit.
 const ADDS: &[u32] = &[
     0xe3a0_1a02,
     0xe191_0f9f,
@@ -15,7 +15,7 @@ const ADDS: &[u32] = &[
     0xef00_0000,
 ];
 
-// The same without the load and the sum.
+/// The same without the load and the sum.
 const STORES: &[u32] = &[
     0xe3a0_1a02,
     0xe181_2f90,
@@ -24,7 +24,7 @@ const STORES: &[u32] = &[
     0xef00_0000,
 ];
 
-// The same with two loads, and a second store-exclusive.
+/// The same with two loads, and a second store-exclusive.
 const STORES_TWICE: &[u32] = &[
     0xe3a0_1a02,
     0xe191_0f9f,
@@ -35,7 +35,7 @@ const STORES_TWICE: &[u32] = &[
     0xef00_0000,
 ];
 
-// mov r2, #0x2000; str r0, [r2]; ldr r1, [r2]; mov r0, #0; exit.
+/// mov r2, #0x2000; str r0, [r2]; ldr r1, [r2]; mov r0, #0; exit.
 const SHARES: &[u32] = &[
     0xe3a0_2a02,
     0xe582_0000,
@@ -45,7 +45,7 @@ const SHARES: &[u32] = &[
     0xef00_0000,
 ];
 
-// Writes the two bytes behind its last word, from 0x1020 up, and leaves with 0.
+/// Writes the two bytes behind its last word, from 0x1020 up, and leaves with 0.
 const WRITES: &[u32] = &[
     0xe3a0_0001,
     0xe28f_1014,
@@ -58,7 +58,7 @@ const WRITES: &[u32] = &[
     0x0000_6948,
 ];
 
-// Lines of records.
+/// Lines of records.
 const LOAD: &str = "0 loadex 4 00002000 0000000000000000\n";
 
 const LOAD_OF_1: &str = "0 loadex 4 00002000 0000000000000001\n";
@@ -87,14 +87,14 @@ const LOAD_H: &str = "0 load 1 00001020 0000000000000048\n";
 
 const LOAD_I: &str = "0 load 1 00001021 0000000000000069\n";
 
-// Lines of whole records: one store-exclusive after another, and two threads that store and load, thread 1 or 0 first.
+/// Lines of whole records: one store-exclusive after another, and two threads that store and load, thread 1 or 0 first.
 const TWICE: &[&str] = &[LOAD, FAIL_0, STORE_0];
 
 const ONE_FIRST: &[&str] = &[STORE_BY_1, STORE_BY_0, LOAD_BY_1, LOAD_BY_0];
 
 const ZERO_FIRST: &[&str] = &[STORE_BY_0, STORE_BY_1, LOAD_BY_1, LOAD_BY_0];
 
-// What is said of a record of so many threads with these lines.
+/// What is said of a record of so many threads with these lines.
 fn verdict(
     alloc: Global,
     words: &[u32],
@@ -123,7 +123,7 @@ const fn bad(index: u32, reason: Reason) -> Verdict {
     Verdict::Bad { index, reason }
 }
 
-// The record of a thread that adds, changed in stated ways.
+/// The record of a thread that adds, changed in stated ways.
 fn judge_changes(rt: &impl Abort, alloc: Global) -> Result<(), Fail> {
     // the budget and the lines; the verdict
     let cases: [(u64, &[&str], Verdict); 10] = [
@@ -145,7 +145,7 @@ fn judge_changes(rt: &impl Abort, alloc: Global) -> Result<(), Fail> {
     Ok(())
 }
 
-// Records of other programs, and of two threads.
+/// Records of other programs, and of two threads.
 fn judge_programs(rt: &impl Abort, alloc: Global) -> Result<(), Fail> {
     // the words, the threads and the lines; the verdict
     let cases: [(&[u32], u64, &[&str], Verdict); 7] = [

@@ -4,7 +4,12 @@ use Rattle.run_checker.proofs.checker.make.Goals as goal
 
 pub returns-in_default-clause-wrong : goal.returns-in_default-clause-wrong
 returns-in_default-clause-wrong c size early come was =
-    (c.in_default.field-0, c.next.new.self.steps, c.next.new.self.output, c.in_default.ensures.comes _ _ come)
+    record {
+      stop = c.in_default.field-0;
+      steps = c.next.new.self.steps;
+      output = c.next.new.self.output;
+      ends = c.in_default.ensures.comes _ _ come;
+    }
 
 pub returns-clause-right : goal.returns-clause-right
 returns-clause-right c size early come was =

@@ -1,6 +1,6 @@
 use Rattle.std.proofs.Common.{◌≢◌, ◌<◌, length, below_more, sym, subst, ◌∙◌, length-set, arith}
 use Rattle.std.proofs.lemmas.List.{get_or-set_other}
-use Rattle.run_checker.specs.Verdict.{HasStopped}
+use Rattle.guest_machine.specs.Ended.{HasEnded}
 use Rattle.run_checker.specs.Positions.{IsBrought}
 use Rattle.run_checker.proofs.checker.Checker.asks.Goals as goal
 
@@ -21,8 +21,8 @@ loop-guest-preserved c =
           let come =
           subst (IsBrought c.args.image.now size c.args.budget early index) (sym (was.same index c.guest-item.result (omega arith)))
           (brought.guests index c.guest-item.result known) in
-          below_more (HasStopped c.args.image.now size c.args.budget early) index (was.stopped size early brought)
-          (c.in_default.field-0, c.next.new.self.steps, c.next.new.self.output, c.in_default.ensures.comes _ _ come);
+          below_more (HasEnded c.args.image.now size c.args.budget early) index (was.stopped size early brought)
+          (record { stop = c.in_default.field-0; steps = c.next.new.self.steps; output = c.next.new.self.output; ends = c.in_default.ensures.comes _ _ come });
     }
 
 pub returns-clause-stopped : goal.returns-clause-stopped

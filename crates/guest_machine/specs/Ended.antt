@@ -1,4 +1,4 @@
--- What the laws of traces say of a thread.
+-- A thread that has ended, by its accesses among those of all.
 use Rattle.std.specs.Prelude.{ℕ, List}
 use Rattle.llsc_base.specs.Images.{Program}
 use Rattle.llsc_base.specs.Sizes.{Numbers}
