@@ -106,7 +106,7 @@ IsReady (Awaiting instr ask) = ⊥
 IsReady (Calling call) = ⊥
 IsReady (Stopped stop) = Unit {0}
 
--- one may go on
+-- it is inside an instruction, and waits for nothing
 abbrev pub IsInside : Phase → Type 0
 IsInside Between = ⊥
 IsInside (Inside instr) = Unit {0}

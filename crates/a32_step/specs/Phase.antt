@@ -4,8 +4,8 @@ use Rattle.a32_instr.specs.declared.outside.Ask.{Ask}
 use Rattle.a32_instr.specs.declared.outside.CallAsk.{CallAsk}
 use Rattle.a32_instr.specs.declared.outside.Stop.{Stop}
 
--- Between two instructions; inside one whose last access has been replied to; waiting for the reply to an access of
--- this instruction, or for the answer of a guest call; or stopped for good.
+-- Between two instructions; inside one that waits for nothing; waiting for the reply to an access of this instruction,
+-- or for the answer of a guest call; or stopped for good.
 pub data Phase : Type 0 where
   Between : Phase
   Inside : Instr → Phase

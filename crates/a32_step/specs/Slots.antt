@@ -4,6 +4,7 @@ use Rattle.a32_instr.specs.declared.instructions.Instr.{Instr}
 use Rattle.a32_instr.specs.declared.instructions.Instr.TheVariants.{Nop}
 use Rattle.a32_step.specs.declared.decoded.Slot.{Slot}
 
+-- the instruction of a slot, and where there is none NOP, under the condition that always holds
 abbrev pub instr_of : Option Slot → Instr
 instr_of None = Nop 14
 instr_of (Some slot) = slot.instr

@@ -3,6 +3,7 @@ ghost use Rattle.std.specs.Prelude.{◌≡◌, ◌<◌, ◌+ℤ◌, pos};
 ghost use Rattle.a32_instr.specs.Sum.{signed, is_out_of_range, sum_of};
 ghost use Rattle.a32_instr.specs.DataProcessing.{summed, logical, computed, one_if};
 
+use crate::parts::low_word;
 use crate::shifts::is_negative;
 use a32_instr::{AluOp, Computed, Flags, Shifted, Sum};
 
@@ -31,7 +32,7 @@ pub fn sum(x: u32, y: u32, carry: u32) -> Sum
 {
     let wide = u64::from(x) + u64::from(y) + u64::from(carry);
     Sum {
-        value: (wide & 0xffff_ffff) as u32,
+        value: low_word(wide),
         carry: wide >= 1 << 32,
         overflow: overflows(x, y, carry),
     }

@@ -36,7 +36,7 @@ impl Model for Cpu {
 
 impl Cpu {
     /// The start of guest thread `t` of `n`: r0 is `t`, r1 is `n`, r13 is `sp`, all other registers
-    /// are 0 and all flags clear.
+    /// are 0, all flags clear, and the PC is `entry`, a multiple of 4.
     #[tactic(auto, using(crate::proofs::Words::words_none, crate::proofs::Words::words_more))]
     pub fn start(entry: u32, t: u32, n: u32, sp: u32) -> Cpu
         requires { entry % 4 ≡ 0 }
@@ -78,7 +78,10 @@ impl Cpu {
         self.execution.flags()
     }
 
-    /// The reply to the access that is awaited.
+    /// The reply to the access that is awaited; one must be. Any number is taken. Of a load's reply
+    /// the low 32 bits count, of LDRH's and LDRSH's the low 16, of LDRSB's the low 8, and of LDREXD's
+    /// all 64. Of a store-exclusive's the low 32 go to its status register: 0 says that it stored and
+    /// 1 that it failed. Of a store's or a clear's none counts.
     #[tactic(auto, using(crate::proofs::ExecutionStates::is_awaited, crate::proofs::ExecutionStates::replied))]
     pub fn give(&mut self, reply: u64)
         requires { IsAwaiting self.old.phase }
@@ -100,7 +103,9 @@ impl Cpu {
 }
 
 impl Cpu {
-    /// Goes on until something is wanted from outside.
+    /// Goes on until something is wanted from outside; neither a reply nor an answer may be awaited.
+    /// `Done` comes once for each complete instruction but a guest call, whose [`Cpu::answer`] ends
+    /// it; after `Stopped` the same stop comes again.
     #[tactic(auto, using(crate::proofs::Tested::next_tested, crate::proofs::Follows::next_follows))]
     pub fn next(&mut self, image: &Image) -> Wanted
         requires { IsReady self.old.phase }

@@ -3,6 +3,7 @@ ghost use Rattle.std.specs.Prelude.{◌≡◌, ◌<◌, IfOk, IfErr, Ok, Err, sl
 ghost use Rattle.a32_step.specs.Slots.{instr_of, instr_for};
 ghost use Rattle.a32_instr.specs.Table.{meaning, table};
 
+use crate::conditions::ALWAYS;
 use a32_decode::decode;
 use a32_instr::{Cond, DecodeFault, Instr};
 use std::fmt;
@@ -51,7 +52,7 @@ impl Decoded {
         let slot = Slot {
             word: NOP,
             instr: Instr::Nop {
-                cond: Cond::new(14),
+                cond: Cond::new(ALWAYS),
             },
         };
         Decoded {

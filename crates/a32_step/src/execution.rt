@@ -2,7 +2,7 @@
 ghost use Rattle.std.specs.Prelude.{◌≡◌, ◌≢◌, ◌<◌, ◌≤◌, ◌%◌, ◌∷◌, ◌++◌, length, slice_index, []};
 ghost use Rattle.a32_instr.specs.State.{register, with_register, advanced, jumps, writes, answered, stops};
 ghost use Rattle.a32_instr.specs.Effect.{acts};
-ghost use Rattle.a32_step.specs.Progress.{progress_of};
+ghost use Rattle.a32_step.specs.Progress.{progress_of, stop_of};
 ghost use Rattle.a32_step.specs.Words.{AreWords};
 ghost use Rattle.a32_step.specs.ExecutionState.{Between, Inside, Awaiting, Stopped, IsAwaited, resting, moves, wanted_at};
 ghost use Rattle.a32_step.specs.Inside.{stage_held};
@@ -231,16 +231,27 @@ impl Execution {
         Progress::Complete
     }
 
+    /// What stops the thread if it writes a value to the PC (DDI 0406C A2.3), if anything does.
+    #[inline]
+    fn stop_at_value(&self, value: u32) -> Option<Stop>
+        ensures { result ≡ stop_of (jumps self.now.state value) }
+    {
+        if value % 2 == 1 {
+            return Some(Stop::Thumb(self.pc));
+        }
+        if value % 4 == 2 {
+            return Some(Stop::Unpredictable(self.pc));
+        }
+        None
+    }
+
     /// The instruction is complete with a write to the PC, if the value is one that the PC may have.
     fn jump(&mut self, flags: Flags, value: u32) -> Progress
         ensures progress { result ≡ progress_of (jumps (record self.old.state { flags = flags }) value) }
         ensures state { self.new ≡ moves self.old (jumps (record self.old.state { flags = flags }) value) }
     {
-        if value % 2 == 1 {
-            return self.stop(Stop::Thumb(self.pc));
-        }
-        if value % 4 == 2 {
-            return self.stop(Stop::Unpredictable(self.pc));
+        if let Some(stop) = self.stop_at_value(value) {
+            return self.stop(stop);
         }
         self.flags = flags;
         self.pc = value;

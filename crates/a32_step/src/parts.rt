@@ -1,4 +1,4 @@
-//! Halves and bytes of 32-bit numbers (DDI 0406C A5.2.8, A5.4.3, A8.8.106).
+//! Words, halves and bytes of numbers (DDI 0406C A5.2.8, A5.4.3, A8.8.106).
 ghost use Rattle.std.specs.Prelude.{◌≡◌};
 ghost use Rattle.a32_instr.specs.State.{low32};
 ghost use Rattle.a32_instr.specs.LoadStore.{half_value};
@@ -58,12 +58,12 @@ fn extend_half(unsigned: bool, x: u32) -> u32
     }
 }
 
-/// The low 32 bits of a reply.
+/// The low 32 bits of a number.
 #[inline(always)]
-pub fn low_word(reply: u64) -> u32
-    ensures { result ≡ low32 reply }
+pub fn low_word(x: u64) -> u32
+    ensures { result ≡ low32 x }
 {
-    (reply & 0xffff_ffff) as u32
+    (x & 0xffff_ffff) as u32
 }
 
 /// A loaded halfword or signed byte as 32 bits.

@@ -5,7 +5,7 @@ use a32_instr::{Ask, CallAsk, Stop};
 pub enum Point {
     /// Between two instructions.
     Between,
-    /// Inside an instruction, which may go on.
+    /// Inside an instruction that waits for nothing.
     Inside,
     /// Held: it waits, or has stopped.
     Held,

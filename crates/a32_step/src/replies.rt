@@ -56,6 +56,7 @@ impl Replies {
         requires { i < length self.now }
         ensures { result ≡ slice_index self.now i }
     {
+        // The bound of the count is at hand for the index.
         let _ = &self.count;
         self.items[i]
     }

@@ -4,6 +4,7 @@ ghost use Rattle.a32_instr.specs.Shift.{top_bit, shifted_left, shifted_right, sh
 ghost use Rattle.a32_instr.specs.DataProcessing.{immediate};
 
 use crate::arithmetic::as_signed;
+use crate::parts::low_word;
 use a32_instr::{ShiftKind, Shifted};
 
 /// Bit 31.
@@ -36,7 +37,7 @@ fn shift_left(x: u32, amount: u32) -> Shifted
     }
     let wide = u64::from(x) << amount;
     Shifted {
-        value: (wide & 0xffff_ffff) as u32,
+        value: low_word(wide),
         carry: (wide >> 32) % 2 == 1,
     }
 }

@@ -1,8 +1,8 @@
-//! One instruction at a time, against what a processor did. Each table was made by running the instruction in a
-//! program for Arm Linux under `qemu-arm`. A row has the word, r0 to r3 and the flags before it, and then r0, r1 and
-//! the flags after it, all in hexadecimal; the flags are N, Z, C and V as bits 3, 2, 1 and 0. A line that begins
-//! with a semicolon is a comment. Loads and stores have rows of their own (`accesses`, `edges` and `blocks`), which
-//! `transcripts` reads.
+//! One instruction at a time, against what an Arm processor's emulator did. Each table was made by running the
+//! instruction in a program for Arm Linux under that emulator, `qemu-arm`. A row has the word, r0 to r3 and the flags
+//! before it, and then r0, r1 and the flags after it, all in hexadecimal; the flags are N, Z, C and V as bits 3, 2, 1
+//! and 0. A line that begins with a semicolon is a comment. Loads and stores have rows of their own (`accesses`,
+//! `edges` and `blocks`), which `transcripts` reads.
 ghost use Rattle.a32_step.specs.Machine.{IsReady};
 
 use super::*;

@@ -13,7 +13,7 @@ use crate::operands::moved;
 use crate::parts::low_word;
 use crate::phases::Progress;
 use crate::registers::{count_of, is_listed, listed, lowest_address};
-use a32_instr::{Ask, Instr, Reg, Stop};
+use a32_instr::{Ask, Instr, Reg};
 use llsc_base::{Image, Place, Size};
 
 /// The fields of a block's load or store.
@@ -101,11 +101,8 @@ impl Execution {
         ensures progress { result ≡ progress_of (jumps (with_block transfer.list self.old.replies (block_back transfer.wback transfer.up transfer.rn (block_size transfer.list) self.old.state)) value) }
         ensures state { self.new ≡ moves self.old (jumps (with_block transfer.list self.old.replies (block_back transfer.wback transfer.up transfer.rn (block_size transfer.list) self.old.state)) value) }
     {
-        if value % 2 == 1 {
-            return self.stop(Stop::Thumb(self.pc));
-        }
-        if value % 4 == 2 {
-            return self.stop(Stop::Unpredictable(self.pc));
+        if let Some(stop) = self.stop_at_value(value) {
+            return self.stop(stop);
         }
         let list = transfer.list;
         self.move_base(transfer, 4 * count);

@@ -11,7 +11,7 @@ ghost use Rattle.a32_step.specs.ExecutionState.{resting, moves};
 use super::Execution;
 use crate::operands::branch_target;
 use crate::phases::{Hold, Point, Progress};
-use a32_instr::{CallAsk, Instr, Reg, Stop};
+use a32_instr::{CallAsk, Instr, Reg};
 
 impl Execution {
     /// B and BL (DDI 0406C A8.8.18, A8.8.25).
@@ -35,11 +35,8 @@ impl Execution {
         ensures state { self.new ≡ moves self.old (branches_by_register link rm self.old.state) }
     {
         let address = self.operand(rm);
-        if address % 2 == 1 {
-            return self.stop(Stop::Thumb(self.pc));
-        }
-        if address % 4 == 2 {
-            return self.stop(Stop::Unpredictable(self.pc));
+        if let Some(stop) = self.stop_at_value(address) {
+            return self.stop(stop);
         }
         if link {
             self.regs[14] = self.pc.wrapping_add(4);

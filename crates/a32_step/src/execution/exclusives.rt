@@ -7,6 +7,7 @@ ghost use Rattle.a32_step.specs.Classes.{class_of, synchronization};
 ghost use Rattle.a32_step.specs.ExecutionState.{moves};
 
 use super::Execution;
+use crate::parts::low_word;
 use crate::phases::Progress;
 use a32_instr::{Ask, Instr, Reg};
 use llsc_base::{Image, Place, Size};
@@ -23,7 +24,7 @@ impl Execution {
     fn set_loaded(&mut self, size: Size, rt: Reg, value: u64)
         ensures { self.new ≡ record self.old { state = with_loaded size rt value self.old.state } }
     {
-        self.set(rt, (value & 0xffff_ffff) as u32);
+        self.set(rt, low_word(value));
         if size == Size::B8 {
             self.set(next_register(rt), (value >> 32) as u32);
         }
@@ -71,7 +72,7 @@ impl Execution {
         ensures state { self.new ≡ moves self.old (store_exclusive size rn rd rt image.now self.old.replies self.old.state) }
     {
         if let Some(reply) = self.replies.first() {
-            self.set(rd, (reply & 0xffff_ffff) as u32);
+            self.set(rd, low_word(reply));
             return self.advance();
         }
         let place = Place {

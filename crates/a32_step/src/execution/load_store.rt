@@ -100,11 +100,8 @@ impl Execution {
         ensures progress { result ≡ progress_of (jumps (written_back back.index back.rn back.moved self.old.state) value) }
         ensures state { self.new ≡ moves self.old (jumps (written_back back.index back.rn back.moved self.old.state) value) }
     {
-        if value % 2 == 1 {
-            return self.stop(Stop::Thumb(self.pc));
-        }
-        if value % 4 == 2 {
-            return self.stop(Stop::Unpredictable(self.pc));
+        if let Some(stop) = self.stop_at_value(value) {
+            return self.stop(stop);
         }
         self.write_back(back.index, back.rn, back.moved);
         self.pc = value;

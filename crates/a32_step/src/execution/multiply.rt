@@ -8,6 +8,7 @@ ghost use Rattle.a32_step.specs.Classes.{class_of, multiplication};
 ghost use Rattle.a32_step.specs.ExecutionState.{moves, resting};
 
 use super::Execution;
+use crate::parts::low_word;
 use crate::phases::Progress;
 use crate::products::{minus_product, product, product_plus, wide};
 use crate::shifts::is_negative;
@@ -104,7 +105,7 @@ impl Execution {
         let old = self.pair(hi, lo);
         let value = wide(kind, self.operand(rn), self.operand(rm), old);
         self.flags = self.after_product(sets, value >= 1 << 63, value == 0);
-        self.set(lo, (value & 0xffff_ffff) as u32);
+        self.set(lo, low_word(value));
         self.set(hi, (value >> 32) as u32);
         self.advance()
     }
