@@ -12,26 +12,26 @@ pub data Class : Type 0 where
   branch_or_call : Class
   hint_or_barrier : Class
 
-abbrev pub class_of : Instr → Class
-class_of (Alu cond op s rd rn operand) = data_processing
-class_of (Movw cond rd imm) = data_processing
-class_of (Movt cond rd imm) = data_processing
-class_of (Nop cond) = hint_or_barrier
-class_of (Yield cond) = hint_or_barrier
-class_of (Mul cond s rd rn rm) = multiplication
-class_of (Mla cond s rd rn rm ra) = multiplication
-class_of (Mls cond rd rn rm ra) = multiplication
-class_of (Long cond kind s lo hi rn rm) = multiplication
-class_of (Clz cond rd rm) = data_processing
-class_of (Extend cond unsigned half rd rm turn) = data_processing
-class_of (Rev cond rd rm) = data_processing
-class_of (Word cond load byte index rn rt offset) = word_access
-class_of (Half cond kind index rn rt offset) = half_access
-class_of (Block cond load before up wback rn list) = block_access
-class_of (Branch cond link words) = branch_or_call
-class_of (BranchReg cond link rm) = branch_or_call
-class_of (Svc cond imm) = branch_or_call
-class_of (LoadEx cond size rn rt) = synchronization
-class_of (StoreEx cond size rn rd rt) = synchronization
-class_of Clrex = synchronization
-class_of (Barrier kind option) = hint_or_barrier
+abbrev pub instr_class : Instr → Class
+instr_class (Alu cond op s rd rn operand) = data_processing
+instr_class (Movw cond rd imm) = data_processing
+instr_class (Movt cond rd imm) = data_processing
+instr_class (Nop cond) = hint_or_barrier
+instr_class (Yield cond) = hint_or_barrier
+instr_class (Mul cond s rd rn rm) = multiplication
+instr_class (Mla cond s rd rn rm ra) = multiplication
+instr_class (Mls cond rd rn rm ra) = multiplication
+instr_class (Long cond kind s lo hi rn rm) = multiplication
+instr_class (Clz cond rd rm) = data_processing
+instr_class (Extend cond unsigned half rd rm turn) = data_processing
+instr_class (Rev cond rd rm) = data_processing
+instr_class (Word cond load byte index rn rt offset) = word_access
+instr_class (Half cond kind index rn rt offset) = half_access
+instr_class (Block cond load before up wback rn list) = block_access
+instr_class (Branch cond link words) = branch_or_call
+instr_class (BranchReg cond link rm) = branch_or_call
+instr_class (Svc cond imm) = branch_or_call
+instr_class (LoadEx cond size rn rt) = synchronization
+instr_class (StoreEx cond size rn rd rt) = synchronization
+instr_class Clrex = synchronization
+instr_class (Barrier kind option) = hint_or_barrier

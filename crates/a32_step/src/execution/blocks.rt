@@ -4,7 +4,7 @@ ghost use Rattle.a32_instr.specs.State.{jumps};
 ghost use Rattle.a32_instr.specs.Block.{registers_of, count_of, block_size, block, block_ask, block_back, block_loaded, with_block};
 ghost use Rattle.a32_instr.specs.Effect.{acts};
 ghost use Rattle.a32_step.specs.Progress.{progress_of};
-ghost use Rattle.a32_step.specs.Classes.{class_of, block_access};
+ghost use Rattle.a32_step.specs.Classes.{instr_class, block_access};
 ghost use Rattle.a32_step.specs.ExecutionState.{moves};
 
 use super::Execution;
@@ -143,7 +143,7 @@ impl Execution {
 impl Execution {
     /// A load or a store of a block (DDI 0406C A5.5).
     pub(super) fn access_block(&mut self, instr: &Instr, image: &Image) -> Progress
-        requires { class_of instr.now ≡ block_access }
+        requires { instr_class instr.now ≡ block_access }
         ensures progress { result ≡ progress_of (acts instr.now image.now self.old.replies self.old.state) }
         ensures state { self.new ≡ moves self.old (acts instr.now image.now self.old.replies self.old.state) }
     {

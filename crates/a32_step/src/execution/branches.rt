@@ -5,7 +5,7 @@ ghost use Rattle.a32_instr.specs.State.{calls};
 ghost use Rattle.a32_instr.specs.Branch.{branched, branches_by_register, call_of};
 ghost use Rattle.a32_instr.specs.Effect.{acts};
 ghost use Rattle.a32_step.specs.Progress.{progress_of};
-ghost use Rattle.a32_step.specs.Classes.{class_of, branch_or_call};
+ghost use Rattle.a32_step.specs.Classes.{instr_class, branch_or_call};
 ghost use Rattle.a32_step.specs.ExecutionState.{resting, moves};
 
 use super::Execution;
@@ -67,7 +67,7 @@ impl Execution {
 impl Execution {
     /// A branch, or a supervisor call (DDI 0406C A5.5, A5.6).
     pub(super) fn branch_or_call(&mut self, instr: &Instr) -> Progress
-        requires { class_of instr.now ≡ branch_or_call }
+        requires { instr_class instr.now ≡ branch_or_call }
         ensures progress { (program : Program) → result ≡ progress_of (acts instr.now program self.old.replies self.old.state) }
         ensures state { (program : Program) → self.new ≡ moves self.old (acts instr.now program self.old.replies self.old.state) }
     {

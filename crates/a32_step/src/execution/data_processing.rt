@@ -4,7 +4,7 @@ ghost use Rattle.llsc_base.specs.Images.{Program};
 ghost use Rattle.a32_instr.specs.DataProcessing.{operand_of, alu};
 ghost use Rattle.a32_instr.specs.Effect.{acts};
 ghost use Rattle.a32_step.specs.Progress.{progress_of};
-ghost use Rattle.a32_step.specs.Classes.{class_of, data_processing};
+ghost use Rattle.a32_step.specs.Classes.{instr_class, data_processing};
 ghost use Rattle.a32_step.specs.ExecutionState.{moves};
 
 use super::Execution;
@@ -72,7 +72,7 @@ impl Execution {
 impl Execution {
     /// An instruction of data processing (DDI 0406C A4.4).
     pub(super) fn process_data(&mut self, instr: &Instr) -> Progress
-        requires { class_of instr.now ≡ data_processing }
+        requires { instr_class instr.now ≡ data_processing }
         ensures progress { (program : Program) → result ≡ progress_of (acts instr.now program self.old.replies self.old.state) }
         ensures state { (program : Program) → self.new ≡ moves self.old (acts instr.now program self.old.replies self.old.state) }
     {

@@ -3,7 +3,7 @@ ghost use Rattle.std.specs.Prelude.{◌≡◌};
 ghost use Rattle.a32_instr.specs.Exclusive.{next_register, with_loaded, stored_part, load_exclusive, store_exclusive, clear_exclusive};
 ghost use Rattle.a32_instr.specs.Effect.{acts};
 ghost use Rattle.a32_step.specs.Progress.{progress_of};
-ghost use Rattle.a32_step.specs.Classes.{class_of, synchronization};
+ghost use Rattle.a32_step.specs.Classes.{instr_class, synchronization};
 ghost use Rattle.a32_step.specs.ExecutionState.{moves};
 
 use super::Execution;
@@ -98,7 +98,7 @@ impl Execution {
 impl Execution {
     /// A synchronization primitive (DDI 0406C A4.6, A5.2.10).
     pub(super) fn synchronize(&mut self, instr: &Instr, image: &Image) -> Progress
-        requires { class_of instr.now ≡ synchronization }
+        requires { instr_class instr.now ≡ synchronization }
         ensures progress { result ≡ progress_of (acts instr.now image.now self.old.replies self.old.state) }
         ensures state { self.new ≡ moves self.old (acts instr.now image.now self.old.replies self.old.state) }
     {

@@ -5,7 +5,7 @@ ghost use Rattle.a32_instr.specs.State.{State, advanced, jumps, writes};
 ghost use Rattle.a32_instr.specs.LoadStore.{half_accesses, asks_unless, barred, distance_of, moved_address, written_back};
 ghost use Rattle.a32_instr.specs.Effect.{acts};
 ghost use Rattle.a32_step.specs.Progress.{progress_of};
-ghost use Rattle.a32_step.specs.Classes.{class_of, word_access, half_access};
+ghost use Rattle.a32_step.specs.Classes.{instr_class, word_access, half_access};
 ghost use Rattle.a32_step.specs.ExecutionState.{moves, resting};
 
 use super::Execution;
@@ -134,7 +134,7 @@ impl Execution {
 impl Execution {
     /// A load or a store of a word or a byte (DDI 0406C A5.3).
     pub(super) fn access_word(&mut self, instr: &Instr, image: &Image) -> Progress
-        requires { class_of instr.now ≡ word_access }
+        requires { instr_class instr.now ≡ word_access }
         ensures progress { result ≡ progress_of (acts instr.now image.now self.old.replies self.old.state) }
         ensures state { self.new ≡ moves self.old (acts instr.now image.now self.old.replies self.old.state) }
     {
@@ -173,7 +173,7 @@ impl Execution {
 impl Execution {
     /// A load or a store of a halfword, or a load of a signed byte (DDI 0406C A5.2.8).
     pub(super) fn access_half(&mut self, instr: &Instr, image: &Image) -> Progress
-        requires { class_of instr.now ≡ half_access }
+        requires { instr_class instr.now ≡ half_access }
         ensures progress { result ≡ progress_of (acts instr.now image.now self.old.replies self.old.state) }
         ensures state { self.new ≡ moves self.old (acts instr.now image.now self.old.replies self.old.state) }
     {

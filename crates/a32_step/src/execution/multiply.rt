@@ -4,7 +4,7 @@ ghost use Rattle.llsc_base.specs.Images.{Program};
 ghost use Rattle.a32_instr.specs.Multiply.{joined, multiplied, multiplies, multiplies_and_adds, multiplies_and_subtracts, after_long};
 ghost use Rattle.a32_instr.specs.Effect.{acts};
 ghost use Rattle.a32_step.specs.Progress.{progress_of};
-ghost use Rattle.a32_step.specs.Classes.{class_of, multiplication};
+ghost use Rattle.a32_step.specs.Classes.{instr_class, multiplication};
 ghost use Rattle.a32_step.specs.ExecutionState.{moves, resting};
 
 use super::Execution;
@@ -114,7 +114,7 @@ impl Execution {
 impl Execution {
     /// A multiplication (DDI 0406C A5.2.5).
     pub(super) fn multiplication(&mut self, instr: &Instr) -> Progress
-        requires { class_of instr.now ≡ multiplication }
+        requires { instr_class instr.now ≡ multiplication }
         ensures progress { (program : Program) → result ≡ progress_of (acts instr.now program self.old.replies self.old.state) }
         ensures state { (program : Program) → self.new ≡ moves self.old (acts instr.now program self.old.replies self.old.state) }
     {
