@@ -16,7 +16,8 @@ use Rattle.a32_asm.specs.Lines.{before_comment, is_ascii, label_of, statement_of
 abbrev pub start : Spot
 start = record { in_data = false; words = 0; bytes = 0; spaced = false; space = 0 }
 
--- What may stand at a spot: instructions in the code; bytes and words of data before any space; space in the data.
+-- What may stand at a spot: instructions and words in the code; bytes and words in the data before any space; space in
+-- the data.
 abbrev pub may_stand : Head → Spot → Bool
 may_stand Nothing spot = true
 may_stand Text spot = true

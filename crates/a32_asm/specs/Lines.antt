@@ -49,7 +49,8 @@ directive word =
     if bytes_eq word (codes "space") then Space else
     Unreadable
 
--- what a statement is: a label has none before it, a directive begins with a point, an instruction with a name
+-- what a statement is: one that begins with a second label can't be read; a directive begins with a point, an
+-- instruction with a name
 abbrev pub head_of : List ℕ → Head
 head_of [] = Nothing
 head_of (code ∷ text) =

@@ -28,9 +28,12 @@ impl EncodeFault {
     }
 }
 
-/// The word of an instruction, the only one that the table of words gives it. `NoEncoding` comes
-/// exactly where no word means the instruction: at a field that its bits cannot hold, and at fields
-/// that together are no instruction or an unpredictable one.
+/// The word of an instruction, the only one that the table of words gives it.
+///
+/// # Errors
+///
+/// `NoEncoding` exactly where no word means the instruction: at a field that its bits cannot hold, and at fields that
+/// together are no instruction or an unpredictable one.
 pub fn encode(i: &Instr) -> Result<u32, EncodeFault>
     ensures word { IfOk result (λ w. (w < 2 ^ 32) × (meaning table w ≡ Ok i.now)) }
     ensures only { IfOk result (λ w. (other : ℕ) → other < 2 ^ 32 → meaning table other ≡ Ok i.now → other ≡ w) }

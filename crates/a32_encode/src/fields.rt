@@ -56,7 +56,7 @@ pub fn opcode(op: AluOp) -> u64
     }
 }
 
-// The encoding of a kind of shift (DDI 0406C A8.4.3).
+/// The encoding of a kind of shift (DDI 0406C A8.4.3).
 fn shift(kind: ShiftKind) -> u64
     ensures value { result ≡ shift_bits kind }
     ensures bound { result < 4 }

@@ -12,7 +12,7 @@ use a32_instr::{
 };
 use llsc_base::Size;
 
-// Data processing (DDI 0406C A5.2.1 to A5.2.3).
+/// Data processing (DDI 0406C A5.2.1 to A5.2.3).
 fn data_processing(cond: Cond, op: AluOp, s: bool, rd: Reg, rn: Reg, operand: Operand2) -> u64
     ensures { result ≡ word_of (Instr.Alu cond op s rd rn operand) }
 {
@@ -24,7 +24,7 @@ fn data_processing(cond: Cond, op: AluOp, s: bool, rd: Reg, rn: Reg, operand: Op
         + second_operand(operand)
 }
 
-// MOVW (DDI 0406C A8.8.102).
+/// MOVW (DDI 0406C A8.8.102).
 fn move_wide(cond: Cond, rd: Reg, imm: u16) -> u64
     ensures { result ≡ word_of (Instr.Movw cond rd imm) }
 {
@@ -32,7 +32,7 @@ fn move_wide(cond: Cond, rd: Reg, imm: u16) -> u64
     condition(cond) + 0x300_0000 + imm / 0x1000 * 0x1_0000 + register(rd) * 0x1000 + imm % 0x1000
 }
 
-// MOVT (DDI 0406C A8.8.106).
+/// MOVT (DDI 0406C A8.8.106).
 fn move_top(cond: Cond, rd: Reg, imm: u16) -> u64
     ensures { result ≡ word_of (Instr.Movt cond rd imm) }
 {
@@ -40,7 +40,7 @@ fn move_top(cond: Cond, rd: Reg, imm: u16) -> u64
     condition(cond) + 0x340_0000 + imm / 0x1000 * 0x1_0000 + register(rd) * 0x1000 + imm % 0x1000
 }
 
-// MUL (DDI 0406C A8.8.114).
+/// MUL (DDI 0406C A8.8.114).
 fn product(cond: Cond, s: bool, rd: Reg, rn: Reg, rm: Reg) -> u64
     ensures { result ≡ word_of (Instr.Mul cond s rd rn rm) }
 {
@@ -52,7 +52,7 @@ fn product(cond: Cond, s: bool, rd: Reg, rn: Reg, rm: Reg) -> u64
         + register(rn)
 }
 
-// MLA (DDI 0406C A8.8.100).
+/// MLA (DDI 0406C A8.8.100).
 fn product_added(cond: Cond, s: bool, rd: Reg, rn: Reg, rm: Reg, ra: Reg) -> u64
     ensures { result ≡ word_of (Instr.Mla cond s rd rn rm ra) }
 {
@@ -65,7 +65,7 @@ fn product_added(cond: Cond, s: bool, rd: Reg, rn: Reg, rm: Reg, ra: Reg) -> u64
         + register(rn)
 }
 
-// MLS (DDI 0406C A8.8.101).
+/// MLS (DDI 0406C A8.8.101).
 fn product_subtracted(cond: Cond, rd: Reg, rn: Reg, rm: Reg, ra: Reg) -> u64
     ensures { result ≡ word_of (Instr.Mls cond rd rn rm ra) }
 {
@@ -77,7 +77,7 @@ fn product_subtracted(cond: Cond, rd: Reg, rn: Reg, rm: Reg, ra: Reg) -> u64
         + register(rn)
 }
 
-// UMULL, UMLAL, SMULL and SMLAL (DDI 0406C A5.2.5).
+/// UMULL, UMLAL, SMULL and SMLAL (DDI 0406C A5.2.5).
 fn long_product(cond: Cond, kind: LongKind, s: bool, lo: Reg, hi: Reg, rn: Reg, rm: Reg) -> u64
     ensures { result ≡ word_of (Instr.Long cond kind s lo hi rn rm) }
 {
@@ -91,14 +91,14 @@ fn long_product(cond: Cond, kind: LongKind, s: bool, lo: Reg, hi: Reg, rn: Reg, 
         + register(rn)
 }
 
-// CLZ (DDI 0406C A8.8.33).
+/// CLZ (DDI 0406C A8.8.33).
 fn leading_zeros(cond: Cond, rd: Reg, rm: Reg) -> u64
     ensures { result ≡ word_of (Instr.Clz cond rd rm) }
 {
     condition(cond) + 0x16f_0f10 + register(rd) * 0x1000 + register(rm)
 }
 
-// SXTB, SXTH, UXTB and UXTH (DDI 0406C A5.4.3).
+/// SXTB, SXTH, UXTB and UXTH (DDI 0406C A5.4.3).
 fn extended(cond: Cond, unsigned: bool, half: bool, rd: Reg, rm: Reg, turn: u8) -> u64
     ensures { result ≡ word_of (Instr.Extend cond unsigned half rd rm turn) }
 {
@@ -111,14 +111,14 @@ fn extended(cond: Cond, unsigned: bool, half: bool, rd: Reg, rm: Reg, turn: u8) 
         + register(rm)
 }
 
-// REV (DDI 0406C A8.8.145).
+/// REV (DDI 0406C A8.8.145).
 fn reversed(cond: Cond, rd: Reg, rm: Reg) -> u64
     ensures { result ≡ word_of (Instr.Rev cond rd rm) }
 {
     condition(cond) + 0x6bf_0f30 + register(rd) * 0x1000 + register(rm)
 }
 
-// LDR, STR, LDRB and STRB (DDI 0406C A5.3).
+/// LDR, STR, LDRB and STRB (DDI 0406C A5.3).
 fn word_access(
     cond: Cond,
     load: bool,
@@ -140,7 +140,7 @@ fn word_access(
         + word_offset(offset)
 }
 
-// STRH, LDRH, LDRSB and LDRSH (DDI 0406C A5.2.8).
+/// STRH, LDRH, LDRSB and LDRSH (DDI 0406C A5.2.8).
 fn half_access(cond: Cond, kind: HalfKind, index: Index, rn: Reg, rt: Reg, offset: Offset) -> u64
     ensures { result ≡ word_of (Instr.Half cond kind index rn rt offset) }
 {
@@ -152,7 +152,7 @@ fn half_access(cond: Cond, kind: HalfKind, index: Index, rn: Reg, rt: Reg, offse
         + half_offset(offset)
 }
 
-// LDM and STM (DDI 0406C A5.5).
+/// LDM and STM (DDI 0406C A5.5).
 fn block(cond: Cond, load: bool, before: bool, up: bool, wback: bool, rn: Reg, list: u16) -> u64
     ensures { result ≡ word_of (Instr.Block cond load before up wback rn list) }
 {
@@ -166,28 +166,28 @@ fn block(cond: Cond, load: bool, before: bool, up: bool, wback: bool, rn: Reg, l
         + u64::from(list)
 }
 
-// B and BL (DDI 0406C A8.8.18, A8.8.25).
+/// B and BL (DDI 0406C A8.8.18, A8.8.25).
 fn branch(cond: Cond, link: bool, words: i32) -> u64
     ensures { result ≡ word_of (Instr.Branch cond link words) }
 {
     condition(cond) + 0xa00_0000 + bit(link) * 0x100_0000 + distance(words)
 }
 
-// BX and BLX (DDI 0406C A8.8.27, A8.8.26).
+/// BX and BLX (DDI 0406C A8.8.27, A8.8.26).
 fn branch_to_register(cond: Cond, link: bool, rm: Reg) -> u64
     ensures { result ≡ word_of (Instr.BranchReg cond link rm) }
 {
     condition(cond) + 0x12f_ff10 + bit(link) * 0x20 + register(rm)
 }
 
-// SVC (DDI 0406C A8.8.228).
+/// SVC (DDI 0406C A8.8.228).
 fn supervisor_call(cond: Cond, imm: u32) -> u64
     ensures { result ≡ word_of (Instr.Svc cond imm) }
 {
     condition(cond) + 0xf00_0000 + u64::from(imm)
 }
 
-// LDREX and its kin (DDI 0406C A8.8.75 to A8.8.78).
+/// LDREX and its kin (DDI 0406C A8.8.75 to A8.8.78).
 fn load_exclusive(cond: Cond, size: Size, rn: Reg, rt: Reg) -> u64
     ensures { result ≡ word_of (Instr.LoadEx cond size rn rt) }
 {
@@ -198,7 +198,7 @@ fn load_exclusive(cond: Cond, size: Size, rn: Reg, rt: Reg) -> u64
         + register(rt) * 0x1000
 }
 
-// STREX and its kin (DDI 0406C A8.8.212 to A8.8.215).
+/// STREX and its kin (DDI 0406C A8.8.212 to A8.8.215).
 fn store_exclusive(cond: Cond, size: Size, rn: Reg, rd: Reg, rt: Reg) -> u64
     ensures { result ≡ word_of (Instr.StoreEx cond size rn rd rt) }
 {
@@ -210,14 +210,14 @@ fn store_exclusive(cond: Cond, size: Size, rn: Reg, rd: Reg, rt: Reg) -> u64
         + register(rt)
 }
 
-// DSB, DMB and ISB (DDI 0406C A5.7.1).
+/// DSB, DMB and ISB (DDI 0406C A5.7.1).
 fn barrier(kind: BarrierKind, option: u8) -> u64
     ensures { result ≡ word_of (Instr.Barrier kind option) }
 {
     0xf57f_f040 + barrier_kind(kind) * 0x10 + u64::from(option)
 }
 
-// Data processing, MOVW and MOVT, CLZ, REV and the extends (DDI 0406C A5.2, A5.4).
+/// Data processing, MOVW and MOVT, CLZ, REV and the extends (DDI 0406C A5.2, A5.4).
 fn data_word(i: Instr) -> u64
     requires { IsTrue (is_data i) }
     ensures { result ≡ word_of i }
@@ -247,7 +247,7 @@ fn data_word(i: Instr) -> u64
     }
 }
 
-// Multiplications (DDI 0406C A5.2.5).
+/// Multiplications (DDI 0406C A5.2.5).
 fn multiply_word(i: Instr) -> u64
     requires { IsTrue (is_multiply i) }
     ensures { result ≡ word_of i }
@@ -288,7 +288,7 @@ fn multiply_word(i: Instr) -> u64
     }
 }
 
-// Loads and stores that aren't exclusive (DDI 0406C A5.2.8, A5.3, A5.5).
+/// Loads and stores that aren't exclusive (DDI 0406C A5.2.8, A5.3, A5.5).
 fn access_word(i: Instr) -> u64
     requires { IsTrue (is_transfer i) }
     ensures { result ≡ word_of i }

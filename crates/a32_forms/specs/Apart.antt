@@ -46,7 +46,7 @@ may_take form (sign ∷ shown) =
     if is_wordy sign then and_may (λ left. may_take left shown) (after_shown sign form) else
     and_may (λ left. may_take left shown) (after_mark sign form)
 
--- a form that takes nothing from what another one shows
+-- a form without a list, which can't take all that another one shows
 abbrev pub is_apart : List ℕ → List ℕ → Bool
 is_apart shown form = list_all (λ sign. not (sign == b)) form && not (may_take form shown)
 

@@ -17,7 +17,7 @@ range_of (Word first ∷ []) = range (register_of first) (register_of first)
 range_of (Word first ∷ Mark dash ∷ Word last ∷ []) = if dash == 45 then range (register_of first) (register_of last) else None
 range_of _ = None
 
--- the registers of a range that rises and stands above those before it
+-- a range rises, and stands above the registers before it
 abbrev pub rises : ℕ → Range → Bool
 rises lowest item = nat_le lowest item.first && nat_le item.first item.last
 

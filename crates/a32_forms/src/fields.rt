@@ -56,7 +56,7 @@ impl<'a> Fields<'a> {
         self
     }
 
-    // One of the numbers.
+    /// One of the numbers.
     fn number(&self, at: usize) -> u64
         ensures { result ≡ slice_index_or self.now.numbers at 0 }
     {

@@ -4,7 +4,7 @@ ghost use Rattle.a32_forms.specs.Forms.{form_in};
 
 use crate::cuts;
 
-/// One of the forms of a text, counted from 0; empty where it has none at that place.
+/// One of the forms of a text, which stand with `|` between, counted from 0; empty where it has none at that place.
 pub fn form_in(forms: &[u8], at: usize) -> &[u8]
     ensures { result.now ≡ form_in forms.now at }
 {

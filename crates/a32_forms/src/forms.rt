@@ -21,7 +21,7 @@ pub struct Taken<'a> {
     rest: &'a [u8],
 }
 
-// A number was taken, if there is one.
+/// A number was taken, if there is one.
 fn took<'a>(fields: Fields<'a>, rest: &'a [u8], number: Option<u64>) -> Option<Taken<'a>>
     requires { length fields.numbers < 8 }
     ensures { option_map took_of result ≡ option_map (took fields.entry (parts rest.now)) number }
@@ -33,7 +33,7 @@ fn took<'a>(fields: Fields<'a>, rest: &'a [u8], number: Option<u64>) -> Option<T
     })
 }
 
-// A word that stands for itself.
+/// A word that stands for itself.
 fn take_word<'a>(
     wanted: &[u8],
     fields: Fields<'a>,
@@ -48,7 +48,7 @@ fn take_word<'a>(
     Some(Taken { fields, rest })
 }
 
-// A word that is a label's name.
+/// A word that is a label's name.
 fn take_name<'a>(fields: Fields<'a>, word: &'a [u8], rest: &'a [u8]) -> Option<Taken<'a>>
     ensures { option_map took_of result ≡ takes_name fields.entry word.now (parts rest.now) }
 {
@@ -61,7 +61,7 @@ fn take_name<'a>(fields: Fields<'a>, word: &'a [u8], rest: &'a [u8]) -> Option<T
     })
 }
 
-// A word where a sign wants one.
+/// A word where a sign wants one.
 #[tactic(auto, unfolding(crate::specs::Forms::takes_at_word))]
 fn take_at_word<'a>(
     sign: u8,
@@ -99,7 +99,7 @@ fn take_at_word<'a>(
     None
 }
 
-// A mark that may be left out.
+/// A mark that may be left out.
 fn take_or_not<'a>(code: u8, fields: Fields<'a>, text: &'a [u8]) -> Option<Taken<'a>>
     requires { length fields.numbers < 8 }
     ensures { option_map took_of result ≡ takes_or_not code fields.entry (parts text.now) }
@@ -112,7 +112,7 @@ fn take_or_not<'a>(code: u8, fields: Fields<'a>, text: &'a [u8]) -> Option<Taken
     took(fields, text, Some(0))
 }
 
-// A list of registers, which a brace ends.
+/// A list of registers, which a brace ends.
 #[tactic(auto, using(crate::proofs::CutParts::before_brace, crate::proofs::CutParts::from_brace))]
 fn take_registers<'a>(fields: Fields<'a>, text: &'a [u8]) -> Option<Taken<'a>>
     requires { length fields.numbers < 8 }
@@ -122,7 +122,7 @@ fn take_registers<'a>(fields: Fields<'a>, text: &'a [u8]) -> Option<Taken<'a>>
     took(fields, cuts::from_code(text, b'}'), list)
 }
 
-// A word or a mark for a sign that wants one.
+/// A word or a mark for a sign that wants one.
 fn take_part<'a>(sign: u8, fields: Fields<'a>, text: &'a [u8]) -> Option<Taken<'a>>
     requires { IsTrue (has_number sign) → length fields.numbers < 8 }
     ensures { option_map took_of result ≡ takes_part sign fields.entry (parts text.now) }
@@ -139,7 +139,7 @@ fn take_part<'a>(sign: u8, fields: Fields<'a>, text: &'a [u8]) -> Option<Taken<'
     }
 }
 
-// What a sign takes from the front of a text.
+/// What a sign takes from the front of a text.
 #[tactic(auto, unfolding(crate::specs::Forms::takes_sign))]
 fn take_sign<'a>(sign: u8, fields: Fields<'a>, text: &'a [u8]) -> Option<Taken<'a>>
     requires { IsTrue (has_number sign) → length fields.numbers < 8 }
@@ -160,7 +160,7 @@ fn take_sign<'a>(sign: u8, fields: Fields<'a>, text: &'a [u8]) -> Option<Taken<'
     take_part(sign, fields, text)
 }
 
-// The fields of operands that have a form.
+/// The fields of operands that have a form.
 fn fields_of<'a>(form: &[u8], text: &'a [u8]) -> Option<Fields<'a>>
     requires { IsTrue (has_room form.now) }
     ensures fields { result ≡ takes form.now (parts text.now) }
@@ -182,7 +182,8 @@ fn fields_of<'a>(form: &[u8], text: &'a [u8]) -> Option<Fields<'a>>
 }
 
 /// The first of some forms that a text of operands has, with its place among them from 0, and what stands at its signs.
-/// `None` where the text has none of them. The forms stand between single spaces.
+/// `None` where the text has none of them. The forms stand in their text with `|` between, and each has at most eight
+/// signs that have numbers.
 pub fn chosen<'a>(forms: &[u8], text: &'a [u8]) -> Option<Chosen<'a>>
     requires { IsTrue (have_room forms.now) }
     ensures form { result ≡ chosen forms.now (parts text.now) }

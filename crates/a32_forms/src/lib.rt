@@ -8,7 +8,7 @@ mod cuts;
 mod fields;
 mod form_texts;
 mod forms;
-mod laws;
+pub mod laws;
 mod names;
 mod numbers;
 mod registers;
@@ -22,10 +22,6 @@ pub use cuts::{before_code, from_code};
 pub use fields::Chosen;
 pub use form_texts::form_in;
 pub use forms::chosen;
-pub use laws::{
-    shown_forms_are_chosen_again, shown_operands_are_read_again, shown_operands_have_their_parts,
-    words_are_read_again,
-};
 pub use names::{place, register_of, shift_of};
 pub use numbers::number_of;
 pub use text::{after_blanks, after_word, front_word, is_blank, is_name, is_wordy};

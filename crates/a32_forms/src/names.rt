@@ -25,7 +25,7 @@ pub fn place(start: u64, names: &[u8], word: &[u8]) -> Option<u64>
     }
 }
 
-/// The number of a register by its name.
+/// The number, 0 to 15, of a register by its name: r0 to r15, sp, lr or pc in lower case; `None` for any other word.
 pub fn register_of(word: &[u8]) -> Option<u64>
     ensures number { result ≡ register_of word.now }
     ensures bound { IfSome result (λ number. number < 16) }
@@ -37,7 +37,7 @@ pub fn register_of(word: &[u8]) -> Option<u64>
     place(13, b"sp lr pc", word)
 }
 
-/// The kind of shift by its name, in the order of the encodings.
+/// The kind of shift by its name: 0 to 3 for lsl, lsr, asr and ror; `None` for any other word.
 pub fn shift_of(word: &[u8]) -> Option<u64>
     ensures kind { result ≡ shift_of word.now }
     ensures bound { IfSome result (λ kind. kind < 4) }

@@ -8,7 +8,7 @@ use number_text::{are_digits, are_hex_digits, digit_value};
 /// What stands for each number that 32 bits don't hold.
 const TOO_GREAT: u64 = 0x1_0000_0000;
 
-// A number, or what stands for it.
+/// A number, or what stands for it.
 fn capped(value: u64) -> u64
     ensures value { result ≡ capped value }
     ensures bound { result ≤ 2 ^ 32 }
@@ -16,7 +16,7 @@ fn capped(value: u64) -> u64
     if value < TOO_GREAT { value } else { TOO_GREAT }
 }
 
-// What digits stand for in a base.
+/// What digits stand for in a base.
 fn capped_value(base: u64, digits: &[u8]) -> u64
     requires low { 0 < base }
     requires high { base ≤ 16 }

@@ -14,7 +14,7 @@ pub struct Range {
     pub last: u64,
 }
 
-// The registers from one to another, where there are both.
+/// The registers from one to another, where there are both.
 fn between(first: Option<u64>, last: Option<u64>) -> Option<Range>
     requires first { IfSome first (λ number. number < 16) }
     requires last { IfSome last (λ number. number < 16) }
@@ -27,7 +27,7 @@ fn between(first: Option<u64>, last: Option<u64>) -> Option<Range>
     })
 }
 
-// An item of a list: a register, or two with `-` between.
+/// An item of a list: a register, or two with `-` between.
 fn range_of(item: &[u8]) -> Option<Range>
     ensures range { result ≡ range_of (parts item.now) }
     ensures bound { IfSome result (λ found. found.last < 16) }
@@ -55,14 +55,14 @@ fn range_of(item: &[u8]) -> Option<Range>
     between(first, register_of(last))
 }
 
-// Whether a range rises, and stands above the registers before it.
+/// Whether a range rises, and stands above the registers before it.
 fn rises(lowest: u64, item: Range) -> bool
     ensures { result ≡ rises lowest item }
 {
     lowest <= item.first && item.first <= item.last
 }
 
-// The bits of a range that rises.
+/// The bits of a range that rises.
 fn mask(item: Range) -> u64
     requires rises { item.first ≤ item.last }
     requires bound { item.last < 16 }

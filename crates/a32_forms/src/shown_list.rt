@@ -8,7 +8,7 @@ use crate::shown_names::register_name;
 use llsc_base::Line;
 use number_text::write_text;
 
-// Whether bit r of a list is set.
+/// Whether bit r of a list is set.
 fn is_listed(list: u64, register: u64) -> bool
     requires { register < 16 }
     ensures { result ≡ is_listed list register }
@@ -16,7 +16,7 @@ fn is_listed(list: u64, register: u64) -> bool
     (list >> register) % 2 == 1
 }
 
-// What stands in front of a register.
+/// What stands in front of a register.
 fn separator(is_first: bool) -> &'static [u8]
     ensures { result.now ≡ separator is_first }
 {

@@ -13,7 +13,7 @@ pub enum Front<'a> {
     Mark(u8, &'a [u8]),
 }
 
-// Whether a byte is a letter.
+/// Whether a byte is a letter.
 fn is_letter(byte: u8) -> bool
     ensures { result ≡ is_letter byte }
 {

@@ -8,14 +8,14 @@ use crate::shown_names::{register_name, shift_name};
 use llsc_base::Line;
 use number_text::{write_decimal, write_text, write_word};
 
-// Whether a sign has a number.
+/// Whether a sign has a number.
 fn has_number(sign: u8) -> bool
     ensures { result ≡ has_number sign }
 {
     matches!(sign, b'r' | b'n' | b'x' | b'k' | b'b' | b'~' | b'!')
 }
 
-// Adds a mark at the end of a line, or nothing where its number is 0.
+/// Adds a mark at the end of a line, or nothing where its number is 0.
 fn write_mark(line: &mut Line, mark: u8, number: u64)
     requires room { length line.old + length (mark_text mark number) ≤ 96 }
     ensures { line.new ≡ line.old ++ mark_text mark number }
@@ -25,7 +25,7 @@ fn write_mark(line: &mut Line, mark: u8, number: u64)
     }
 }
 
-// Adds the number of a sign at the end of a line, as that sign shows it.
+/// Adds the number of a sign at the end of a line, as that sign shows it.
 #[tactic(auto, unfolding(crate::specs::Written::number_text), using(number_text::proofs::Lengths::word_length))]
 fn write_number(line: &mut Line, sign: u8, number: u64)
     requires fits { IsTrue (fits_sign sign number) }
@@ -46,7 +46,7 @@ fn write_number(line: &mut Line, sign: u8, number: u64)
     }
 }
 
-// Adds a sign without a number at the end of a line.
+/// Adds a sign without a number at the end of a line.
 #[tactic(auto, unfolding(crate::specs::Written::sign_text))]
 fn write_sign(line: &mut Line, sign: u8)
     requires room { length line.old + length (sign_text sign) ≤ 96 }

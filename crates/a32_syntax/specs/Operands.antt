@@ -17,19 +17,21 @@ three_operands = codes "r, r, #n|r, r, #n, #n|r, r, r|r, r, r, k #n|r, r, r, X|r
 abbrev pub two_operands : List ℕ
 two_operands = codes "r, #n|r, #n, #n|r, r|r, r, k #n|r, r, X|r, r, k r"
 
--- A load or a store of a word or a byte (DDI 0406C A8.8.63 to A8.8.70): the base alone; the base moved by a number, by a
--- register, by one that is shifted by a number or turned through the carry, and written back where `!` stands; and the
--- same behind the base.
+-- A load or a store of a word or a byte (DDI 0406C A8.8.63, A8.8.64, A8.8.66, A8.8.68 to A8.8.70, A8.8.204, A8.8.205,
+-- A8.8.207, A8.8.208): the base alone; the base moved by a number, by a register, by one that is shifted by a number or
+-- turned through the carry, and written back where `!` stands; and the same behind the base.
 
 abbrev pub word_operands : List ℕ
 word_operands =
     codes "r, [r]|r, [r, #~n]!|r, [r, ~r]!|r, [r, ~r, k #n]!|r, [r, ~r, X]!|r, [r], #~n|r, [r], ~r|r, [r], ~r, k #n|r, [r], ~r, X"
 
--- of a halfword or a signed byte, whose register isn't shifted (DDI 0406C A8.8.79 to A8.8.90)
+-- of a halfword or a signed byte, whose register isn't shifted (DDI 0406C A8.8.80 to A8.8.82, A8.8.84 to A8.8.86,
+-- A8.8.88 to A8.8.90, A8.8.217, A8.8.218)
 abbrev pub half_operands : List ℕ
 half_operands = codes "r, [r]|r, [r, #~n]!|r, [r, ~r]!|r, [r], #~n|r, [r], ~r"
 
--- of registers in a block: the base, `!` where it is written back, and the registers (DDI 0406C A8.8.58, A8.8.199)
+-- of registers in a block: the base, `!` where it is written back, and the registers (DDI 0406C A8.8.58 to A8.8.61,
+-- A8.8.199 to A8.8.202)
 abbrev pub block_operands : List ℕ
 block_operands = codes "r!, {b}"
 

@@ -19,7 +19,7 @@ pub struct Indexed {
     pub offset: Result<Offset, AsmKind>,
 }
 
-// The base alone: 0 is added.
+/// The base alone: 0 is added.
 fn at_base() -> Indexed
     ensures { result ≡ at_base }
 {
@@ -39,14 +39,14 @@ fn plain_or_pre(exclamation: u64) -> Index
     }
 }
 
-// Whether an offset is added: there is no `-`.
+/// Whether an offset is added: there is no `-`.
 fn is_added(found: &Chosen) -> bool
     ensures { result ≡ is_added (number_at found.now 2) }
 {
     found.number(2) == 0
 }
 
-// An offset that is a number of at most so many bytes.
+/// An offset that is a number of at most so many bytes.
 fn by_number(found: &Chosen, most: u64) -> Result<Offset, AsmKind>
     requires { most < 2 ^ 16 }
     ensures { result ≡ offset_number most (number_at found.now 2) (number_at found.now 3) }
@@ -61,7 +61,7 @@ fn by_number(found: &Chosen, most: u64) -> Result<Offset, AsmKind>
     })
 }
 
-// An offset that is a register, not shifted or turned through the carry.
+/// An offset that is a register, not shifted or turned through the carry.
 fn by_register(found: &Chosen, kind: ShiftKind) -> Result<Offset, AsmKind>
     requires { IsRegister found.now 3 }
     ensures { result ≡ Ok (Offset.Shifted (is_added (number_at found.now 2)) (number_at found.now 3) kind 0) }
@@ -74,7 +74,7 @@ fn by_register(found: &Chosen, kind: ShiftKind) -> Result<Offset, AsmKind>
     })
 }
 
-// An offset that is a register shifted by a number.
+/// An offset that is a register shifted by a number.
 fn by_shift(found: &Chosen) -> Result<Offset, AsmKind>
     requires { IsRegister found.now 3 }
     ensures { result ≡ shifted_offset found.now }
@@ -95,7 +95,7 @@ fn moved(index: Index, offset: Result<Offset, AsmKind>) -> Indexed
     Indexed { index, offset }
 }
 
-// The index and the offset of a word or a byte.
+/// The index and the offset of a word or a byte.
 #[tactic(auto, unfolding(crate::specs::Meaning::word_indexed), using(crate::proofs::Places::access_registers))]
 fn word_indexed(found: &Chosen) -> Indexed
     requires { IsWithin word_operands found.now }
@@ -120,7 +120,7 @@ fn word_indexed(found: &Chosen) -> Indexed
     }
 }
 
-// The index and the offset of a halfword or a signed byte.
+/// The index and the offset of a halfword or a signed byte.
 #[tactic(auto, unfolding(crate::specs::Meaning::half_indexed), using(crate::proofs::Places::access_registers))]
 fn half_indexed(found: &Chosen) -> Indexed
     requires { IsWithin half_operands found.now }

@@ -5,7 +5,7 @@ ghost use Rattle.a32_syntax.specs.Meaning.{branch_by, branch_to, words_between};
 use crate::kinds::AsmKind;
 use a32_instr::{Cond, Instr};
 
-// How many words a target lies behind the address of the instruction plus 8, modulo 2 to the 30.
+/// How many words a target lies behind the address of the instruction plus 8, modulo 2 to the 30.
 fn words_between(here: u32, target: u32) -> u32
     ensures value { result ≡ words_between here target }
     ensures bound { result < 2 ^ 30 }
@@ -13,7 +13,7 @@ fn words_between(here: u32, target: u32) -> u32
     target.wrapping_sub(here.wrapping_add(8)) / 4
 }
 
-// A branch by so many words, at most 2 to the 23 back and one less ahead (DDI 0406C A8.8.18).
+/// A branch by so many words, at most 2 to the 23 back and one less ahead (DDI 0406C A8.8.18).
 fn branch_by(cond: Cond, link: bool, words: u32) -> Result<Instr, AsmKind>
     requires { words < 2 ^ 30 }
     ensures { result ≡ branch_by cond link words }

@@ -12,7 +12,7 @@ use crate::second_operands::{amount_of, number_and_turn, plain_number, shift_kin
 use a32_forms::Chosen;
 use a32_instr::{AluOp, Cond, Instr, Operand2, Reg, ShiftKind};
 
-// A register shifted by a number.
+/// A register shifted by a number.
 fn by_amount(rm: Reg, kind: ShiftKind, bits: u64) -> Result<Operand2, AsmKind>
     ensures { result ≡ by_amount rm kind (amount_of kind bits) }
 {
@@ -20,7 +20,7 @@ fn by_amount(rm: Reg, kind: ShiftKind, bits: u64) -> Result<Operand2, AsmKind>
     Ok(Operand2::ByNum { rm, kind, amount })
 }
 
-// The second operand by its form, whose numbers begin at a place.
+/// The second operand by its form, whose numbers begin at a place.
 #[tactic(auto, unfolding(crate::specs::Meaning::second_operand))]
 fn second_operand(found: &Chosen, at: usize) -> Result<Operand2, AsmKind>
     requires place { at ≤ 2 }
@@ -54,7 +54,7 @@ fn second_operand(found: &Chosen, at: usize) -> Result<Operand2, AsmKind>
     }
 }
 
-// A compare, which has no destination and always sets the flags.
+/// A compare, which has no destination and always sets the flags.
 #[tactic(auto, using(crate::proofs::Places::alu_registers))]
 fn compare(cond: Cond, op: AluOp, found: &Chosen) -> Result<Instr, AsmKind>
     requires { IsWithin two_operands found.now }
@@ -71,7 +71,7 @@ fn compare(cond: Cond, op: AluOp, found: &Chosen) -> Result<Instr, AsmKind>
     })
 }
 
-// A move, which has no first operand.
+/// A move, which has no first operand.
 #[tactic(auto, using(crate::proofs::Places::alu_registers))]
 fn move_operand(cond: Cond, op: AluOp, s: bool, found: &Chosen) -> Result<Instr, AsmKind>
     requires { IsWithin two_operands found.now }
@@ -88,7 +88,7 @@ fn move_operand(cond: Cond, op: AluOp, s: bool, found: &Chosen) -> Result<Instr,
     })
 }
 
-// An operation with two operands.
+/// An operation with two operands.
 #[tactic(auto, using(crate::proofs::Places::alu_registers))]
 fn operate(cond: Cond, op: AluOp, s: bool, found: &Chosen) -> Result<Instr, AsmKind>
     requires { IsWithin three_operands found.now }

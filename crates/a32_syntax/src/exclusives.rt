@@ -12,7 +12,7 @@ use a32_forms::Chosen;
 use a32_instr::{BarrierKind, Cond, Instr};
 use llsc_base::Size;
 
-// A doubleword's second register is the next one.
+/// A doubleword's second register is the next one.
 #[tactic(auto, using(crate::proofs::Places::exclusive_registers))]
 fn load_pair(cond: Cond, found: &Chosen) -> Result<Instr, AsmKind>
     requires { IsWithin (load_exclusive_operands Size.B8) found.now }
@@ -53,7 +53,7 @@ pub fn load_exclusive(cond: Cond, size: Size, found: &Chosen) -> Result<Instr, A
     }
 }
 
-// A doubleword's second register is the next one.
+/// A doubleword's second register is the next one.
 #[tactic(auto, using(crate::proofs::Places::exclusive_registers))]
 fn store_pair(cond: Cond, found: &Chosen) -> Result<Instr, AsmKind>
     requires { IsWithin (store_exclusive_operands Size.B8) found.now }

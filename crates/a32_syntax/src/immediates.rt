@@ -5,7 +5,7 @@ ghost use Rattle.a32_syntax.specs.Shown.{immediate_number, is_least};
 
 use crate::second_operands::least_turn;
 
-// A power of 2.
+/// A power of 2.
 #[tactic(auto, using(crate::proofs::TurnedNumbers::shifted_one))]
 fn power(exponent: u64) -> u64
     requires { exponent ≤ 32 }
@@ -14,7 +14,7 @@ fn power(exponent: u64) -> u64
     1 << exponent
 }
 
-// A number of 32 bits rotated right (DDI 0406C A2.2.1, ROR).
+/// A number of 32 bits rotated right (DDI 0406C A2.2.1, ROR).
 #[tactic(auto, unfolding(a32_instr::specs::Shift::turned), using(crate::proofs::TurnedNumbers::high_fits, crate::proofs::TurnedNumbers::sum_fits))]
 fn rotate_right(number: u64, amount: u64) -> u64
     requires small { number < 2 ^ 32 }

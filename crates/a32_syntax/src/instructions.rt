@@ -19,7 +19,7 @@ use crate::registers::register;
 use a32_forms::{Chosen, chosen};
 use a32_instr::{Cond, Instr};
 
-// BX and BLX (DDI 0406C A8.8.27, A8.8.26).
+/// BX and BLX (DDI 0406C A8.8.27, A8.8.26).
 #[tactic(auto, using(crate::proofs::Places::branch_rm))]
 fn branch_reg(cond: Cond, link: bool, found: &Chosen) -> Instr
     requires { IsWithin (operands_of (Operation.BranchReg link)) found.now }
@@ -32,7 +32,7 @@ fn branch_reg(cond: Cond, link: bool, found: &Chosen) -> Instr
     }
 }
 
-// SVC (DDI 0406C A8.8.228).
+/// SVC (DDI 0406C A8.8.228).
 fn svc(cond: Cond, found: &Chosen) -> Result<Instr, AsmKind>
     ensures { result ≡ within 16777215 (number_at found.now 0) (Instr.Svc cond (number_at found.now 0)) }
 {
@@ -46,7 +46,7 @@ fn svc(cond: Cond, found: &Chosen) -> Result<Instr, AsmKind>
     })
 }
 
-// The instruction of an operation with operands of one of its forms.
+/// The instruction of an operation with operands of one of its forms.
 #[tactic(auto, unfolding(crate::specs::Meaning::means))]
 fn means<L: Labels>(
     mnemonic: Mnemonic,
@@ -86,6 +86,12 @@ fn means<L: Labels>(
 }
 
 /// The instruction that a mnemonic and its operands mean at an address, or the first fault of the operands.
+///
+/// # Errors
+///
+/// `Operand` where the operands have none of the mnemonic's forms, or fields that no instruction has; `Label` where a
+/// label has no address; `Range` where a number is above its field or can't be had by a turn, or a branch can't reach
+/// its target.
 #[tactic(auto, unfolding(crate::specs::Bounds::IsWithin))]
 pub fn instruction_of<L: Labels>(
     mnemonic: Mnemonic,

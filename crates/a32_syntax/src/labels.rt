@@ -17,7 +17,7 @@ pub trait Labels {
     /// The address of a label by its name.
     ghost addresses: { Self → List ℕ → Option ℕ };
 
-    /// The address of a label.
+    /// The address of a label; `None` where no label has that name.
     fn address(&self, name: &[u8]) -> Option<u32>
         ensures { result ≡ addresses self.now name.now };
 }

@@ -10,7 +10,7 @@ mod immediates;
 mod instructions;
 mod kinds;
 mod labels;
-mod laws;
+pub mod laws;
 mod mnemonics;
 mod operand_forms;
 mod operations;
@@ -30,10 +30,6 @@ mod writing;
 pub use instructions::instruction_of;
 pub use kinds::AsmKind;
 pub use labels::{Labels, NoLabels};
-pub use laws::{
-    meant_instructions_are_formed, mnemonics_are_read_back, shown_instructions_are_read_again,
-    words_are_their_mnemonics,
-};
 pub use mnemonics::{base, may_have_condition, may_set_flags};
 pub use operand_forms::operands_of;
 pub use operations::{Mnemonic, Operation};

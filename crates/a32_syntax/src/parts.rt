@@ -37,7 +37,7 @@ pub fn rev(cond: Cond, found: &Chosen) -> Instr
     }
 }
 
-// Whether a register may be turned by so many bits before it is extended.
+/// Whether a register may be turned by so many bits before it is extended.
 fn is_turn(bits: u64) -> bool
     ensures { result ≡ ((bits == 8) || (bits == 16) || (bits == 24)) }
 {

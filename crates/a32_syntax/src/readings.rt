@@ -8,7 +8,7 @@ use a32_forms::place;
 use a32_instr::{AluOp, BarrierKind, Cond, HalfKind, LongKind};
 use llsc_base::Size;
 
-// Every operation.
+/// Every operation.
 const OPERATIONS: [Operation; 66] = [
     Operation::Alu(AluOp::And),
     Operation::Alu(AluOp::Eor),
@@ -134,7 +134,7 @@ const OPERATIONS: [Operation; 66] = [
     Operation::Barrier(BarrierKind::Isb),
 ];
 
-// The condition that a word names (DDI 0406C A8.3); nothing is always.
+/// The condition that a word names (DDI 0406C A8.3); nothing is always.
 fn condition_of(word: &[u8]) -> Option<Cond>
     ensures { result ≡ condition_of word.now }
 {
@@ -145,7 +145,7 @@ fn condition_of(word: &[u8]) -> Option<Cond>
     Some(Cond::new(number as u8))
 }
 
-// What stands behind the base and the `s`: nothing, or a condition where there may be one.
+/// What stands behind the base and the `s`: nothing, or a condition where there may be one.
 fn with_condition(operation: Operation, set_flags: bool, word: &[u8]) -> Option<Mnemonic>
     ensures { result ≡ with_condition operation set_flags word.now }
 {
@@ -160,7 +160,7 @@ fn with_condition(operation: Operation, set_flags: bool, word: &[u8]) -> Option<
     })
 }
 
-// What stands behind the base: an `s`, where there may be one, and a condition.
+/// What stands behind the base: an `s`, where there may be one, and a condition.
 #[tactic(auto, unfolding(crate::specs::Mnemonics::with_flags))]
 fn with_flags(operation: Operation, word: &[u8]) -> Option<Mnemonic>
     ensures { result ≡ with_flags operation word.now }
@@ -173,7 +173,7 @@ fn with_flags(operation: Operation, word: &[u8]) -> Option<Mnemonic>
     with_condition(operation, false, word)
 }
 
-// A word that begins with an operation's base.
+/// A word that begins with an operation's base.
 #[tactic(auto, unfolding(crate::specs::Mnemonics::as_operation))]
 fn as_operation(word: &[u8], operation: Operation) -> Option<Mnemonic>
     ensures { result ≡ as_operation word.now operation }
@@ -185,7 +185,7 @@ fn as_operation(word: &[u8], operation: Operation) -> Option<Mnemonic>
     with_flags(operation, &word[base.len()..])
 }
 
-// The first operation as which a word can be read.
+/// The first operation as which a word can be read.
 #[tactic(auto, unfolding(crate::specs::Mnemonics::read_among))]
 fn read_among(operations: &[Operation], word: &[u8]) -> Option<Mnemonic>
     ensures { result ≡ read_among operations.now word.now }

@@ -6,7 +6,7 @@ ghost use Rattle.a32_syntax.specs.Meaning.{amount_of, least_turn, most_bits, num
 use crate::kinds::AsmKind;
 use a32_instr::{Operand2, ShiftKind};
 
-// A number turned back by a turn: left by twice as many bits.
+/// A number turned back by a turn: left by twice as many bits.
 #[tactic(auto, unfolding(crate::specs::Meaning::turned_back, a32_instr::specs::Shift::turned))]
 fn turned_back(number: u64, turn: u32) -> u64
     requires number { number < 2 ^ 32 }
@@ -66,7 +66,7 @@ pub fn number_and_turn(imm8: u64, bits: u64) -> Result<Operand2, AsmKind>
     })
 }
 
-// The most bits by which a kind of shift shifts.
+/// The most bits by which a kind of shift shifts.
 fn most_bits(shift: ShiftKind) -> u64
     ensures value { result ≡ most_bits shift }
     ensures bound { result ≤ 32 }

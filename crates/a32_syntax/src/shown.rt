@@ -52,7 +52,7 @@ impl Showing {
     }
 }
 
-// A form of an operation with numbers.
+/// A form of an operation with numbers.
 fn in_form(
     operation: Operation,
     set_flags: bool,
@@ -73,7 +73,7 @@ fn in_form(
     }
 }
 
-// An operation that sets no flags, by its first form.
+/// An operation that sets no flags, by its first form.
 fn plain(operation: Operation, cond: Cond, numbers: &[u64]) -> Showing
     requires { length numbers.now ≤ 8 }
     ensures { result ≡ showing operation false cond 0 numbers.now }
@@ -81,7 +81,7 @@ fn plain(operation: Operation, cond: Cond, numbers: &[u64]) -> Showing
     in_form(operation, false, cond, 0, Numbers::of(numbers))
 }
 
-// An operation of registers alone, by its first form.
+/// An operation of registers alone, by its first form.
 fn of_registers(operation: Operation, set_flags: bool, cond: Cond, registers: &[Reg]) -> Showing
     requires { length registers.now ≤ 8 }
     ensures { result ≡ showing operation set_flags cond 0 registers.now }
@@ -95,14 +95,14 @@ fn of_registers(operation: Operation, set_flags: bool, cond: Cond, registers: &[
     )
 }
 
-// The condition of an instruction that is always carried out.
+/// The condition of an instruction that is always carried out.
 fn always() -> Cond
     ensures { result ≡ always }
 {
     Cond::new(14)
 }
 
-// Data processing.
+/// Data processing.
 #[tactic(auto, unfolding(crate::specs::Shown::showing_of))]
 fn alu(cond: Cond, op: AluOp, s: bool, rd: Reg, rn: Reg, operand: &Operand2, here: u32) -> Showing
     ensures { result ≡ showing_of (Instr.Alu cond op s rd rn operand.now) here }
@@ -114,7 +114,7 @@ fn alu(cond: Cond, op: AluOp, s: bool, rd: Reg, rn: Reg, operand: &Operand2, her
     in_form(Operation::Alu(op), set_flags, cond, form, numbers)
 }
 
-// An extend, with its turn where there is one.
+/// An extend, with its turn where there is one.
 #[tactic(auto, unfolding(crate::specs::Shown::showing_of))]
 fn extend(cond: Cond, unsigned: bool, half: bool, rd: Reg, rm: Reg, turn: u8, here: u32) -> Showing
     ensures { result ≡ showing_of (Instr.Extend cond unsigned half rd rm turn) here }
@@ -127,14 +127,14 @@ fn extend(cond: Cond, unsigned: bool, half: bool, rd: Reg, rm: Reg, turn: u8, he
     in_form(operation, false, cond, 1, numbers)
 }
 
-// The number of a mark that may be left out.
+/// The number of a mark that may be left out.
 fn flag(set: bool) -> u64
     ensures { result ≡ flag set }
 {
     u64::from(set)
 }
 
-// The address of a branch's target.
+/// The address of a branch's target.
 #[tactic(auto, unfolding(a32_instr::specs::Branch::target_of))]
 fn target(here: u32, words: i32) -> u64
     ensures { result ≡ target_of here words }
@@ -142,7 +142,7 @@ fn target(here: u32, words: i32) -> u64
     (i64::from(here) + 8 + 4 * i64::from(words)).rem_euclid(0x1_0000_0000) as u64
 }
 
-// The numbers of a load-exclusive: a doubleword names both of its registers.
+/// The numbers of a load-exclusive: a doubleword names both of its registers.
 fn load_exclusive(size: Size, rn: Reg, rt: Reg) -> Numbers
     ensures { result ≡ load_exclusive_numbers size rn rt }
 {
@@ -153,7 +153,7 @@ fn load_exclusive(size: Size, rn: Reg, rt: Reg) -> Numbers
     }
 }
 
-// The numbers of a store-exclusive.
+/// The numbers of a store-exclusive.
 fn store_exclusive(size: Size, rn: Reg, rd: Reg, rt: Reg) -> Numbers
     ensures { result ≡ store_exclusive_numbers size rn rd rt }
 {
@@ -164,7 +164,7 @@ fn store_exclusive(size: Size, rn: Reg, rd: Reg, rt: Reg) -> Numbers
     }
 }
 
-// Data processing, MOVW and MOVT, CLZ, REV and the extends (DDI 0406C A5.2, A5.4).
+/// Data processing, MOVW and MOVT, CLZ, REV and the extends (DDI 0406C A5.2, A5.4).
 #[tactic(auto, unfolding(crate::specs::Shown::showing_of))]
 fn data(instruction: &Instr, here: u32) -> Showing
     requires { IsTrue (is_data instruction.now) }
@@ -199,7 +199,7 @@ fn data(instruction: &Instr, here: u32) -> Showing
     }
 }
 
-// Multiplications (DDI 0406C A5.2.5).
+/// Multiplications (DDI 0406C A5.2.5).
 #[tactic(auto, unfolding(crate::specs::Shown::showing_of))]
 fn multiplication(instruction: &Instr, here: u32) -> Showing
     requires { IsTrue (is_multiply instruction.now) }
@@ -241,7 +241,7 @@ fn multiplication(instruction: &Instr, here: u32) -> Showing
     }
 }
 
-// Loads and stores of one register that aren't exclusive (DDI 0406C A5.2.8, A5.3).
+/// Loads and stores of one register that aren't exclusive (DDI 0406C A5.2.8, A5.3).
 #[tactic(auto, unfolding(crate::specs::Shown::showing_of))]
 fn access(instruction: &Instr, here: u32) -> Showing
     requires { IsTrue (is_single_transfer instruction.now) }
@@ -277,7 +277,7 @@ fn access(instruction: &Instr, here: u32) -> Showing
     }
 }
 
-// Exclusives, CLREX and the barriers (DDI 0406C A5.2.10, A5.7.1).
+/// Exclusives, CLREX and the barriers (DDI 0406C A5.2.10, A5.7.1).
 #[tactic(auto, unfolding(crate::specs::Shown::showing_of))]
 fn synchronization(instruction: &Instr, here: u32) -> Showing
     requires { IsTrue (is_synchronization instruction.now) }

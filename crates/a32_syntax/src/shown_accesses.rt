@@ -6,14 +6,14 @@ use crate::shown_numbers::{Numbers, register};
 use crate::shown_operands::{bits_shown, is_through_carry, is_unshifted, shift_number};
 use a32_instr::{Index, Offset, Reg};
 
-// The number of the `-`.
+/// The number of the `-`.
 fn minus_of(add: bool) -> u64
     ensures { result ≡ minus_of add }
 {
     if add { 0 } else { 1 }
 }
 
-// Whether the base alone is shown: an added 0 with no write-back isn't.
+/// Whether the base alone is shown: an added 0 with no write-back isn't.
 fn is_base_alone(index: Index, offset: &Offset) -> bool
     ensures { result ≡ is_base_alone index offset.now }
 {
@@ -23,7 +23,7 @@ fn is_base_alone(index: Index, offset: &Offset) -> bool
     }
 }
 
-// The place of an offset's form among those of one index.
+/// The place of an offset's form among those of one index.
 fn offset_form(offset: &Offset) -> usize
     ensures value { result ≡ offset_form offset.now }
     ensures bound { result ≤ 4 }
@@ -70,7 +70,7 @@ pub fn half_form(index: Index, offset: &Offset) -> usize
     }
 }
 
-// Adds the numbers of an offset behind the others.
+/// Adds the numbers of an offset behind the others.
 fn show_offset(offset: &Offset, numbers: &mut Numbers)
     requires { length numbers.old ≤ 2 }
     ensures numbers { numbers.new ≡ numbers.old ++ offset_numbers offset.now }
@@ -98,7 +98,7 @@ fn show_offset(offset: &Offset, numbers: &mut Numbers)
     }
 }
 
-// Adds the number of the `!` behind the others, which a form with the offset behind the base doesn't have.
+/// Adds the number of the `!` behind the others, which a form with the offset behind the base doesn't have.
 fn show_exclamation(index: Index, numbers: &mut Numbers)
     requires { length numbers.old < 8 }
     ensures { numbers.new ≡ numbers.old ++ exclamation_of index }

@@ -39,7 +39,7 @@ pub fn is_through_carry(kind: ShiftKind, amount: u8) -> bool
     matches!(kind, ShiftKind::Ror) && amount == 0
 }
 
-// Adds the numbers of an immediate behind the others, and tells its form.
+/// Adds the numbers of an immediate behind the others, and tells its form.
 #[tactic(auto, unfolding(crate::specs::Shown::operand_form, crate::specs::Shown::operand_numbers))]
 fn show_immediate(turn: u8, imm8: u8, numbers: &mut Numbers) -> usize
     requires { length numbers.old ≤ 5 }

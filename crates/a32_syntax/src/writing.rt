@@ -14,7 +14,7 @@ use a32_instr::{Cond, Instr};
 use llsc_base::Line;
 use number_text::write_text;
 
-// The name of a condition; always is shown by nothing.
+/// The name of a condition; always is shown by nothing.
 fn condition_name(cond: Cond) -> &'static [u8]
     ensures name { result.now ≡ condition_name cond }
     ensures bound { length result.now ≤ 2 }
@@ -38,7 +38,7 @@ fn condition_name(cond: Cond) -> &'static [u8]
     }
 }
 
-// Adds the base of an operation at the end of a line: at most 6 bytes.
+/// Adds the base of an operation at the end of a line: at most 6 bytes.
 #[tactic(auto, using(crate::proofs::Texts::base_short))]
 fn write_base(line: &mut Line, operation: Operation)
     requires room { length line.old + 6 ≤ 96 }
@@ -48,7 +48,7 @@ fn write_base(line: &mut Line, operation: Operation)
     write_text(line, base(operation));
 }
 
-// Adds what says that the flags are set at the end of a line: at most 1 byte.
+/// Adds what says that the flags are set at the end of a line: at most 1 byte.
 fn write_flags(line: &mut Line, set_flags: bool)
     requires room { length line.old < 96 }
     ensures text { line.new ≡ line.old ++ flags_text set_flags }
@@ -59,7 +59,7 @@ fn write_flags(line: &mut Line, set_flags: bool)
     }
 }
 
-// Adds the name of a condition at the end of a line: at most 2 bytes.
+/// Adds the name of a condition at the end of a line: at most 2 bytes.
 fn write_condition(line: &mut Line, cond: Cond)
     requires room { length line.old + 2 ≤ 96 }
     ensures text { line.new ≡ line.old ++ condition_name cond }
@@ -68,7 +68,7 @@ fn write_condition(line: &mut Line, cond: Cond)
     write_text(line, condition_name(cond));
 }
 
-// Adds a mnemonic at the end of a line: at most 9 bytes.
+/// Adds a mnemonic at the end of a line: at most 9 bytes.
 fn write_mnemonic(line: &mut Line, mnemonic: Mnemonic)
     requires room { length line.old + 9 ≤ 96 }
     ensures text { line.new ≡ line.old ++ mnemonic_text mnemonic }
@@ -79,7 +79,7 @@ fn write_mnemonic(line: &mut Line, mnemonic: Mnemonic)
     write_condition(line, mnemonic.cond);
 }
 
-// Adds the operands of a form behind a space, and nothing for the form without operands.
+/// Adds the operands of a form behind a space, and nothing for the form without operands.
 fn write_operands(line: &mut Line, form: &[u8], numbers: &[u64])
     requires fits { IsTrue (fits_form form.now numbers.now) }
     requires room { length line.old + 1 + form_room form.now ≤ 96 }

@@ -31,7 +31,8 @@ pub fn are_hex_digits(word: &[u8]) -> bool
     word.iter().all(|byte| is_hex_digit(*byte))
 }
 
-/// What a digit stands for. A byte that is no digit has some value, too.
+/// What a digit of either case stands for, 0 to 15. A byte that is no digit has a value too, which is below 256 and
+/// means nothing.
 pub fn digit_value(byte: u8) -> u64
     ensures value { result ≡ digit_value byte }
     ensures bound { result < 256 }

@@ -5,12 +5,11 @@
 
 mod digits;
 mod hexadecimal;
-mod laws;
+pub mod laws;
 mod plain;
 mod write;
 
 pub use digits::{are_digits, are_hex_digits, digit_value, is_digit, is_hex_digit};
 pub use hexadecimal::{long_number, word_number};
-pub use laws::{longs_are_sixteen_digits, plain_numbers_are_decimal, words_are_eight_digits};
 pub use plain::plain_number;
 pub use write::{write_decimal, write_long, write_text, write_word};

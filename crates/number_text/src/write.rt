@@ -30,7 +30,7 @@ pub fn write_decimal(line: &mut Line, number: u64)
     line.push(b'0' + (number % 10) as u8);
 }
 
-// The digit of a number below 16.
+/// The digit of a number below 16.
 fn hex_digit(value: u32) -> u8
     requires { value < 16 }
     ensures { result ≡ hex_digit value }
@@ -42,7 +42,7 @@ fn hex_digit(value: u32) -> u8
     }
 }
 
-// Adds a number below 65,536 at the end of a line, in four digits.
+/// Adds a number below 65,536 at the end of a line, in four digits.
 #[tactic(auto, unfolding(crate::specs::Hexadecimal::half_text))]
 fn write_half(line: &mut Line, half: u32)
     requires small { half < 65536 }

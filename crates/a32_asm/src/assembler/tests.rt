@@ -1,6 +1,6 @@
 use super::*;
 
-// A text of one or more lines, with the line and the kind of its first fault.
+/// A text of one or more lines, with the line and the kind of its first fault.
 const FAULTS: [(&str, u32, AsmKind); 34] = [
     ("a: nop\na: nop\n", 2, AsmKind::Repeated),
     ("b away\nnop\n%\n", 1, AsmKind::Label),
@@ -48,7 +48,7 @@ fn the_first_fault_is_named(rt: HostRuntime) {
     }
 }
 
-// A guest that counts, with its data behind its code.
+/// A guest that counts, with its data behind its code.
 const COUNTER: &str = "@ adds one to a word, and leaves with what it was\n\
     movw r10, #lo(word)\n\tmovt r10, #hi(word)\n\
     try: ldrex r0, [r10] @ try\n add r1, r0, #1\n strex r2, r1, [r10]\n cmp r2, #0\n bne try\n\

@@ -1,7 +1,7 @@
 use super::*;
 use crate::assembler::assemble;
 
-// Words with their texts at address 0x1000.
+/// Words with their texts at address 0x1000.
 const SHOWN: [(u32, &str); 26] = [
     (0xe290_0001, "adds r0, r0, #1"),
     (0xe3a0_1a02, "mov r1, #8192"),

@@ -4,7 +4,7 @@ ghost use Rattle.std.specs.Prelude.{◌<◌};
 use super::*;
 use a32_instr::{AluOp, BarrierKind, Cond, HalfKind, Index, Offset, Operand2, Reg};
 
-// Words of each class of instructions, as the GNU assembler encodes them.
+/// Words of each class of instructions, as the GNU assembler encodes them.
 #[test]
 fn gives_back_words_of_each_class(rt: HostRuntime) {
     let words = [
@@ -70,7 +70,7 @@ fn ldrh(rt: u8, offset: Offset) -> Instr
     }
 }
 
-// The number 1.
+/// The number 1.
 fn one() -> Operand2 {
     Operand2::Imm { turn: 0, imm8: 1 }
 }
@@ -83,7 +83,7 @@ fn branch(words: i32) -> Instr {
     }
 }
 
-// The last distances and numbers that have a word, as the manual's fields have room for them.
+/// The last distances and numbers that have a word, as the manual's fields have room for them.
 #[test]
 fn gives_words_at_the_ends_of_fields(rt: HostRuntime) {
     let number = Operand2::Imm {
@@ -108,7 +108,7 @@ fn gives_words_at_the_ends_of_fields(rt: HostRuntime) {
     assert_eq!(rt; encode(&barrier), Ok(0xF57FF06F));
 }
 
-// Fields that have no room for their number, and fields that together are no instruction.
+/// Fields that have no room for their number, and fields that together are no instruction.
 #[test]
 fn gives_no_word_where_there_is_none(rt: HostRuntime) {
     let turned = Operand2::Imm { turn: 16, imm8: 0 };

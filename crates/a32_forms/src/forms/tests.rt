@@ -2,7 +2,7 @@ use super::chosen;
 use crate::fields::Chosen;
 use a32_instr::Reg;
 
-// Whether what was chosen is this form with these numbers and this name.
+/// Whether what was chosen is this form with these numbers and this name.
 fn is_chosen(found: Option<Chosen<'_>>, form: usize, numbers: &[u64], name: &[u8]) -> bool {
     let Some(found) = found else {
         return false;
@@ -15,22 +15,22 @@ fn is_chosen(found: Option<Chosen<'_>>, form: usize, numbers: &[u64], name: &[u8
     found.form() == form && found.number(numbers.len()) == 0 && found.name() == name
 }
 
-// An address, as loads and stores have it.
+/// An address, as loads and stores have it.
 fn address(text: &[u8]) -> Option<Chosen<'_>> {
     chosen(b"r, [r]|r, [r, #~n]!|r, [r], #~n", text)
 }
 
-// A base and a list of registers.
+/// A base and a list of registers.
 fn block(text: &[u8]) -> Option<Chosen<'_>> {
     chosen(b"r!, {b}", text)
 }
 
-// A register and a number, or half of a label's address.
+/// A register and a number, or half of a label's address.
 fn half(text: &[u8]) -> Option<Chosen<'_>> {
     chosen(b"r, #n|r, #L(l)|r, #H(l)|r, k #n|r, X", text)
 }
 
-// The base of an address: a register without a test, since each number of a form is within what its sign may take.
+/// The base of an address: a register without a test, since each number of a form is within what its sign may take.
 fn base_of(text: &[u8]) -> Option<Reg> {
     let found = chosen(b"r, [r]|r, [r, #~n]!|k, n", text)?;
     if found.form() == 2 {

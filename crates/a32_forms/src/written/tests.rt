@@ -5,7 +5,7 @@ ghost use Rattle.a32_forms.specs.Fits.{fits_form, form_room};
 use crate::written::write_form;
 use llsc_base::Line;
 
-// Whether a form with these numbers is shown as this text.
+/// Whether a form with these numbers is shown as this text.
 fn shows(form: &[u8], numbers: &[u64], text: &[u8]) -> bool
     requires fits { IsTrue (fits_form form.now numbers.now) }
     requires room { form_room form.now ≤ 96 }

@@ -94,7 +94,7 @@ fn tells_faults(rt: HostRuntime) {
     }
 }
 
-// One label, of the name `there`.
+/// One label, of the name `there`.
 #[derive(Drop)]
 struct There {
     address: u32,

@@ -18,7 +18,7 @@ fn r(num: u8) -> Reg
     Reg::new(num)
 }
 
-// An immediate by its least turn.
+/// An immediate by its least turn.
 #[test]
 #[tactic(auto, unfolding(crate::specs::Formed::IsFormed))]
 fn writes_an_immediate(rt: HostRuntime) {
@@ -35,7 +35,7 @@ fn writes_an_immediate(rt: HostRuntime) {
     assert_eq!(rt; line.bytes(), b"movs r1, #8192".as_slice());
 }
 
-// The longest text: each register of a block.
+/// The longest text: each register of a block.
 #[test]
 #[tactic(auto, unfolding(crate::specs::Formed::IsFormed))]
 fn writes_a_block_of_all_registers(rt: HostRuntime) {
@@ -56,7 +56,7 @@ fn writes_a_block_of_all_registers(rt: HostRuntime) {
     );
 }
 
-// A base that is moved down and written back.
+/// A base that is moved down and written back.
 #[test]
 #[tactic(auto, unfolding(crate::specs::Formed::IsFormed))]
 fn writes_a_moved_base(rt: HostRuntime) {
@@ -79,7 +79,7 @@ fn writes_a_moved_base(rt: HostRuntime) {
     assert_eq!(rt; line.bytes(), b"str lr, [sp, -r3, lsr #32]!".as_slice());
 }
 
-// A branch below address 0.
+/// A branch below address 0.
 #[test]
 #[tactic(auto, unfolding(crate::specs::Formed::IsFormed))]
 fn writes_a_target(rt: HostRuntime) {
