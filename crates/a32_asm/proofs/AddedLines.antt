@@ -6,7 +6,7 @@ use Rattle.a32_syntax.specs.declared.kinds.AsmKind.{AsmKind}
 use Rattle.a32_asm.specs.declared.assembler.AsmFault.{AsmFault}
 use Rattle.a32_asm.specs.declared.layout.Spot.{Spot}
 use Rattle.a32_asm.specs.Lines.{lines_of, label_of, is_ascii, before_comment, head_of, statement_of}
-use Rattle.a32_asm.specs.Layout.{Layout, next_spot, bytes_of, may_stand}
+use Rattle.a32_asm.specs.Layout.{Layout, next_spot, line_size, may_stand}
 use Rattle.a32_asm.specs.Statements.{Piece, piece_of, line_piece}
 use Rattle.a32_asm.specs.Assembled.{Before, first, site_of, is_known, is_too_long, first_fault, behind_line, outcome, added, followed, unit_from, most_text}
 use Rattle.a32_asm.specs.Seen.{lines_left, bytes_left, spot_behind, piece_seen}
@@ -79,18 +79,18 @@ pub outcome_is : (layout : Layout) (text : List ℕ) (spot behind : Spot) (numbe
     → too_long ≡ is_too_long behind (length text - bytes_left after)
     → piece_seen piece ≡ (if read.is_ascii && may_stand read.head spot then piece_of (site_of layout spot) spot.in_data read.head read.statement.now else Err kind.Syntax)
     → piece_seen found ≡ first_fault repeated too_long (piece_seen piece)
-    → length rest.now ≡ bytes_of line (lines_left after) + bytes_left after
+    → length rest.now ≡ line_size line (lines_left after) + bytes_left after
     → length rest.now ≤ length text
     → piece_seen found ≡ outcome layout (before_left text spot number (length rest.now)) line (lines_left after)
 outcome_is layout text spot behind number rest line after read repeated too_long piece found label ascii head statement again moved long adds fault bytes within =
-    let e : length text - bytes_left after ≡ length text - length rest.now + bytes_of line (lines_left after) = omega (arith, bytes, within) in
+    let e : length text - bytes_left after ≡ length text - length rest.now + line_size line (lines_left after) = omega (arith, bytes, within) in
     let r : repeated ≡ is_known layout (length text - length rest.now) (label_of line) = again ∙ ap (is_known layout (length text - length rest.now)) label in
-    let t : too_long ≡ is_too_long (next_spot spot line) (length text - length rest.now + bytes_of line (lines_left after)) =
+    let t : too_long ≡ is_too_long (next_spot spot line) (length text - length rest.now + line_size line (lines_left after)) =
     long ∙ ap (λ s. is_too_long s (length text - bytes_left after)) (moved ∙ spot_read spot read line ascii head statement) ∙ ap (is_too_long (next_spot spot line)) e in
     fault
     ∙ ap (λ b. first_fault b too_long (piece_seen piece)) r
     ∙ ap (λ b. first_fault (is_known layout (length text - length rest.now) (label_of line)) b (piece_seen piece)) t
-    ∙ ap (first_fault (is_known layout (length text - length rest.now) (label_of line)) (is_too_long (next_spot spot line) (length text - length rest.now + bytes_of line (lines_left after))))
+    ∙ ap (first_fault (is_known layout (length text - length rest.now) (label_of line)) (is_too_long (next_spot spot line) (length text - length rest.now + line_size line (lines_left after))))
     (adds ∙ faults_line read line layout spot ascii head statement)
 
 -- ---- a fault
@@ -124,7 +124,7 @@ not_long repeated true found (Err fault) h = cc
 pub limits : (spot : Spot) (read : ℕ) → is_too_long spot read ≡ false → (spot.words ≤ most_words) × (spot.bytes + spot.space ≤ most_data) × (read ≤ most_text)
 limits spot read h = grind (arith, h)
 
-counts : (number read left most : ℕ) (line : List ℕ) (lines : List (List ℕ)) → number ≤ read + 1 → number + 1 ≤ read + bytes_of line lines + (1 + slack lines)
+counts : (number read left most : ℕ) (line : List ℕ) (lines : List (List ℕ)) → number ≤ read + 1 → number + 1 ≤ read + line_size line lines + (1 + slack lines)
 counts number read left most line [] h = omega (arith, h)
 counts number read left most line (next ∷ lines) h = omega (arith, h)
 
@@ -133,7 +133,7 @@ module _ (layout : Layout) (text words bytes : List ℕ) (spot behind : Spot) (n
     (is : left ≡ Some rest)
     (going : GoesOn layout text words bytes spot number left)
     (lines : lines_of rest.now ≡ line ∷ lines_left after)
-    (lengths : length rest.now ≡ bytes_of line (lines_left after) + bytes_left after)
+    (lengths : length rest.now ≡ line_size line (lines_left after) + bytes_left after)
     (moved : behind ≡ next_spot spot line)
     (out : Ok found ≡ outcome layout (before_left text spot number (length rest.now)) line (lines_left after))
     (fault : Ok found ≡ first_fault repeated (is_too_long behind (length text - bytes_left after)) adds) where
@@ -143,7 +143,7 @@ module _ (layout : Layout) (text words bytes : List ℕ) (spot behind : Spot) (n
   abbrev read : ℕ
   read = length text - length rest.now
 
-  read_next : length text - bytes_left after ≡ read + bytes_of line (lines_left after)
+  read_next : length text - bytes_left after ≡ read + line_size line (lines_left after)
   read_next = omega (arith, lengths, here.within)
 
   before_next : before_left text behind (number + 1) (bytes_left after) ≡ behind_line (before_left text spot number (length rest.now)) line (lines_left after)

@@ -3,7 +3,7 @@ use Rattle.std.proofs.Common.{◌≡◌, ◌≤◌, ◌+◌, ℕ, suc, List, [],
 use Rattle.std.specs.List.{slice_split, onto_first}
 use Rattle.a32_forms.specs.Cuts.{before_code, from_code}
 use Rattle.a32_asm.specs.Lines.{lines_of}
-use Rattle.a32_asm.specs.Layout.{bytes_of}
+use Rattle.a32_asm.specs.Layout.{line_size}
 
 -- a byte in front of a text without newline
 one_cons : (b : Bool) (code : ℕ) (text : List ℕ)
@@ -52,17 +52,17 @@ unfolding before_code from_code
 halves [] = refl
 halves (code ∷ text) = halves_cons (code == 10) code text (halves text)
 
-put_in_front : (line : List ℕ) (code : ℕ) (lines : List (List ℕ)) → bytes_of line lines ≡ length line + 1 → bytes_of line (onto_first code lines) ≡ length line + 1
+put_in_front : (line : List ℕ) (code : ℕ) (lines : List (List ℕ)) → line_size line lines ≡ length line + 1 → line_size line (onto_first code lines) ≡ length line + 1
 put_in_front line code [] h = absurd (omega (arith, h))
 put_in_front line code (first ∷ lines) h = refl
 
-more_cons : (b : Bool) (line : List ℕ) (code : ℕ) (lines : List (List ℕ)) → bytes_of line lines ≡ length line + 1
-    → bytes_of line (cond b ([] ∷ lines) (onto_first code lines)) ≡ length line + 1
+more_cons : (b : Bool) (line : List ℕ) (code : ℕ) (lines : List (List ℕ)) → line_size line lines ≡ length line + 1
+    → line_size line (cond b ([] ∷ lines) (onto_first code lines)) ≡ length line + 1
 more_cons true line code lines h = refl
 more_cons false line code lines h = put_in_front line code lines h
 
 -- a line with others behind it has a newline
-more : (line text : List ℕ) → bytes_of line (lines_of text) ≡ length line + 1
+more : (line text : List ℕ) → line_size line (lines_of text) ≡ length line + 1
 more line [] = refl
 more line (code ∷ text) = more_cons (code == 10) line code (lines_of text) (more line text)
 
@@ -70,7 +70,7 @@ pub length_alone : (text : List ℕ) → length (from_code 10 text) ≡ 0 → le
 length_alone text h = omega (arith, h, halves text)
 
 pub length_before : (text : List ℕ) (newline : ℕ) (rest : List ℕ) → from_code 10 text ≡ newline ∷ rest
-    → length text ≡ bytes_of (before_code 10 text) (lines_of rest) + length rest
+    → length text ≡ line_size (before_code 10 text) (lines_of rest) + length rest
 length_before text newline rest h =
     let e : length (from_code 10 text) ≡ suc (length rest) = ap length h in
     omega (arith, e, halves text, more (before_code 10 text) rest)

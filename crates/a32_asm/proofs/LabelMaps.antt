@@ -1,7 +1,7 @@
 -- A map by names, after one more entry.
 use Rattle.std.proofs.Common.{◌≡◌, ℕ, List, [], ◌∷◌, Bool, true, false, cond, if◌then◌else◌, Option, Some, None, refl, sym, ap, ◌∙◌, Ordering, Less, Equal, Greater}
 use Rattle.std.specs.Map.{lookup}
-use Rattle.a32_asm.specs.declared.labels.Place.{Place}
+use Rattle.a32_asm.specs.declared.labels.LabelPlace.{LabelPlace}
 use Rattle.a32_asm.specs.Labels.{or_first}
 use Rattle.std.specs.BTreeMap.{insert_entry}
 use Rattle.std.specs.Cmp.Lexicographic.{slice_cmp}
@@ -62,7 +62,7 @@ module _ {K X : Type 0} (name_of : K → List ℕ) where
       step (by_name name_of key first) key value name first held entries refl (lookup_inserted key value name entries)
 
 -- a name that had no place
-pub or_first_is : (t : Bool) (old : Option Place) (name : List ℕ) (place : Place) (other : List ℕ) → t ≡ bytes_eq other name → (t ≡ true → old ≡ None)
+pub or_first_is : (t : Bool) (old : Option LabelPlace) (name : List ℕ) (place : LabelPlace) (other : List ℕ) → t ≡ bytes_eq other name → (t ≡ true → old ≡ None)
     → cond t (Some place) old ≡ or_first old name place other
 or_first_is true (Some held) name place other is absent = let e : Some held ≡ None = absent refl in cc
 or_first_is true None name place other is absent = ap (λ b. if b then Some place else None) is

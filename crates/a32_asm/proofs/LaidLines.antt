@@ -5,12 +5,12 @@ use Rattle.std.specs.List.{find}
 use Rattle.std.specs.Option.{option_map}
 use Rattle.std.specs.Str.{bytes_eq}
 use Rattle.a32_asm.specs.declared.layout.Spot.{Spot}
-use Rattle.a32_asm.specs.declared.labels.Place.{Place}
+use Rattle.a32_asm.specs.declared.labels.LabelPlace.{LabelPlace}
 use Rattle.a32_asm.specs.declared.labels.LabelMap.{LabelMap}
 use Rattle.a32_asm.specs.declared.layout.TextLayout.{TextLayout}
 use Rattle.a32_asm.specs.declared.lines.Line.{Line}
 use Rattle.a32_asm.specs.Lines.{lines_of, label_of, is_ascii, before_comment, head_of, statement_of}
-use Rattle.a32_asm.specs.Layout.{layout_of, Label, place, start, place_in, labels_here, labels_of, labels_from, next_spot, end_from, bytes_of}
+use Rattle.a32_asm.specs.Layout.{layout_of, Label, place, start, place_in, labels_here, labels_of, labels_from, next_spot, end_from, line_size}
 use Rattle.a32_asm.specs.Labels.{place_named, or_place}
 use Rattle.a32_asm.specs.Seen.{lines_left, bytes_left, spot_behind, layout_seen}
 
@@ -22,16 +22,16 @@ picked : (b : Bool) (label : Label) (found : Option Label)
 picked true label found = refl
 picked false label found = refl
 
-joined : (label : Option (List ℕ)) (place : Place) (labels : List Label) (name : List ℕ)
+joined : (label : Option (List ℕ)) (place : LabelPlace) (labels : List Label) (name : List ℕ)
     → or_place (place_in (labels_here place label) name) (place_in labels name) ≡ place_in (labels_here place label ++ labels) name
 joined None place labels name = refl
 joined (Some other) place labels name = picked (bytes_eq name other) (record { name = other; place = place }) (find (λ label. bytes_eq name label.name) labels)
 
-or_place_assoc : (a b c : Option Place) → or_place (or_place a b) c ≡ or_place a (or_place b c)
+or_place_assoc : (a b c : Option LabelPlace) → or_place (or_place a b) c ≡ or_place a (or_place b c)
 or_place_assoc None b c = refl
 or_place_assoc (Some place) b c = refl
 
-or_place_none : (a : Option Place) → or_place a None ≡ a
+or_place_none : (a : Option LabelPlace) → or_place a None ≡ a
 or_place_none None = refl
 or_place_none (Some place) = refl
 
@@ -47,7 +47,7 @@ abbrev pub Holds : Spot → LabelMap → List ℕ → Option (Bor (List ℕ)) �
 Holds spot map text left = HoldsAt spot map text (bytes_left left) (lines_left left)
 
 labels_line : (spot : Spot) (read : ℕ) (line : List ℕ) (lines : List (List ℕ))
-    → labels_from spot read (line ∷ lines) ≡ labels_of spot read line ++ labels_from (next_spot spot line) (read + bytes_of line lines) lines
+    → labels_from spot read (line ∷ lines) ≡ labels_of spot read line ++ labels_from (next_spot spot line) (read + line_size line lines) lines
 unfolding labels_from
 labels_line spot read line lines = refl
 
@@ -57,7 +57,7 @@ end_line spot line lines = refl
 
 module _ (spot : Spot) (map new : LabelMap) (text rest line : List ℕ) (after : Option (Bor (List ℕ)))
     (lines : lines_of rest ≡ line ∷ lines_left after)
-    (bytes : length rest ≡ bytes_of line (lines_left after) + bytes_left after)
+    (bytes : length rest ≡ line_size line (lines_left after) + bytes_left after)
     (held : HoldsAt spot map text (length rest) (lines_of rest))
     (adds : (name : List ℕ) → place_named new name ≡ or_place (place_named map name) (place_in (labels_of spot (length text - length rest) line) name)) where
   abbrev read : ℕ
@@ -69,7 +69,7 @@ module _ (spot : Spot) (map new : LabelMap) (text rest line : List ℕ) (after :
   abbrev later : List Label
   later = labels_from next (length text - bytes_left after) (lines_left after)
 
-  read_later : read + bytes_of line (lines_left after) ≡ length text - bytes_left after
+  read_later : read + line_size line (lines_left after) ≡ length text - bytes_left after
   read_later = omega (arith, bytes, held.within)
 
   all_labels : labels_of spot read line ++ later ≡ labels_from spot read (lines_of rest)
@@ -102,7 +102,7 @@ pub held_after : (spot next : Spot) (map new : LabelMap) (text : List ℕ) (left
     → left ≡ Some rest
     → Holds spot map text left
     → lines_of rest.now ≡ line ∷ lines_left after
-    → length rest.now ≡ bytes_of line (lines_left after) + bytes_left after
+    → length rest.now ≡ line_size line (lines_left after) + bytes_left after
     → label ≡ label_of line
     → ((name : List ℕ) → place_named new name ≡ or_place (place_named map name) (place_in (labels_here (place spot (length text - length rest.now)) label) name))
     → next ≡ next_spot spot line

@@ -1,5 +1,6 @@
 -- The program of a text is within the limits of programs.
 use Rattle.std.proofs.Common.{◌≡◌, ◌≤◌, ◌+◌, ◌%◌, ◌^◌, ℕ, Bool, true, false, if◌then◌else◌, List, [], ◌∷◌, ◌++◌, length, Option, Some, None, Result, Ok, Err, IfOk, refl, sym, ap, ◌∙◌, subst, arith, length-append, codes}
+use Rattle.llsc_base.specs.Memory.{bytes_of}
 use Rattle.elf32.specs.declared.units.Unit.{Unit}
 use Rattle.elf32.specs.Units.{IsWithin, most_words, most_data}
 use Rattle.a32_forms.specs.Forms.{Chosen, chosen}
@@ -51,6 +52,7 @@ word_bytes in_data = if in_data then 4 else 0
 
 word_adds : (in_data : Bool) (word : ℕ) (piece : Piece) → ◌≡◌ {A = Result Piece AsmKind} (Ok (word_piece in_data word)) (Ok piece)
     → Adds piece (word_words in_data) (word_bytes in_data)
+unfolding bytes_of
 word_adds true word piece h = adds (word_piece true word) piece h
 word_adds false word piece h = adds (word_piece false word) piece h
 

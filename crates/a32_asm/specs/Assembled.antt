@@ -1,6 +1,6 @@
 -- The program that a text is, or the first fault of the text.
 use Rattle.std.specs.Prelude.{ℕ, ◌+◌, ◌*◌, ◌||◌, nat_lt, if◌then◌else◌, Bool, false, List, [], ◌∷◌, ◌++◌, Option, Some, None, Result, Ok, Err}
-use Rattle.a32_asm.specs.declared.labels.Place.{Place}
+use Rattle.a32_asm.specs.declared.labels.LabelPlace.{LabelPlace}
 use Rattle.elf32.specs.declared.units.Unit.{Unit}
 use Rattle.elf32.specs.Units.{code_start, most_words, most_data}
 use Rattle.a32_syntax.specs.declared.kinds.AsmKind.{AsmKind}
@@ -9,7 +9,7 @@ use Rattle.a32_syntax.specs.Meaning.{Site}
 use Rattle.a32_asm.specs.declared.assembler.AsmFault.{AsmFault}
 use Rattle.a32_asm.specs.Lines.{lines_of, label_of}
 use Rattle.a32_asm.specs.declared.layout.Spot.{Spot}
-use Rattle.a32_asm.specs.Layout.{Layout, start, next_spot, bytes_of, address_of, layout_of}
+use Rattle.a32_asm.specs.Layout.{Layout, start, next_spot, line_size, address_of, layout_of}
 use Rattle.a32_asm.specs.Statements.{Piece, line_piece}
 
 -- the most bytes of a text
@@ -30,11 +30,11 @@ abbrev pub behind_line : Before → List ℕ → List (List ℕ) → Before
 behind_line before line lines = record {
   spot = next_spot before.spot line;
   number = before.number + 1;
-  read = before.read + bytes_of line lines;
+  read = before.read + line_size line lines;
 }
 
 -- the first label of a name is one of an earlier line
-abbrev pub is_earlier : ℕ → Option Place → Bool
+abbrev pub is_earlier : ℕ → Option LabelPlace → Bool
 is_earlier read None = false
 is_earlier read (Some place) = nat_lt place.read read
 

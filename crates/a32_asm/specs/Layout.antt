@@ -7,7 +7,7 @@ use Rattle.elf32.specs.Units.{code_start, data_start}
 use Rattle.a32_forms.specs.Text.{parts}
 use Rattle.a32_forms.specs.Forms.{Chosen, chosen, number_at}
 use Rattle.a32_asm.specs.declared.layout.Spot.{Spot}
-use Rattle.a32_asm.specs.declared.labels.Place.{Place}
+use Rattle.a32_asm.specs.declared.labels.LabelPlace.{LabelPlace}
 use Rattle.a32_asm.specs.declared.heads.Head.{Head}
 use Rattle.a32_asm.specs.declared.heads.Head.TheVariants.{Nothing, Text, Data, Word, Byte, Space, Instruction, Unreadable}
 use Rattle.a32_asm.specs.Lines.{before_comment, is_ascii, label_of, statement_of, head_of, operands_of}
@@ -61,12 +61,12 @@ next_spot spot line =
 -- A label names a place: the spot of its line, and how many bytes of text are before that line.
 pub record Label : Type 0 where
   pub name : List ℕ
-  pub place : Place
+  pub place : LabelPlace
 
-abbrev pub place : Spot → ℕ → Place
+abbrev pub place : Spot → ℕ → LabelPlace
 place spot read = record { spot = spot; read = read }
 
-abbrev pub labels_here : Place → Option (List ℕ) → List Label
+abbrev pub labels_here : LabelPlace → Option (List ℕ) → List Label
 labels_here place None = []
 labels_here place (Some name) = record { name = name; place = place } ∷ []
 
@@ -74,16 +74,16 @@ labels_here place (Some name) = record { name = name; place = place } ∷ []
 abbrev pub labels_of : Spot → ℕ → List ℕ → List Label
 labels_of spot read line = labels_here (place spot read) (label_of line)
 
--- the bytes of a line, with the newline that ends it, which the last line doesn't have
-abbrev pub bytes_of : List ℕ → List (List ℕ) → ℕ
-bytes_of line [] = length line
-bytes_of line (next ∷ lines) = length line + 1
+-- how many bytes a line has, with the newline that ends it, which the last line doesn't have
+abbrev pub line_size : List ℕ → List (List ℕ) → ℕ
+line_size line [] = length line
+line_size line (next ∷ lines) = length line + 1
 
 -- the labels of lines, from a spot and so many bytes of text on
 unfoldable pub labels_from : Spot → ℕ → List (List ℕ) → List Label
 labels_from spot read [] = []
 labels_from spot read (line ∷ lines) =
-    labels_of spot read line ++ labels_from (next_spot spot line) (read + bytes_of line lines) lines
+    labels_of spot read line ++ labels_from (next_spot spot line) (read + line_size line lines) lines
 
 -- the spot behind lines
 unfoldable pub end_from : Spot → List (List ℕ) → Spot
@@ -91,7 +91,7 @@ end_from spot [] = spot
 end_from spot (line ∷ lines) = end_from (next_spot spot line) lines
 
 -- the place of the first label of a name
-abbrev pub place_in : List Label → List ℕ → Option Place
+abbrev pub place_in : List Label → List ℕ → Option LabelPlace
 place_in labels name = option_map (λ label. label.place) (find (λ label. bytes_eq name label.name) labels)
 
 -- the address of a spot, modulo 2 to the 32, where the code has so many words: the space stands behind the other data
@@ -101,7 +101,7 @@ address_at words spot =
 
 -- What the lines of a text say of one another: the places of its labels, and how many words its code has.
 pub record Layout : Type 0 where
-  pub places : List ℕ → Option Place
+  pub places : List ℕ → Option LabelPlace
   pub words : ℕ
 
 abbrev pub layout_of : List (List ℕ) → Layout

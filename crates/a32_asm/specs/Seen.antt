@@ -1,6 +1,7 @@
 -- What the values of the code stand for: what is left of a text that is read line by line, a layout, and what a line adds.
 use Rattle.std.specs.Prelude.{ℕ, ◌+◌, ◌&&◌, if◌then◌else◌, length, List, [], ◌∷◌, Option, Some, None, Result, Ok, Err}
 use Rattle.std.specs.Borrow.{Bor}
+use Rattle.llsc_base.specs.Memory.{bytes_of}
 use Rattle.a32_asm.specs.declared.layout.Spot.{Spot}
 use Rattle.a32_asm.specs.declared.layout.TextLayout.{TextLayout}
 use Rattle.a32_asm.specs.declared.lines.Line.{Line}
@@ -10,7 +11,7 @@ use Rattle.a32_asm.specs.Labels.{place_named}
 use Rattle.a32_syntax.specs.declared.kinds.AsmKind.{AsmKind}
 use Rattle.a32_asm.specs.declared.pieces.Added.{Added}
 use Rattle.a32_asm.specs.declared.pieces.Added.TheVariants as added
-use Rattle.a32_asm.specs.Statements.{Piece, nothing, code_word, data_bytes, bytes_of_word}
+use Rattle.a32_asm.specs.Statements.{Piece, nothing, code_word, data_bytes}
 
 -- the lines of what is left, none where nothing is
 abbrev pub lines_left : Option (Bor (List ℕ)) → List (List ℕ)
@@ -40,7 +41,7 @@ layout_seen layout = record { places = place_named layout.labels; words = layout
 abbrev pub added_piece : Added → Piece
 added_piece added.Nothing = nothing
 added_piece (added.Code word) = code_word word
-added_piece (added.Data word) = data_bytes (bytes_of_word word)
+added_piece (added.Data word) = data_bytes (bytes_of 4 word)
 added_piece (added.Byte byte) = data_bytes (byte ∷ [])
 
 abbrev pub piece_seen : Result Added AsmKind → Result Piece AsmKind

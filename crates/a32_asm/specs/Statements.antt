@@ -1,5 +1,6 @@
 -- What a line adds to a program, or what is wrong with it.
-use Rattle.std.specs.Prelude.{ℕ, ◌/◌, ◌%◌, ◌^◌, ◌==◌, nat_le, nat_lt, if◌then◌else◌, Bool, List, [], ◌∷◌, Option, Some, None, Result, Ok, Err, codes}
+use Rattle.std.specs.Prelude.{ℕ, ◌==◌, nat_le, nat_lt, if◌then◌else◌, Bool, List, [], ◌∷◌, Option, Some, None, Result, Ok, Err, codes}
+use Rattle.llsc_base.specs.Memory.{bytes_of}
 use Rattle.a32_instr.specs.declared.instructions.Instr.{Instr}
 use Rattle.a32_encode.specs.Encoding.{encoding_of}
 use Rattle.a32_forms.specs.Text.{Part, parts, front_word}
@@ -30,13 +31,9 @@ code_word word = record { words = word ∷ []; bytes = [] }
 abbrev pub data_bytes : List ℕ → Piece
 data_bytes bytes = record { words = []; bytes = bytes }
 
--- the bytes of a word, the lowest first
-abbrev pub bytes_of_word : ℕ → List ℕ
-bytes_of_word word = word % 256 ∷ word / 2 ^ 8 % 256 ∷ word / 2 ^ 16 % 256 ∷ word / 2 ^ 24 % 256 ∷ []
-
--- a word of the code, or of the data
+-- a word of the code, or of the data, where its bytes stand with the lowest first
 abbrev pub word_piece : Bool → ℕ → Piece
-word_piece in_data word = if in_data then data_bytes (bytes_of_word word) else code_word word
+word_piece in_data word = if in_data then data_bytes (bytes_of 4 word) else code_word word
 
 -- Directives. Operands that a directive doesn't have are a fault of the operands.
 

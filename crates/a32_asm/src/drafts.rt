@@ -1,6 +1,5 @@
 //! A program while its text is read.
 ghost use Rattle.std.specs.Prelude.{◌≡◌, ◌++◌, [], OnOk};
-ghost use Rattle.a32_asm.specs.Statements.{bytes_of_word};
 ghost use Rattle.a32_asm.specs.Seen.{added_piece};
 
 use crate::pieces::Added;
@@ -27,6 +26,7 @@ impl Draft {
     }
 
     /// What a line adds, behind all else.
+    #[tactic(auto, using(llsc_base::proofs::Bytes::byte_rules))]
     pub fn add(&mut self, added: Added) -> Result<(), AllocError>
         ensures words { OnOk result (self.new.words.items ≡ self.old.words.items ++ (added_piece added).words) }
         ensures bytes { OnOk result (self.new.bytes.items ≡ self.old.bytes.items ++ (added_piece added).bytes) }
@@ -35,7 +35,7 @@ impl Draft {
             Added::Nothing => Ok(()),
             Added::Code(word) => Ok(self.words.push(word)?),
             Added::Byte(byte) => Ok(self.bytes.push(byte)?),
-            Added::Data(word) => self.bytes.extend_from_slice(&bytes_of(word)),
+            Added::Data(word) => self.bytes.extend_from_slice(&word.to_le_bytes()),
         }
     }
 
@@ -51,16 +51,4 @@ impl Draft {
             space,
         }
     }
-}
-
-/// The bytes of a word, the lowest first.
-fn bytes_of(word: u32) -> [u8; 4]
-    ensures { result ≡ bytes_of_word word }
-{
-    [
-        (word % 0x100) as u8,
-        (word / 0x100 % 0x100) as u8,
-        (word / 0x1_0000 % 0x100) as u8,
-        (word / 0x100_0000 % 0x100) as u8,
-    ]
 }

@@ -10,7 +10,7 @@ use std::collections::BTreeMap;
 
 /// Where a label stands: the spot of its line, and how many bytes of text are before that line.
 #[derive(Clone, Copy, Debug, PartialEq, Eq)]
-pub struct Place {
+pub struct LabelPlace {
     pub spot: Spot,
     pub read: usize,
 }
@@ -18,7 +18,7 @@ pub struct Place {
 /// The first label of each name.
 #[derive(Drop)]
 pub struct LabelMap {
-    places: BTreeMap<Vec<u8>, Place>,
+    places: BTreeMap<Vec<u8>, LabelPlace>,
 }
 
 impl LabelMap {
@@ -32,14 +32,14 @@ impl LabelMap {
     }
 
     /// The first label of a name.
-    pub fn place(&self, name: &[u8]) -> Option<Place>
+    pub fn place(&self, name: &[u8]) -> Option<LabelPlace>
         ensures { result ≡ place_named self.now name.now }
     {
         self.places.get(name).copied()
     }
 
     /// Adds a label, if there is none of its name.
-    pub fn add(&mut self, alloc: Global, name: &[u8], place: Place) -> Result<(), AllocError>
+    pub fn add(&mut self, alloc: Global, name: &[u8], place: LabelPlace) -> Result<(), AllocError>
         ensures { OnOk result ((other : List ℕ) → place_named self.new other ≡ or_first (place_named self.old other) name.now place other) }
     {
         if self.places.contains_key(name) {
@@ -54,7 +54,7 @@ impl LabelMap {
         &mut self,
         alloc: Global,
         label: Option<&[u8]>,
-        place: Place,
+        place: LabelPlace,
     ) -> Result<(), AllocError>
         ensures { OnOk result ((other : List ℕ) → place_named self.new other
             ≡ or_place (place_named self.old other) (place_in (labels_here place (option_map (λ name. name.now) label.entry)) other)) }

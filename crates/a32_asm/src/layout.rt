@@ -7,7 +7,7 @@ ghost use Rattle.a32_asm.specs.Layout.{may_stand, space_of, behind, address_at, 
 ghost use Rattle.a32_asm.specs.Seen.{spot_behind, layout_seen, lines_left};
 
 use crate::heads::Head;
-use crate::labels::{LabelMap, Place};
+use crate::labels::{LabelMap, LabelPlace};
 use crate::lines::{Line, first_line, operands_of, read_line};
 use a32_forms::chosen;
 use std::alloc::{AllocError, Global};
@@ -102,7 +102,7 @@ pub struct TextLayout {
 
 impl TextLayout {
     /// The place of the first label of a name.
-    pub fn place(&self, name: &[u8]) -> Option<Place>
+    pub fn place(&self, name: &[u8]) -> Option<LabelPlace>
         ensures { result ≡ (layout_seen self.now).places name.now }
     {
         self.labels.place(name)
@@ -140,7 +140,7 @@ pub fn lay_out(alloc: Global, text: &[u8]) -> Result<TextLayout, AllocError>
         let (line, after) = first_line(rest);
         let line = read_line(line);
         let read = text.len() - rest.len();
-        labels.add_label(alloc, line.label, Place { spot, read })?;
+        labels.add_label(alloc, line.label, LabelPlace { spot, read })?;
         spot = next_spot(spot, &line);
         left = after;
     }

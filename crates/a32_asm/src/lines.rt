@@ -2,7 +2,7 @@
 ghost use Rattle.std.specs.Prelude.{◌≡◌, ◌≤◌, ◌+◌, ◌∷◌, [], None, Some, length};
 ghost use Rattle.std.specs.Option.{option_map};
 ghost use Rattle.a32_asm.specs.Lines.{lines_of, before_comment, is_ascii, begins_with, has_label, front_of, label_of, statement_of, directive, head_of, operands_of};
-ghost use Rattle.a32_asm.specs.Layout.{bytes_of};
+ghost use Rattle.a32_asm.specs.Layout.{line_size};
 ghost use Rattle.a32_asm.specs.Seen.{lines_left, bytes_left, size_left};
 
 use crate::heads::Head;
@@ -12,7 +12,7 @@ use a32_forms::{after_blanks, after_word, before_code, from_code, front_word, is
 #[tactic(auto, using(crate::proofs::FirstLine::one_line, crate::proofs::FirstLine::line_before, crate::proofs::FirstLine::length_alone, crate::proofs::FirstLine::length_before, crate::proofs::FirstLine::rest_shorter))]
 pub fn first_line(text: &[u8]) -> (&[u8], Option<&[u8]>)
     ensures lines { lines_of text.now ≡ result.0.now ∷ lines_left result.1 }
-    ensures bytes { length text.now ≡ bytes_of result.0.now (lines_left result.1) + bytes_left result.1 }
+    ensures bytes { length text.now ≡ line_size result.0.now (lines_left result.1) + bytes_left result.1 }
     ensures shorter { size_left result.1 ≤ length text.now }
 {
     let line = before_code(text, b'\n');

@@ -21,7 +21,8 @@ use Rattle.a32_instr.specs.declared.instructions.Instr.{Instr}
 use Rattle.a32_instr.specs.declared.instructions.Instr.TheVariants.{Alu, Movw, Movt, Nop, Yield, Mul, Mla, Mls, Long, Clz, Extend, Rev, Word, Half, Block, Branch, BranchReg, Svc, LoadEx, StoreEx, Clrex, Barrier}
 use Rattle.llsc_base.specs.declared.access.Size.{Size}
 use Rattle.llsc_base.specs.declared.access.Size.TheVariants.{B1, B2, B4, B8}
-use Rattle.a32_encode.specs.Word.{one_if, opcode, shift_bits, long_bits, size_bits, barrier_bits}
+use Rattle.a32_instr.specs.DataProcessing.{one_if}
+use Rattle.a32_encode.specs.Word.{opcode, shift_bits, long_bits, size_bits, barrier_bits}
 use Rattle.a32_encode.specs.Encoding.{key_of, index_number, half_number}
 
 -- The kinds by their numbers.

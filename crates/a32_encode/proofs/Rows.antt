@@ -8,7 +8,8 @@ use Rattle.a32_instr.specs.declared.instructions.Instr.{Instr}
 use Rattle.a32_instr.specs.declared.instructions.DecodeFault.{DecodeFault}
 use Rattle.a32_instr.specs.declared.instructions.DecodeFault.TheVariants.{Unpredictable}
 use Rattle.a32_instr.proofs.Apart.{further_of}
-use Rattle.a32_encode.specs.Word.{word_of, one_if, opcode, shift_bits, long_bits, size_bits, barrier_bits, index_bits, half_bits, branch_bits}
+use Rattle.a32_instr.specs.DataProcessing.{one_if}
+use Rattle.a32_encode.specs.Word.{word_of, opcode, shift_bits, long_bits, size_bits, barrier_bits, index_bits, half_bits, branch_bits}
 
 abbrev pub Fits : Row → ℕ → Type 0
 Fits row word = IsTrue (fits row word)

@@ -14,7 +14,8 @@ use Rattle.a32_instr.specs.declared.instructions.HalfKind.TheVariants.{Strh, Ldr
 use Rattle.a32_instr.specs.declared.instructions.DecodeFault.{DecodeFault}
 use Rattle.a32_instr.specs.declared.instructions.Instr.{Instr}
 use Rattle.a32_instr.specs.declared.instructions.Instr.TheVariants.{Alu, Movw, Movt, Nop, Yield, Mul, Mla, Mls, Long, Clz, Extend, Rev, Word, Half, Block, Branch, BranchReg, Svc, LoadEx, StoreEx, Clrex, Barrier}
-use Rattle.a32_encode.specs.Word.{word_of, one_if, opcode, shift_bits, long_bits, size_bits, barrier_bits}
+use Rattle.a32_instr.specs.DataProcessing.{one_if}
+use Rattle.a32_encode.specs.Word.{word_of, opcode, shift_bits, long_bits, size_bits, barrier_bits}
 
 -- An instruction's key is a list of numbers that tells it from every other: the number of its variant, then its fields.
 

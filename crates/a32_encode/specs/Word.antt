@@ -21,12 +21,9 @@ use Rattle.a32_instr.specs.declared.instructions.BarrierKind.{BarrierKind}
 use Rattle.a32_instr.specs.declared.instructions.BarrierKind.TheVariants.{Dsb, Dmb, Isb}
 use Rattle.a32_instr.specs.declared.instructions.Instr.{Instr}
 use Rattle.a32_instr.specs.declared.instructions.Instr.TheVariants.{Alu, Movw, Movt, Nop, Yield, Mul, Mla, Mls, Long, Clz, Extend, Rev, Word, Half, Block, Branch, BranchReg, Svc, LoadEx, StoreEx, Clrex, Barrier}
+use Rattle.a32_instr.specs.DataProcessing.{one_if}
 use Rattle.llsc_base.specs.declared.access.Size.{Size}
 use Rattle.llsc_base.specs.declared.access.Size.TheVariants.{B1, B2, B4, B8}
-
-abbrev pub one_if : Bool → ℕ
-one_if true = 1
-one_if false = 0
 
 -- the opcode of a data-processing operation (DDI 0406C table A5-3)
 abbrev pub opcode : AluOp → ℕ

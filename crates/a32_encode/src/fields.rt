@@ -1,6 +1,7 @@
 //! The numbers that stand in a word for a register, a condition, and each kind of thing.
 ghost use Rattle.std.specs.Prelude.{◌≡◌, ◌<◌, ◌*◌, ◌^◌};
-ghost use Rattle.a32_encode.specs.Word.{one_if, opcode, shift_bits, long_bits, size_bits, barrier_bits, index_bits, half_bits, operand_bits, word_offset, half_offset, branch_bits};
+ghost use Rattle.a32_instr.specs.DataProcessing.{one_if};
+ghost use Rattle.a32_encode.specs.Word.{opcode, shift_bits, long_bits, size_bits, barrier_bits, index_bits, half_bits, operand_bits, word_offset, half_offset, branch_bits};
 
 use a32_instr::{
     AluOp, BarrierKind, Cond, HalfKind, Index, LongKind, Offset, Operand2, Reg, ShiftKind,

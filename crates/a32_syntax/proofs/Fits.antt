@@ -18,10 +18,11 @@ use Rattle.a32_instr.specs.declared.instructions.Instr.TheVariants as instr
 use Rattle.llsc_base.specs.declared.access.Size.{Size}
 use Rattle.llsc_base.specs.declared.access.Size.TheVariants.{B1, B2, B4, B8}
 use Rattle.a32_instr.specs.Branch.{target_of}
+use Rattle.a32_instr.specs.DataProcessing.{one_if}
 use Rattle.a32_forms.specs.Forms.{form_in}
 use Rattle.a32_forms.specs.Fits.{fits_form}
 use Rattle.a32_syntax.specs.Operands.{operands_of, two_operands, three_operands, word_operands, half_operands}
-use Rattle.a32_syntax.specs.Shown.{showing_of, operand_form, operand_numbers, word_form, half_form, access_numbers, shift_number, immediate_number, is_least, minus_of, flag}
+use Rattle.a32_syntax.specs.Shown.{showing_of, operand_form, operand_numbers, word_form, half_form, access_numbers, shift_number, immediate_number, is_least, minus_of}
 use Rattle.a32_syntax.specs.Formed.{IsFormed, OperandFits, WordOffsetFits, HalfOffsetFits, PairFits}
 use Rattle.a32_syntax.proofs.Meant.{number_small, nonzero, differs_Lsr, differs_Asr, differs_Ror}
 
@@ -38,7 +39,7 @@ register_fits number h = lt-ltb number 16 h
 number_fits : (number : ℕ) → number < 2 ^ 32 → nat_lt number (2 ^ 32) ≡ true
 number_fits number h = lt-ltb number (2 ^ 32) h
 
-mark_fits : (set : Bool) → nat_lt (flag set) 2 ≡ true
+mark_fits : (set : Bool) → nat_lt (one_if set) 2 ≡ true
 mark_fits true = refl
 mark_fits false = refl
 

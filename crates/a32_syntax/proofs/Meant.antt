@@ -23,7 +23,7 @@ use Rattle.a32_instr.specs.Fields.{shift_kind}
 use Rattle.a32_instr.specs.Shift.{rotated_right, turned}
 use Rattle.a32_instr.specs.Branch.{target_of}
 use Rattle.a32_forms.specs.Forms.{Chosen, number_at}
-use Rattle.a32_syntax.specs.Meaning.{Site, means, second_operand, plain_number, number_and_turn, amount_of, turned_back, least_turn, word_indexed, half_indexed, branch_to, words_between, branch_by, alu_with, is_added}
+use Rattle.a32_syntax.specs.Meaning.{Site, means, second_operand, least_immediate, number_and_turn, amount_of, turned_back, least_turn, word_indexed, half_indexed, branch_to, words_between, branch_by, alu_with, is_added}
 use Rattle.a32_syntax.specs.Shown.{showing_of, operand_form, operand_numbers, word_form, half_form, access_numbers, shift_number, immediate_number, is_least, is_turn, is_base_alone, offset_numbers, exclamation_of, minus_of}
 use Rattle.a32_syntax.specs.Formed.{IsFormed, DistanceFits, OperandFits, OperationFits, WordOffsetFits, HalfOffsetFits}
 
@@ -69,8 +69,8 @@ least_is : (turn : ℕ) (least : Option ℕ) → is_turn turn least ≡ true →
 least_is turn None e = cc
 least_is turn (Some least) e = ap Some (eqb-true least turn e)
 
-plain_back : (turn imm8 : ℕ) → turn < 16 → imm8 < 256 → is_least turn imm8 ≡ true → plain_number (immediate_number turn imm8) ≡ Ok (operand.Imm turn imm8)
-unfolding plain_number
+plain_back : (turn imm8 : ℕ) → turn < 16 → imm8 < 256 → is_least turn imm8 ≡ true → least_immediate (immediate_number turn imm8) ≡ Ok (operand.Imm turn imm8)
+unfolding least_immediate
 plain_back turn imm8 h small least =
     rw (lt-ltb (immediate_number turn imm8) (2 ^ 32) (number_small imm8 turn h small), least_is turn (least_turn (immediate_number turn imm8)) least, turn_back imm8 turn h small) refl
 

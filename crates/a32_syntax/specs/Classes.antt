@@ -10,9 +10,9 @@ is_single_transfer (Half cond kind index rn rt offset) = true
 is_single_transfer i = false
 
 -- exclusives, CLREX and the barriers (DDI 0406C A5.2.10, A5.7.1)
-abbrev pub is_synchronization : Instr → Bool
-is_synchronization (LoadEx cond size rn rt) = true
-is_synchronization (StoreEx cond size rn rd rt) = true
-is_synchronization Clrex = true
-is_synchronization (Barrier kind option) = true
-is_synchronization i = false
+abbrev pub is_exclusive_or_barrier : Instr → Bool
+is_exclusive_or_barrier (LoadEx cond size rn rt) = true
+is_exclusive_or_barrier (StoreEx cond size rn rd rt) = true
+is_exclusive_or_barrier Clrex = true
+is_exclusive_or_barrier (Barrier kind option) = true
+is_exclusive_or_barrier i = false

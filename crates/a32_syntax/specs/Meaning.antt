@@ -57,8 +57,8 @@ turned_number number (Some turn) = Ok (operand.Imm turn (turned_back number turn
 turned_number number None = Err kind.Range
 
 -- a number by the least turn that gives it
-unfoldable pub plain_number : ℕ → Result Operand2 AsmKind
-plain_number number = if nat_lt number too_great then turned_number number (least_turn number) else Err kind.Range
+unfoldable pub least_immediate : ℕ → Result Operand2 AsmKind
+least_immediate number = if nat_lt number too_great then turned_number number (least_turn number) else Err kind.Range
 
 -- eight bits and by how many bits they are turned, which is an even number
 unfoldable pub number_and_turn : ℕ → ℕ → Result Operand2 AsmKind
@@ -88,7 +88,7 @@ by_amount rm shift (Err fault) = Err fault
 -- the second operand by its form, whose numbers begin at a place
 unfoldable pub second_operand : Chosen → ℕ → Result Operand2 AsmKind
 second_operand found at =
-    if found.form == 0 then plain_number (number_at found at) else
+    if found.form == 0 then least_immediate (number_at found at) else
     if found.form == 1 then number_and_turn (number_at found at) (number_at found (at + 1)) else
     if found.form == 2 then Ok (operand.ByNum (number_at found at) Lsl 0) else
     if found.form == 3 then

@@ -16,6 +16,7 @@ use Rattle.llsc_base.specs.declared.access.Size.TheVariants.{B8}
 use Rattle.a32_instr.specs.Fields.{is_compare, is_move}
 use Rattle.a32_instr.specs.Shift.{rotated_right}
 use Rattle.a32_instr.specs.Branch.{target_of}
+use Rattle.a32_instr.specs.DataProcessing.{one_if}
 use Rattle.a32_forms.specs.Forms.{form_in}
 use Rattle.a32_forms.specs.Written.{written}
 use Rattle.a32_syntax.specs.declared.operations.Operation.{Operation}
@@ -132,9 +133,6 @@ access_numbers index offset rt rn =
 
 -- The others.
 
-abbrev pub flag : Bool → ℕ
-flag set = if set then 1 else 0
-
 abbrev pub load_exclusive_numbers : Size → ℕ → ℕ → List ℕ
 load_exclusive_numbers B8 rn rt = rt ∷ (rt + 1) ∷ rn ∷ []
 load_exclusive_numbers _ rn rt = rt ∷ rn ∷ []
@@ -170,7 +168,7 @@ showing_of (instr.Word cond load byte index rn rt offset) here =
 showing_of (instr.Half cond kind index rn rt offset) here =
     showing (Half kind) false cond (half_form index offset) (access_numbers index offset rt rn)
 showing_of (instr.Block cond load before up wback rn list) here =
-    showing (Block load before up) false cond 0 (rn ∷ flag wback ∷ list ∷ [])
+    showing (Block load before up) false cond 0 (rn ∷ one_if wback ∷ list ∷ [])
 showing_of (instr.Branch cond link words) here = showing (Branch link) false cond 0 (target_of here words ∷ [])
 showing_of (instr.BranchReg cond link rm) here = showing (BranchReg link) false cond 0 (rm ∷ [])
 showing_of (instr.Svc cond imm) here = showing Svc false cond 0 (imm ∷ [])

@@ -8,7 +8,7 @@ ghost use Rattle.a32_syntax.specs.Operands.{operands_of, three_operands, two_ope
 use crate::kinds::AsmKind;
 use crate::operations::Operation;
 use crate::registers::register;
-use crate::second_operands::{amount_of, number_and_turn, plain_number, shift_kind};
+use crate::second_operands::{amount_of, least_immediate, number_and_turn, shift_kind};
 use a32_forms::Chosen;
 use a32_instr::{AluOp, Cond, Instr, Operand2, Reg, ShiftKind};
 
@@ -29,7 +29,7 @@ fn second_operand(found: &Chosen, at: usize) -> Result<Operand2, AsmKind>
     ensures { result ≡ second_operand found.now at }
 {
     match found.form() {
-        0 => plain_number(found.number(at)),
+        0 => least_immediate(found.number(at)),
         1 => number_and_turn(found.number(at), found.number(at + 1)),
         2 => Ok(Operand2::ByNum {
             rm: register(found, at),

@@ -1,7 +1,7 @@
 //! Second operands of data processing, and shifts.
 ghost use Rattle.std.specs.Prelude.{◌≡◌, ◌<◌, ◌≤◌, ◌^◌, IfOk, IfSome};
 ghost use Rattle.a32_instr.specs.Fields.{shift_kind};
-ghost use Rattle.a32_syntax.specs.Meaning.{amount_of, least_turn, most_bits, number_and_turn, plain_number, turned_back};
+ghost use Rattle.a32_syntax.specs.Meaning.{amount_of, least_turn, most_bits, number_and_turn, least_immediate, turned_back};
 
 use crate::kinds::AsmKind;
 use a32_instr::{Operand2, ShiftKind};
@@ -33,9 +33,9 @@ pub fn least_turn(number: u64) -> Option<u8>
 }
 
 /// A number by the least turn that gives it.
-#[tactic(auto, unfolding(crate::specs::Meaning::plain_number))]
-pub fn plain_number(number: u64) -> Result<Operand2, AsmKind>
-    ensures { result ≡ plain_number number }
+#[tactic(auto, unfolding(crate::specs::Meaning::least_immediate))]
+pub fn least_immediate(number: u64) -> Result<Operand2, AsmKind>
+    ensures { result ≡ least_immediate number }
 {
     if number > 0xffff_ffff {
         return Err(AsmKind::Range);

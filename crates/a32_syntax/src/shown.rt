@@ -2,8 +2,9 @@
 ghost use Rattle.std.specs.Prelude.{◌≡◌, ◌<◌, ◌≤◌, ◌^◌, IsTrue, false, length};
 ghost use Rattle.a32_instr.specs.Branch.{target_of};
 ghost use Rattle.a32_instr.specs.Classes.{is_data, is_multiply};
-ghost use Rattle.a32_syntax.specs.Classes.{is_single_transfer, is_synchronization};
-ghost use Rattle.a32_syntax.specs.Shown.{always, flag, load_exclusive_numbers, showing, showing_of, store_exclusive_numbers};
+ghost use Rattle.a32_instr.specs.DataProcessing.{one_if};
+ghost use Rattle.a32_syntax.specs.Classes.{is_single_transfer, is_exclusive_or_barrier};
+ghost use Rattle.a32_syntax.specs.Shown.{always, load_exclusive_numbers, showing, showing_of, store_exclusive_numbers};
 
 use crate::operations::{Mnemonic, Operation};
 use crate::shown_accesses::{access_numbers, half_form, word_form};
@@ -128,8 +129,8 @@ fn extend(cond: Cond, unsigned: bool, half: bool, rd: Reg, rm: Reg, turn: u8, he
 }
 
 /// The number of a mark that may be left out.
-fn flag(set: bool) -> u64
-    ensures { result ≡ flag set }
+fn one_if(set: bool) -> u64
+    ensures { result ≡ one_if set }
 {
     u64::from(set)
 }
@@ -280,7 +281,7 @@ fn access(instruction: &Instr, here: u32) -> Showing
 /// Exclusives, CLREX and the barriers (DDI 0406C A5.2.10, A5.7.1).
 #[tactic(auto, unfolding(crate::specs::Shown::showing_of))]
 fn synchronization(instruction: &Instr, here: u32) -> Showing
-    requires { IsTrue (is_synchronization instruction.now) }
+    requires { IsTrue (is_exclusive_or_barrier instruction.now) }
     ensures { result ≡ showing_of instruction.now here }
 {
     match *instruction {
@@ -334,7 +335,7 @@ pub fn showing_of(instruction: &Instr, here: u32) -> Showing
             rn,
             list,
         } => {
-            let numbers = [register(rn), flag(wback), u64::from(list)];
+            let numbers = [register(rn), one_if(wback), u64::from(list)];
             plain(Operation::Block { load, before, up }, cond, &numbers)
         }
         Instr::Branch { cond, link, words } => {

@@ -8,11 +8,11 @@ use Rattle.a32_forms.specs.Names.{place_from}
 use Rattle.a32_forms.specs.Registers.{mask_from}
 use Rattle.a32_forms.specs.Forms.{before_mark, chosen_from, from_mark, takes_at_word, takes_from, takes_sign}
 use Rattle.a32_syntax.specs.Mnemonics.{as_operation, read_among, with_flags}
-use Rattle.a32_syntax.specs.Meaning.{amount_of, branch_to, half_indexed, means, number_and_turn, plain_number, second_operand, turned_back, word_indexed}
+use Rattle.a32_syntax.specs.Meaning.{amount_of, branch_to, half_indexed, means, number_and_turn, least_immediate, second_operand, turned_back, word_indexed}
 use Rattle.a32_syntax.proofs.worked.worked_instructions.Goals as goal
 
 pub returns : goal.returns
-unfolding meaning index_of half_kind exclusive_size barrier_kind alu_op shift_kind long_kind alu_fits alu_unpredictable one_of_2_is_pc one_of_3_is_pc one_of_4_is_pc no_pair status_clashes index_fits word_unpredictable half_fits half_unpredictable block_unpredictable signed24 value_in turned parts place_from mask_from before_mark from_mark chosen_from takes_from takes_sign takes_at_word with_flags as_operation read_among turned_back plain_number number_and_turn amount_of second_operand branch_to word_indexed half_indexed means
+unfolding meaning index_of half_kind exclusive_size barrier_kind alu_op shift_kind long_kind alu_fits alu_unpredictable one_of_2_is_pc one_of_3_is_pc one_of_4_is_pc no_pair status_clashes index_fits word_unpredictable half_fits half_unpredictable block_unpredictable signed24 value_in turned parts place_from mask_from before_mark from_mark chosen_from takes_from takes_sign takes_at_word with_flags as_operation read_among turned_back least_immediate number_and_turn amount_of second_operand branch_to word_indexed half_indexed means
 returns c = record {
   adds = (refl, refl);
   turns = (refl, refl);
