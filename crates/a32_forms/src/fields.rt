@@ -81,7 +81,7 @@ impl<'a> Model for Chosen<'a> {
 
 impl<'a> Chosen<'a> {
     /// A form by its place, and what stands at its signs.
-    pub fn new(form: usize, fields: Fields<'a>) -> Chosen<'a>
+    pub(crate) fn new(form: usize, fields: Fields<'a>) -> Chosen<'a>
         ensures { result ≡ record { form = form; fields = fields.entry } }
     {
         Chosen { form, fields }

@@ -169,9 +169,7 @@ fn fields_of<'a>(form: &[u8], text: &'a [u8]) -> Option<Fields<'a>>
     let mut fields = Fields::new();
     let mut rest = text;
     for &sign in form {
-        let Some(taken) = take_sign(sign, fields, rest) else {
-            return None;
-        };
+        let taken = take_sign(sign, fields, rest)?;
         fields = taken.fields;
         rest = taken.rest;
     }

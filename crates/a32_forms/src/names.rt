@@ -26,7 +26,7 @@ pub fn place(start: u64, names: &[u8], word: &[u8]) -> Option<u64>
 }
 
 /// The number, 0 to 15, of a register by its name: r0 to r15, sp, lr or pc in lower case; `None` for any other word.
-pub fn register_of(word: &[u8]) -> Option<u64>
+pub(crate) fn register_of(word: &[u8]) -> Option<u64>
     ensures number { result ≡ register_of word.now }
     ensures bound { IfSome result (λ number. number < 16) }
 {
@@ -38,7 +38,7 @@ pub fn register_of(word: &[u8]) -> Option<u64>
 }
 
 /// The kind of shift by its name: 0 to 3 for lsl, lsr, asr and ror; `None` for any other word.
-pub fn shift_of(word: &[u8]) -> Option<u64>
+pub(crate) fn shift_of(word: &[u8]) -> Option<u64>
     ensures kind { result ≡ shift_of word.now }
     ensures bound { IfSome result (λ kind. kind < 4) }
 {

@@ -51,7 +51,7 @@ fn hexadecimal_of(digits: &[u8]) -> Option<u64>
 }
 
 /// The number that a word stands for, if it is one; 2 to the 32nd for each that 32 bits don't hold.
-pub fn number_of(word: &[u8]) -> Option<u64>
+pub(crate) fn number_of(word: &[u8]) -> Option<u64>
     ensures value { result ≡ number_of word.now }
     ensures bound { IfSome result (λ v. v ≤ 2 ^ 32) }
 {

@@ -80,9 +80,7 @@ pub fn registers_in(text: &[u8]) -> Option<u64>
     let mut lowest = 0;
     let mut list = 0;
     loop {
-        let Some(item) = range_of(cuts::before_code(rest, b',')) else {
-            return None;
-        };
+        let item = range_of(cuts::before_code(rest, b','))?;
         if !rises(lowest, item) {
             return None;
         }

@@ -21,14 +21,14 @@ fn is_letter(byte: u8) -> bool
 }
 
 /// Whether a byte may stand in a word: a letter, a digit or `_`.
-pub fn is_wordy(byte: u8) -> bool
+pub(crate) fn is_wordy(byte: u8) -> bool
     ensures { result ≡ is_wordy byte }
 {
     is_letter(byte) || is_digit(byte) || byte == b'_'
 }
 
 /// Whether a byte is a space or a tab.
-pub fn is_blank(byte: u8) -> bool
+pub(crate) fn is_blank(byte: u8) -> bool
     ensures { result ≡ is_blank byte }
 {
     byte == b' ' || byte == b'\t'

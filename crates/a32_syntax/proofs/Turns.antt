@@ -1,19 +1,8 @@
 -- Turns of eight bits.
-use Rattle.std.proofs.Common.{◌≡◌, ℕ, suc, ◌+◌, ◌-◌, ◌*◌, ◌%◌, ◌^◌, ◌<◌, ◌≤◌, nat_lt, Bool, if◌then◌else◌, Some, arith, ◌∙◌, ap}
+use Rattle.std.proofs.Common.{◌≡◌, ℕ, suc, ◌+◌, ◌-◌, ◌<◌, ◌≤◌, nat_lt, Bool, if◌then◌else◌, Some, arith, ◌∙◌, ap}
 use Rattle.std.specs.List.{find, range_with_len}
-use Rattle.std.proofs.Math.Nat.{mod-le}
-use Rattle.std.proofs.Math.Pow.{pow_mono}
-use Rattle.std.proofs.lemmas.Nat.{mul-le}
 use Rattle.std.proofs.lemmas.Bool.{lt-ltb, le-ltb}
 use Rattle.a32_syntax.specs.Meaning.{turned_back}
-
--- the part of a number that comes in at the top
-pub top_below : (x p b : ℕ) → x < 2 ^ 32 → b ≤ 32 → x % p * (1 * 2 ^ b % 18446744073709551616) ≤ 18446744069414584320
-top_below x p b small less =
-    let part : x % p ≤ 4294967295 = omega (arith, mod-le x p) in
-    let power : 2 ^ b ≤ 2 ^ 32 = pow_mono less in
-    let unit : 1 * 2 ^ b % 18446744073709551616 ≤ 4294967296 = omega (arith, power, mod-le (1 * 2 ^ b) 18446744073709551616) in
-    mul-le (x % p) (1 * 2 ^ b % 18446744073709551616) 4294967295 4294967296 part unit
 
 -- the turns that are left, from one of them on
 least_from : (p : ℕ → Bool) (turn : ℕ) → turn < 16

@@ -1,5 +1,5 @@
 //! Instructions that may name a label.
-ghost use Rattle.std.specs.Prelude.{◌≡◌, ℕ, List, None, Option};
+ghost use Rattle.std.specs.Prelude.{◌≡◌, ℕ, List, Option};
 ghost use Rattle.a32_forms.specs.Forms.{number_at};
 ghost use Rattle.a32_syntax.specs.Bounds.{IsWithin};
 ghost use Rattle.a32_syntax.specs.Meaning.{branch, movt, movw};
@@ -20,18 +20,6 @@ pub trait Labels {
     /// The address of a label; `None` where no label has that name.
     fn address(&self, name: &[u8]) -> Option<u32>
         ensures { result ≡ addresses self.now name.now };
-}
-
-/// No labels at all.
-#[derive(Clone, Copy, Debug, PartialEq, Eq)]
-pub struct NoLabels;
-
-impl Labels for NoLabels {
-    ghost addresses = { λ labels name. None };
-
-    fn address(&self, _name: &[u8]) -> Option<u32> {
-        None
-    }
 }
 
 /// MOVW (DDI 0406C A8.8.102): a number, or with `lo` the lower half of a label's address.

@@ -29,9 +29,7 @@ mod writing;
 
 pub use instructions::instruction_of;
 pub use kinds::AsmKind;
-pub use labels::{Labels, NoLabels};
-pub use mnemonics::{base, may_have_condition, may_set_flags};
-pub use operand_forms::operands_of;
+pub use labels::Labels;
 pub use operations::{Mnemonic, Operation};
 pub use readings::mnemonic_of;
 pub use worked::worked_instructions;

@@ -134,7 +134,7 @@ fn branch_reg_base(link: bool) -> &'static [u8]
 }
 
 /// The base of an operation's mnemonics.
-pub fn base(operation: Operation) -> &'static [u8]
+pub(crate) fn base(operation: Operation) -> &'static [u8]
     ensures { result.now ≡ base_of operation }
 {
     match operation {
@@ -164,7 +164,7 @@ pub fn base(operation: Operation) -> &'static [u8]
 }
 
 /// Whether an operation may set the flags by an `s`: a compare always does, and has none.
-pub fn may_set_flags(operation: Operation) -> bool
+pub(crate) fn may_set_flags(operation: Operation) -> bool
     ensures { result ≡ may_set_flags operation }
 {
     match operation {
@@ -175,7 +175,7 @@ pub fn may_set_flags(operation: Operation) -> bool
 }
 
 /// Whether an operation may have a condition (DDI 0406C A5.7: the others are unconditional).
-pub fn may_have_condition(operation: Operation) -> bool
+pub(crate) fn may_have_condition(operation: Operation) -> bool
     ensures { result ≡ may_have_condition operation }
 {
     !matches!(operation, Operation::Clrex | Operation::Barrier(_))

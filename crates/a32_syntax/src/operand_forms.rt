@@ -41,7 +41,7 @@ fn store_exclusive_operands(size: Size) -> &'static [u8]
 }
 
 /// The forms of an operation's operands, with `|` between.
-pub fn operands_of(operation: Operation) -> &'static [u8]
+pub(crate) fn operands_of(operation: Operation) -> &'static [u8]
     ensures forms { result.now ≡ operands_of operation }
     ensures room { IsTrue (have_room result.now) }
 {

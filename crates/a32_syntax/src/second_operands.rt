@@ -1,31 +1,27 @@
 //! Second operands of data processing, and shifts.
 ghost use Rattle.std.specs.Prelude.{◌≡◌, ◌<◌, ◌≤◌, ◌^◌, IfOk, IfSome};
 ghost use Rattle.a32_instr.specs.Fields.{shift_kind};
-ghost use Rattle.a32_syntax.specs.Meaning.{amount_of, least_turn, most_bits, number_and_turn, least_immediate, turned_back};
+ghost use Rattle.a32_syntax.specs.Meaning.{amount_of, least_immediate, least_turn, most_bits, number_and_turn, turned_back};
 
 use crate::kinds::AsmKind;
 use a32_instr::{Operand2, ShiftKind};
 
 /// A number turned back by a turn: left by twice as many bits.
-#[tactic(auto, unfolding(crate::specs::Meaning::turned_back, a32_instr::specs::Shift::turned))]
-fn turned_back(number: u64, turn: u32) -> u64
-    requires number { number < 2 ^ 32 }
-    requires turn { turn < 16 }
+#[tactic(auto, unfolding(crate::specs::Meaning::turned_back), using(crate::proofs::Rotation::rotate_left_is))]
+fn turned_back(number: u32, turn: u8) -> u32
+    requires { turn < 16 }
     ensures { result ≡ turned_back number turn }
 {
-    let bits = (32 - 2 * turn) % 32;
-    let unit = 1 << bits;
-    number / unit + number % unit * (1 << (32 - bits))
+    number.rotate_left(2 * u32::from(turn))
 }
 
 /// The least turn by which eight bits become the number.
-pub fn least_turn(number: u64) -> Option<u8>
-    requires { number < 2 ^ 32 }
+pub fn least_turn(number: u32) -> Option<u8>
     ensures turn { result ≡ least_turn number }
     ensures bound { IfSome result (λ turn. turn < 16) }
 {
     for turn in 0..16u8 {
-        if turned_back(number, u32::from(turn)) < 256 {
+        if turned_back(number, turn) < 256 {
             return Some(turn);
         }
     }
@@ -40,12 +36,13 @@ pub fn least_immediate(number: u64) -> Result<Operand2, AsmKind>
     if number > 0xffff_ffff {
         return Err(AsmKind::Range);
     }
+    let number = number as u32;
     let Some(turn) = least_turn(number) else {
         return Err(AsmKind::Range);
     };
     Ok(Operand2::Imm {
         turn,
-        imm8: turned_back(number, u32::from(turn)) as u8,
+        imm8: turned_back(number, turn) as u8,
     })
 }
 

@@ -47,7 +47,7 @@ fn show_immediate(turn: u8, imm8: u8, numbers: &mut Numbers) -> usize
     ensures numbers { numbers.new ≡ numbers.old ++ operand_numbers (Operand2.Imm turn imm8) }
 {
     if is_least(turn, imm8) {
-        numbers.push(immediate_number(turn, imm8));
+        numbers.push(u64::from(immediate_number(turn, imm8)));
         return 0;
     }
     numbers.push(u64::from(imm8));

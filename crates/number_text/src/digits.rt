@@ -11,7 +11,7 @@ pub fn is_digit(byte: u8) -> bool
 }
 
 /// Whether a byte is a hexadecimal digit, of either case.
-pub fn is_hex_digit(byte: u8) -> bool
+pub(crate) fn is_hex_digit(byte: u8) -> bool
     ensures { result ≡ is_hex_digit byte }
 {
     is_digit(byte) || (b'A' <= byte && byte <= b'F') || (b'a' <= byte && byte <= b'f')

@@ -9,7 +9,7 @@ pub mod laws;
 mod plain;
 mod write;
 
-pub use digits::{are_digits, are_hex_digits, digit_value, is_digit, is_hex_digit};
+pub use digits::{are_digits, are_hex_digits, digit_value, is_digit};
 pub use hexadecimal::{long_number, word_number};
 pub use plain::plain_number;
 pub use write::{write_decimal, write_long, write_text, write_word};

@@ -37,10 +37,7 @@ pub fn plain_number(word: &[u8]) -> Option<u64>
     }
     let mut number = 0u64;
     for &digit in word {
-        let Some(next) = with_digit(number, digit) else {
-            return None;
-        };
-        number = next;
+        number = with_digit(number, digit)?;
     }
     Some(number)
 }

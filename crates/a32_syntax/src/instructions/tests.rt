@@ -3,9 +3,20 @@ ghost use Rattle.std.specs.Prelude.{codes, if◌then◌else◌, None, Some};
 ghost use Rattle.std.specs.Str.{bytes_eq};
 
 use super::*;
-use crate::labels::NoLabels;
 use crate::readings::mnemonic_of;
 use a32_decode::decode;
+
+/// No labels at all.
+#[derive(Drop)]
+struct NoLabels;
+
+impl Labels for NoLabels {
+    ghost addresses = { λ labels name. None };
+
+    fn address(&self, _name: &[u8]) -> Option<u32> {
+        None
+    }
+}
 
 fn read<L: Labels>(
     mnemonic: &str,
