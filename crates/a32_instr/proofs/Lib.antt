@@ -2,3 +2,4 @@ pub mod Apart
 pub mod SilentCompare
 pub mod Meanings
 pub mod Pairs
+pub mod Rotation

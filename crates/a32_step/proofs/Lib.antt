@@ -1,6 +1,5 @@
 pub mod Amounts
 pub mod Follows
-mod Rotation
 pub mod Tested
 pub mod Words
 pub mod Lists

@@ -6,7 +6,6 @@ pub mod Formed
 pub mod Meant
 pub mod Fits
 pub mod Texts
-pub mod Rotation
 pub mod ShownAgain
 pub mod WorkedDecimals
 pub mod ShownCodes

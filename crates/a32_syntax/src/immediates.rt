@@ -5,7 +5,7 @@ ghost use Rattle.a32_syntax.specs.Shown.{immediate_number, is_least};
 use crate::second_operands::least_turn;
 
 /// The number of an immediate: its eight bits turned right (DDI 0406C A2.2.1, ROR).
-#[tactic(auto, using(crate::proofs::Rotation::rotate_right_is))]
+#[tactic(auto, using(a32_instr::proofs::Rotation::rotate_right_is))]
 pub fn immediate_number(turn: u8, imm8: u8) -> u32
     ensures { result ≡ immediate_number turn imm8 }
 {

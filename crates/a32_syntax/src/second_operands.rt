@@ -7,7 +7,7 @@ use crate::kinds::AsmKind;
 use a32_instr::{Operand2, ShiftKind};
 
 /// A number turned back by a turn: left by twice as many bits.
-#[tactic(auto, unfolding(crate::specs::Meaning::turned_back), using(crate::proofs::Rotation::rotate_left_is))]
+#[tactic(auto, unfolding(crate::specs::Meaning::turned_back), using(a32_instr::proofs::Rotation::rotate_left_is))]
 fn turned_back(number: u32, turn: u8) -> u32
     requires { turn < 16 }
     ensures { result ≡ turned_back number turn }

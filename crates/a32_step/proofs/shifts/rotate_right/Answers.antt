@@ -1,5 +1,5 @@
 use Rattle.std.proofs.Common.{◌∙◌}
-use Rattle.a32_step.proofs.Rotation.{rotate_right_is}
+use Rattle.a32_instr.proofs.Rotation.{rotate_right_is}
 use Rattle.a32_step.proofs.shifts.rotate_right.Goals as goal
 
 pub returns : goal.returns
