@@ -75,7 +75,7 @@ impl MemoryHost {
     }
 }
 
-// The bytes of the first file of that name.
+/// The bytes of the first file of that name.
 fn file_of<'a>(files: &'a [(String, Vec<u8>)], name: &str) -> Option<&'a [u8]>
     ensures { option_copied result ≡ file_of files.now name.now }
 {
@@ -85,7 +85,7 @@ fn file_of<'a>(files: &'a [(String, Vec<u8>)], name: &str) -> Option<&'a [u8]>
         .map(|file| file.1.as_slice())
 }
 
-// How many bytes the call lets through, where it is one that fails.
+/// How many bytes the call lets through, where it is one that fails.
 fn failure_at(failing: &[(u64, u32)], call: u64) -> Option<u32>
     ensures { result ≡ failure_at failing.now call }
 {
@@ -95,7 +95,7 @@ fn failure_at(failing: &[(u64, u32)], call: u64) -> Option<u32>
         .map(|pair| pair.1)
 }
 
-// A copy of a file's bytes, where there are `most` at most.
+/// A copy of a file's bytes, where there are `most` at most.
 fn copy_within(alloc: Global, bytes: &[u8], most: usize) -> Result<Vec<u8>, ReadFault>
     ensures { IsReadAnswer (bytes_within most (Some bytes.now)) result }
 {

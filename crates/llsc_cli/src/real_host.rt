@@ -10,7 +10,7 @@ use std::io::{ErrorKind, Read, Write};
 use std::rt::Files;
 use std::{fs, io};
 
-// How many bytes one read asks for at most.
+/// How many bytes one read asks for at most.
 const PIECE: usize = 8192;
 
 /// Reads files and writes to standard output, through a runtime. It keeps its two counts and the
@@ -75,7 +75,7 @@ impl<R: Files + Print> Host for RealHost<R> {
     }
 }
 
-// All that an opened file has left, of `most` bytes at most. One that could not be opened is a failed read.
+/// All that an opened file has left, of `most` bytes at most. One that could not be opened is a failed read.
 fn read_opened<F: Read + Drop>(
     alloc: Global,
     opened: io::Result<F>,
@@ -92,7 +92,7 @@ fn read_opened<F: Read + Drop>(
     }
 }
 
-// All that the reader has left, of `most` bytes at most. It takes no more than one byte past these.
+/// All that the reader has left, of `most` bytes at most. It takes no more than one byte past these.
 fn read_within<R: Read>(alloc: Global, file: &mut R, most: usize) -> Result<Vec<u8>, ReadFault>
     ensures whole { IfOk result (λ bytes. AreBytes (R.remaining file.old) bytes.items) }
     ensures fits { IfOk result (λ bytes. length bytes.items ≤ most) }
@@ -119,7 +119,7 @@ fn read_within<R: Read>(alloc: Global, file: &mut R, most: usize) -> Result<Vec<
     Err(ReadFault::Failed)
 }
 
-// Writes all of the bytes, or answers false after some of them.
+/// Writes all of the bytes, or answers false after some of them.
 fn write_whole<W: Write>(output: &mut W, bytes: &[u8]) -> bool
     ensures whole { IsTrue result → Adds (W.contents output.old) (W.contents output.new) bytes.now }
     ensures front { AddsFront (W.contents output.old) (W.contents output.new) bytes.now }

@@ -19,7 +19,7 @@ mod products;
 mod shifts;
 mod transcripts;
 
-// An image whose first instruction is this word.
+/// An image whose first instruction is this word.
 fn image(alloc: Global, word: u32) -> Result<Image, Fail> {
     let size = MachineSize::new(65_536, 1, 1, 1)?;
     Ok(Image::flat(alloc, &word.to_le_bytes(), &size)?)
@@ -34,7 +34,7 @@ fn flags_of(bits: u32) -> Flags {
     }
 }
 
-// A core before the first instruction of an image, with these registers and flags.
+/// A core before the first instruction of an image, with these registers and flags.
 #[tactic(auto, using(crate::proofs::Words::words_none, crate::proofs::Words::words_more))]
 fn cpu(r0: u32, r1: u32, r2: u32, r3: u32, flags: u32) -> Cpu
     ensures { IsReady result.phase }
@@ -45,7 +45,7 @@ fn cpu(r0: u32, r1: u32, r2: u32, r3: u32, flags: u32) -> Cpu
     )
 }
 
-// The same with all its registers given.
+/// The same with all its registers given.
 #[tactic(auto, using(crate::proofs::Words::words_none, crate::proofs::Words::words_more))]
 fn cpu_with(regs: [u32; 15], flags: u32) -> Cpu
     ensures { IsReady result.phase }
@@ -61,7 +61,7 @@ fn number(text: Option<&str>) -> Result<u32, Fail> {
     Ok(u32::from_str_radix(text.ok_or("a row is short")?, 16)?)
 }
 
-// Whether the core does what a row says.
+/// Whether the core does what a row says.
 fn agrees(alloc: Global, row: &str) -> Result<bool, Fail> {
     if row.starts_with(';') {
         return Ok(true);

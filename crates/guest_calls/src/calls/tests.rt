@@ -6,10 +6,10 @@ use std::alloc::Global;
 use std::process::Abort;
 use std::test::Fail;
 
-// r0 of a core whose call isn't answered.
+/// r0 of a core whose call isn't answered.
 const KEPT: u32 = 77;
 
-// An output of so many bytes.
+/// An output of so many bytes.
 fn written(alloc: Global, count: u32) -> Result<Output, Fail> {
     let mut output = Output::new(alloc)?;
     for _ in 0..count {
@@ -20,7 +20,7 @@ fn written(alloc: Global, count: u32) -> Result<Output, Fail> {
     Ok(output)
 }
 
-// What becomes of a call, and r0 afterwards.
+/// What becomes of a call, and r0 afterwards.
 fn made(alloc: Global, ask: CallAsk, count: u32, mem: u32) -> Result<(CallStep, u32), Fail> {
     let size = MachineSize::new(65_536, 1, 1, 1)?;
     let image = Image::flat(alloc, &[0, 0, 0, 0xef], &size)?;
@@ -33,7 +33,7 @@ fn made(alloc: Global, ask: CallAsk, count: u32, mem: u32) -> Result<(CallStep, 
     Ok((step, cpu.reg(0)))
 }
 
-// A call, the bytes written before and those of memory; what becomes of it, and r0 afterwards.
+/// A call, the bytes written before and those of memory; what becomes of it, and r0 afterwards.
 #[derive(Clone, Copy)]
 struct Case {
     ask: CallAsk,
@@ -43,7 +43,7 @@ struct Case {
     r0: u32,
 }
 
-// The call of a number by an immediate, with r0, r1 and r2.
+/// The call of a number by an immediate, with r0, r1 and r2.
 fn call(number: u32, imm: u32, a: u32, b: u32, c: u32) -> CallAsk {
     CallAsk {
         imm,
@@ -54,12 +54,12 @@ fn call(number: u32, imm: u32, a: u32, b: u32, c: u32) -> CallAsk {
     }
 }
 
-// The write of so many bytes from an address up.
+/// The write of so many bytes from an address up.
 fn write_of(descriptor: u32, from: u32, len: u32) -> CallAsk {
     call(4, 0, descriptor, from, len)
 }
 
-// A call that ends the thread.
+/// A call that ends the thread.
 fn exits(ask: CallAsk, code: u8) -> Case {
     Case {
         ask,
@@ -70,7 +70,7 @@ fn exits(ask: CallAsk, code: u8) -> Case {
     }
 }
 
-// A call that is answered.
+/// A call that is answered.
 fn answers(ask: CallAsk, written: u32, mem: u32, r0: u32) -> Case {
     Case {
         ask,
@@ -81,7 +81,7 @@ fn answers(ask: CallAsk, written: u32, mem: u32, r0: u32) -> Case {
     }
 }
 
-// A write that wants its bytes.
+/// A write that wants its bytes.
 fn wants_bytes(ask: CallAsk, written: u32, mem: u32, from: u32, len: u32) -> Case {
     Case {
         ask,
@@ -92,7 +92,7 @@ fn wants_bytes(ask: CallAsk, written: u32, mem: u32, from: u32, len: u32) -> Cas
     }
 }
 
-// Makes the call of each case.
+/// Makes the call of each case.
 fn make(rt: &impl Abort, alloc: Global, cases: &[Case]) -> Result<(), Fail> {
     for case in cases {
         let (ask, want) = (case.ask, (case.step, case.r0));

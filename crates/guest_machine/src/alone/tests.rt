@@ -3,8 +3,8 @@ use super::*;
 use a32_step::Stop;
 use std::test::Fail;
 
-// Adds 7 at 0x2000 by a load-exclusive and a store-exclusive, stores there once more by another that fails, writes the
-// byte, and leaves with 5.
+/// Adds 7 at 0x2000 by a load-exclusive and a store-exclusive, stores there once more by another that fails, writes the
+/// byte, and leaves with 5.
 const COUNTS: &[u32] = &[
     0xe3a0_1a02,
     0xe191_0f9f,

@@ -7,7 +7,7 @@ use history::{Access, Deed};
 use llsc_base::{Place, Size};
 use std::test::Fail;
 
-// Stores its number at 0x2000, loads it from there, and leaves with 0.
+/// Stores its number at 0x2000, loads it from there, and leaves with 0.
 const STORES: &[u32] = &[
     0xe3a0_2a02,
     0xe582_0000,
@@ -17,7 +17,7 @@ const STORES: &[u32] = &[
     0xef00_0000,
 ];
 
-// Adds 7 at 0x2000 by a load-exclusive and a store-exclusive, and leaves with 1 if that failed.
+/// Adds 7 at 0x2000 by a load-exclusive and a store-exclusive, and leaves with 1 if that failed.
 const ADDS: &[u32] = &[
     0xe3a0_1a02,
     0xe191_0f9f,
@@ -28,7 +28,7 @@ const ADDS: &[u32] = &[
     0xef00_0000,
 ];
 
-// The same with CLREX in place of the sum.
+/// The same with CLREX in place of the sum.
 const CLEARS: &[u32] = &[
     0xe3a0_1a02,
     0xe191_0f9f,
@@ -39,7 +39,7 @@ const CLEARS: &[u32] = &[
     0xef00_0000,
 ];
 
-// Loads over and over.
+/// Loads over and over.
 const LOADS: &[u32] = &[0xe590_0000, 0xeaff_fffd];
 
 #[tactic(auto, using(crate::proofs::FlatImages::flat_sized))]
@@ -61,7 +61,7 @@ fn traced(
     Ok(trace(alloc, &image, &size, 0, budget))
 }
 
-// An access of the word at 0x2000.
+/// An access of the word at 0x2000.
 fn access(thread: u32, deed: Deed, value: u64) -> Access {
     Access {
         thread,
@@ -74,7 +74,7 @@ fn access(thread: u32, deed: Deed, value: u64) -> Access {
     }
 }
 
-// A thread's stop, its steps, its loads, its stores, and its store-exclusives that failed.
+/// A thread's stop, its steps, its loads, its stores, and its store-exclusives that failed.
 fn shown(end: &GuestEnd) -> (Stop, u64, u64, u64, u64) {
     (end.stop, end.steps, end.reads, end.writes, end.fails)
 }

@@ -6,7 +6,7 @@ use llsc_base::MachineSize;
 use std::alloc::Global;
 use std::test::Fail;
 
-// Writes the two bytes behind its last word, from 0x1020 up, and leaves with 0.
+/// Writes the two bytes behind its last word, from 0x1020 up, and leaves with 0.
 const WRITES: &[u32] = &[
     0xe3a0_0001,
     0xe28f_1014,
@@ -19,7 +19,7 @@ const WRITES: &[u32] = &[
     0x0000_6948,
 ];
 
-// Loads the byte at r1, which is 1, stores it there, and leaves with it.
+/// Loads the byte at r1, which is 1, stores it there, and leaves with it.
 const COPIES: &[u32] = &[0xe5d1_0000, 0xe5c1_0000, 0xe3a0_7001, 0xef00_0000];
 
 fn image(alloc: Global, words: &[u32]) -> Result<Image, Fail> {
@@ -38,7 +38,7 @@ fn byte_place(addr: u32) -> Place {
     }
 }
 
-// The stop, the steps and the output of a guest that asks for just these accesses, with these replies.
+/// The stop, the steps and the output of a guest that asks for just these accesses, with these replies.
 #[tactic(auto, using(crate::proofs::Tested::takes_byte))]
 fn ended(
     image: &Image,

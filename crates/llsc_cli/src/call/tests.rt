@@ -13,12 +13,12 @@ mod runs;
 mod traces;
 mod words;
 
-// A program that leaves with code 0 in three steps, and its report.
+/// A program that leaves with code 0 in three steps, and its report.
 const LEAVE: &[u32] = &[0xe3a0_0000, 0xe3a0_7001, 0xef00_0000];
 
 const LEFT: &str = "thread 0 stop exit 0 steps 3 out 0\n\nreads 0 writes 0 fails 0\n";
 
-// The same program as an ELF file.
+/// The same program as an ELF file.
 const LEAVE_FILE: &[u32] = &[
     0x464c457f, 0x00010101, 0, 0, 0x00280002, 1, 0x1000, 52, 0, 0x05000000, 0x00200034, 2, 0, // header
     1, 116, 0x1000, 0x1000, 12, 12, 5, 4, // code
@@ -26,7 +26,7 @@ const LEAVE_FILE: &[u32] = &[
     0xe3a00000, 0xe3a07001, 0xef000000,
 ];
 
-// The words of a call, with single spaces between them, as texts of their own.
+/// The words of a call, with single spaces between them, as texts of their own.
 fn owned(alloc: Global, words: &str) -> Result<Vec<String>, AllocError> {
     let mut texts = Vec::new(alloc);
     if words.is_empty() {
@@ -38,7 +38,7 @@ fn owned(alloc: Global, words: &str) -> Result<Vec<String>, AllocError> {
     Ok(texts)
 }
 
-// The bytes of a program's words, each from its low byte on.
+/// The bytes of a program's words, each from its low byte on.
 fn bytes_of(alloc: Global, program: &[u32]) -> Result<Vec<u8>, AllocError> {
     let mut bytes = Vec::new(alloc);
     for word in program {
@@ -47,10 +47,10 @@ fn bytes_of(alloc: Global, program: &[u32]) -> Result<Vec<u8>, AllocError> {
     Ok(bytes)
 }
 
-// The call of a host that fails, with what it lets through.
+/// The call of a host that fails, with what it lets through.
 type Failing = (u64, u32);
 
-// A call over a host whose one file `p` holds these bytes: its status, and the host behind it.
+/// A call over a host whose one file `p` holds these bytes: its status, and the host behind it.
 fn called(
     alloc: Global,
     words: &str,
@@ -62,7 +62,7 @@ fn called(
     over(alloc, words, files, failing, space)
 }
 
-// A call over a host that holds these files: its status, and the host behind it.
+/// A call over a host that holds these files: its status, and the host behind it.
 fn over(
     alloc: Global,
     words: &str,

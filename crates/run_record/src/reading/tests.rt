@@ -4,7 +4,7 @@ use crate::printing::print_record;
 
 const NO_ACCESS: &str = "llsc-run 1 threads 16 budget 1000000000000 accesses 0\n";
 
-// A word loaded, and stored by both threads, of which one fails; and an access of each other kind.
+/// A word loaded, and stored by both threads, of which one fails; and an access of each other kind.
 const RUN: &str = "llsc-run 1 threads 2 budget 10000 accesses 8\n\
     0 loadex 4 00002000 0000000000000000\n\
     1 loadex 4 00002000 0000000000000000\n\

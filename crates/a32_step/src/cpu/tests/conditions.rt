@@ -2,7 +2,7 @@
 
 use super::*;
 
-// A move of 1 to r0 under each condition, and the flags at which it was done: bit F is set for flags F.
+/// A move of 1 to r0 under each condition, and the flags at which it was done: bit F is set for flags F.
 const CONDITIONS: [[u32; 2]; 15] = [
     [0x03a00001, 0xf0f0],
     [0x13a00001, 0x0f0f],
@@ -39,7 +39,7 @@ fn passes_conditions(rt: HostRuntime) -> Result<(), Fail> {
     Ok(())
 }
 
-// `mov pc, r1`: the PC takes a multiple of 4, and nothing else (DDI 0406C A2.3.2, BXWritePC).
+/// `mov pc, r1`: the PC takes a multiple of 4, and nothing else (DDI 0406C A2.3.2, BXWritePC).
 #[test]
 fn writes_the_pc(rt: HostRuntime) -> Result<(), Fail> {
     let image = image(rt.alloc(), 0xe1a0_f001)?;

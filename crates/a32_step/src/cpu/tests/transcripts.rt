@@ -10,7 +10,7 @@ use a32_instr::Ask;
 use std::process::Abort;
 use std::str::SplitWhitespace;
 
-// The registers that stand in a row.
+/// The registers that stand in a row.
 #[derive(Clone, Copy)]
 struct Start {
     word: u32,
@@ -18,14 +18,14 @@ struct Start {
     regs: [u32; 15],
 }
 
-// The register and the value of a text such as `r1=2000`.
+/// The register and the value of a text such as `r1=2000`.
 fn assignment(text: &str) -> Result<(usize, u32), Fail> {
     let (name, value) = text.split_once('=').ok_or("a register has no value")?;
     let digits = name.strip_prefix('r').ok_or("no register's name")?;
     Ok((digits.parse()?, number(Some(value))?))
 }
 
-// The word, the flags and the registers of a row's first part.
+/// The word, the flags and the registers of a row's first part.
 fn start_in(part: &str) -> Result<Start, Fail> {
     let mut words = part.split_whitespace();
     let word = number(words.next())?;
@@ -38,7 +38,7 @@ fn start_in(part: &str) -> Result<Start, Fail> {
     Ok(Start { word, flags, regs })
 }
 
-// The text of an access.
+/// The text of an access.
 fn access_text(alloc: Global, ask: Ask) -> Result<String, Fail> {
     match ask {
         Ask::Load(place) => {
@@ -52,7 +52,7 @@ fn access_text(alloc: Global, ask: Ask) -> Result<String, Fail> {
     }
 }
 
-// The text of a stop.
+/// The text of a stop.
 fn stop_text(alloc: Global, stop: Stop) -> Result<String, Fail> {
     match stop {
         Stop::Alignment(addr) => Ok(format!(in alloc; "alignment {addr:x}")?),
@@ -64,7 +64,7 @@ fn stop_text(alloc: Global, stop: Stop) -> Result<String, Fail> {
     }
 }
 
-// The reply to an access: a load has the next of these values.
+/// The reply to an access: a load has the next of these values.
 fn reply_to(ask: Ask, values: &mut SplitWhitespace) -> Result<u64, Fail> {
     match ask {
         Ask::Load(_) => Ok(u64::from(number(values.next())?)),
@@ -72,7 +72,7 @@ fn reply_to(ask: Ask, values: &mut SplitWhitespace) -> Result<u64, Fail> {
     }
 }
 
-// The accesses of the core's next instruction, whose loads get these values, and its end.
+/// The accesses of the core's next instruction, whose loads get these values, and its end.
 fn steps(alloc: Global, image: &Image, cpu: &mut Cpu, values: &str) -> Result<String, Fail>
     requires { IsReady cpu.old.phase }
 {
@@ -98,7 +98,7 @@ fn steps(alloc: Global, image: &Image, cpu: &mut Cpu, values: &str) -> Result<St
     Err("no end")?
 }
 
-// The transcript of the instruction with which a row begins.
+/// The transcript of the instruction with which a row begins.
 fn transcript(alloc: Global, first: &str, values: &str) -> Result<String, Fail> {
     let start = start_in(first)?;
     let image = image(alloc, start.word)?;
@@ -118,7 +118,7 @@ fn transcript(alloc: Global, first: &str, values: &str) -> Result<String, Fail> 
     Ok(text)
 }
 
-// Each row's transcript is the one that stands in it.
+/// Each row's transcript is the one that stands in it.
 pub(super) fn check(rt: &impl Abort, alloc: Global, rows: &str) -> Result<(), Fail> {
     for row in rows.lines() {
         if row.starts_with(';') {

@@ -1,7 +1,7 @@
 //! Texts that are assembled, and those that are refused.
 use super::*;
 
-// The text of the program that leaves with code 0.
+/// The text of the program that leaves with code 0.
 const LEAVE_TEXT: &str = "mov r0, #0\n mov r7, #1 @ exit\nsvc #0";
 
 #[test]

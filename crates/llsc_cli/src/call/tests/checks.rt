@@ -3,12 +3,12 @@ use super::runs::{EXCLUSIVES, UNMARKED};
 use super::traces::{EACH, TURNS};
 use super::*;
 
-// The lines of the one run of the exclusives.
+/// The lines of the one run of the exclusives.
 const FIRST: &str = "0 loadex 4 00002000 0000000000000000\n";
 
 const SECOND: &str = "0 storeex 4 00002000 0000000000000007\n";
 
-// A call over a host whose file `p` holds a program and `r` a record's text.
+/// A call over a host whose file `p` holds a program and `r` a record's text.
 fn checked(
     alloc: Global,
     words: &str,

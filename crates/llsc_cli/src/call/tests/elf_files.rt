@@ -1,7 +1,7 @@
 //! ELF files that are run, and files that are none.
 use super::*;
 
-// A program as the GNU linker lays it out: it loads a word of its data and the zero behind it, and leaves with their sum.
+/// A program as the GNU linker lays it out: it loads a word of its data and the zero behind it, and leaves with their sum.
 const LINKED: [u32; 53] = [
     0x464c457f, 0x00010101, 0, 0, 0x00280002, 1, 0x100b4, 52, 0, 0x05000200, 0x00200034, 4, 0, // header
     0x70000001, 0xc8, 0x100c8, 0x100c8, 8, 8, 4, 4, // exception index

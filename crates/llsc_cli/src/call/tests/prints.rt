@@ -1,7 +1,7 @@
 //! Guests that call, and what they print.
 use super::*;
 
-// Writes `he` and `llo`, and leaves with code 0.
+/// Writes `he` and `llo`, and leaves with code 0.
 const HELLO: &[u32] = &[
     0xe28f_1028, // adr r1, the text
     0xe3a0_0001, // mov r0, #1
@@ -19,7 +19,7 @@ const HELLO: &[u32] = &[
     0x0000_006f,
 ];
 
-// Writes 16,384 bytes four times and then one more, whose answer is the code.
+/// Writes 16,384 bytes four times and then one more, whose answer is the code.
 const FILL: &[u32] = &[
     0xe3a0_1a02, // mov r1, #0x2000
     0xe3a0_2901, // mov r2, #0x4000
@@ -36,12 +36,12 @@ const FILL: &[u32] = &[
     0xef00_0000, // svc #0
 ];
 
-// Writes a byte to descriptor 3, and leaves with the answer.
+/// Writes a byte to descriptor 3, and leaves with the answer.
 const NOWHERE: &[u32] = &[
     0xe3a00003, 0xe3a02001, 0xe3a07004, 0xef000000, 0xe3a07001, 0xef000000,
 ];
 
-// Writes its own first two bytes, and stops.
+/// Writes its own first two bytes, and stops.
 const STOP: &[u32] = &[
     0xe3a00001, 0xe3a01a01, 0xe3a02002, 0xe3a07004, 0xef000000, 0xffffffff,
 ];

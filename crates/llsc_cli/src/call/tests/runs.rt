@@ -1,12 +1,12 @@
 //! Flat programs that are run, and files that are none.
 use super::*;
 
-// A load-exclusive of a word, a sum, and a store-exclusive, whose status is the code.
+/// A load-exclusive of a word, a sum, and a store-exclusive, whose status is the code.
 pub const EXCLUSIVES: &[u32] = &[
     0xe3a01a02, 0xe1910f9f, 0xe2800007, 0xe1812f90, 0xe1a00002, 0xe3a07001, 0xef000000,
 ];
 
-// A store-exclusive with no load-exclusive before it, whose status is the code.
+/// A store-exclusive with no load-exclusive before it, whose status is the code.
 pub const UNMARKED: &[u32] = &[0xe3a01a02, 0xe1812f90, 0xe1a00002, 0xe3a07001, 0xef000000];
 
 #[test]

@@ -2,12 +2,12 @@
 use super::runs::{EXCLUSIVES, UNMARKED};
 use super::*;
 
-// Stores the thread's number at 0x2000, loads what is there, and leaves with code 0.
+/// Stores the thread's number at 0x2000, loads what is there, and leaves with code 0.
 pub const EACH: &[u32] = &[
     0xe3a02a02, 0xe5820000, 0xe5921000, 0xe3a00000, 0xe3a07001, 0xef000000,
 ];
 
-// The record of two such threads by the seed 0: the first turns are those of threads 1, 0 and 1.
+/// The record of two such threads by the seed 0: the first turns are those of threads 1, 0 and 1.
 pub const TURNS: &str = "llsc-run 1 threads 2 budget 10000 accesses 4\n\
     1 store 4 00002000 0000000000000001\n\
     0 store 4 00002000 0000000000000000\n\

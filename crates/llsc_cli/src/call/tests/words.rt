@@ -26,7 +26,7 @@ fn reads_options(rt: HostRuntime) -> Result<(), Fail> {
     Ok(())
 }
 
-// Words that ask for nothing.
+/// Words that ask for nothing.
 const REFUSED: &[&str] = &[
     // no command, one that there isn't, and no file
     "",
