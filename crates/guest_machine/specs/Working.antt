@@ -14,8 +14,9 @@ use Rattle.guest_machine.specs.Alone.{IsAlone}
 use Rattle.guest_machine.specs.Counting.{AreCounts, accesses_counted}
 use Rattle.guest_machine.specs.declared.alone.Alone.{Alone}
 
--- it may be asked what it does next; its instruction has had 16 replies at most, and its output is no longer than it may be; its memory
--- is as long as the program's and has one thread; and its counts together are no more than how far it has come
+-- it may be asked what it does next; its instruction has had 16 replies at most, and its output is no longer than it may
+-- be; its memory is as long as the program's and has one thread; and its counts together are no more than how far it has
+-- come
 pub record IsWorking (program : Program) (budget : ℕ) (alone : Alone) : Type 0 where
   pub ready : IsReadyIn (length program.bytes) budget alone.guest
   pub bounded : IsBounded alone.guest

@@ -57,8 +57,8 @@ abbrev pub flight_of : ℕ → List Entry → Option Place
 flight_of thread history = flight_since thread (since_last (begin_of thread) history)
 
 -- a store-exclusive of a thread may fail for a cause: it holds no reservation on the row; it holds one, and a write of
--- another in the class, or its load-exclusive with a reservation, has begun since; it holds one, no write of another in the class has begun since, and the
--- class has had as many Writes as it may have
+-- another in the class, or its load-exclusive with a reservation, has begun since; it holds one, no write of another in
+-- the class has begun since, and the class has had as many Writes as it may have
 abbrev pub MayFail : Numbers → List Entry → ℕ → Place → Cause → Type 0
 MayFail size past thread place Absent = reservation_of size.classes thread past ≢ Some (row_of place)
 MayFail size past thread place Lost =

@@ -6,7 +6,8 @@ use llsc_base::Place;
 pub enum Cause {
     /// Its thread held no reservation on the row.
     Absent,
-    /// Another thread's access of the class has begun since the reservation.
+    /// A write of another thread in the class, or its load-exclusive with a reservation, has begun since the
+    /// reservation.
     Lost,
     /// The class has had as many writes as it may have.
     Limit,
