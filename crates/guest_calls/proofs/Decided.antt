@@ -207,10 +207,11 @@ came replies program budget start _ _ _ _ (prints pairs machine steps output cal
 
 -- ---- a run at rest
 
--- how a run rests: it has ended, with its accesses and replies, its stop, its steps and its output; or it asks an access
+-- how a run rests: it has ended, with its accesses and replies, its stop, its steps and its output; or it asks an access,
+-- with its steps and its output before the instruction
 pub data Rest : Type 0 where
   ended : List Pair → Stop → ℕ → List ℕ → Rest
-  asking : Ask → Rest
+  asking : Ask → ℕ → List ℕ → Rest
 
 -- how it rests where its steps are used up
 abbrev spent_at : Spot → Rest
@@ -221,11 +222,11 @@ spent_at spot = ended spot.pairs Budget spot.steps spot.output
 abbrev pub rest_by_call : ℕ → Spot → CallEffect → Rest
 rest_by_call loaded spot (exits code) = ended spot.pairs (Exit code) (spot.steps + 1) spot.output
 rest_by_call loaded spot (answers answer) = spent_at spot
-rest_by_call loaded spot (writes_bytes from count) = asking (byte_load (from + loaded))
+rest_by_call loaded spot (writes_bytes from count) = asking (byte_load (from + loaded)) spot.steps spot.output
 
 -- how it rests by an effect; an instruction that is complete counts for nothing either
 abbrev pub rest_by : Program → ℕ → Spot → Effect → Rest
-rest_by program loaded spot (asks ask) = asking ask
+rest_by program loaded spot (asks ask) = asking ask spot.steps spot.output
 rest_by program loaded spot (calls call) = rest_by_call loaded spot (effect_of_call program call (length spot.output))
 rest_by program loaded spot (completes state) = spent_at spot
 rest_by program loaded spot (stops stop) = ended spot.pairs stop spot.steps spot.output

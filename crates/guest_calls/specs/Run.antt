@@ -1,12 +1,13 @@
 -- A run of one guest thread, over whatever replies to its accesses.
 use Rattle.std.specs.Prelude.{◌≡◌, ℕ, ◌+◌, ◌<◌, List, [], ◌∷◌, ◌++◌, length}
 use Rattle.llsc_base.specs.Images.{Program}
+use Rattle.llsc_base.specs.declared.access.Place.{Place}
 use Rattle.llsc_base.specs.declared.access.Size.TheVariants.{B1}
 use Rattle.a32_instr.specs.declared.outside.Ask.{Ask}
-use Rattle.a32_instr.specs.declared.outside.Ask.TheVariants.{Load}
+use Rattle.a32_instr.specs.declared.outside.Ask.TheVariants.{Load, Store}
 use Rattle.a32_instr.specs.declared.outside.CallAsk.{CallAsk}
 use Rattle.a32_instr.specs.declared.outside.Stop.{Stop}
-use Rattle.a32_instr.specs.declared.outside.Stop.TheVariants.{Exit, Budget}
+use Rattle.a32_instr.specs.declared.outside.Stop.TheVariants.{Exit, Budget, TagLimit}
 use Rattle.a32_instr.specs.State.{State, asks, calls, completes, stops, answered}
 use Rattle.a32_step.specs.Machine.{Machine, next_effect, after_next, given, between}
 use Rattle.guest_calls.specs.Calls.{CallEffect, exits, answers, writes_bytes, call_effect}
@@ -32,34 +33,48 @@ byte_loads from (byte ∷ bytes) = (byte_load from, byte) ∷ byte_loads (from +
 abbrev pub effect_of_call : Program → CallAsk → ℕ → CallEffect
 effect_of_call program call written = call_effect call (length program.bytes) written
 
--- From its start a thread comes to a machine and a number of steps, with these accesses and replies in order, and with
+-- how far a run has come: its machine, its steps and its output
+pub record Point : Type 0 where
+  pub machine : Machine
+  pub steps : ℕ
+  pub output : List ℕ
+
+-- a thread that has made no step and written nothing
+abbrev pub first_point : Machine → Point
+first_point start = record { machine = start; steps = 0; output = [] }
+
+-- From a point a thread comes to a machine and a number of steps, with these accesses and replies in order, and with
 -- this output. No instruction begins once the steps are the budget. An instruction that is complete is one step, and so
 -- is a guest call that was answered: a write loads its bytes first, each reply is a byte of the output, and its answer
 -- is their number.
-pub data Reaches (program : Program) (budget : ℕ) (start : Machine) : List Pair → Machine → ℕ → List ℕ → Type 0 where
-  begins : Reaches program budget start [] start 0 []
+pub data ReachesFrom (program : Program) (budget : ℕ) (from : Point) : List Pair → Machine → ℕ → List ℕ → Type 0 where
+  begins : ReachesFrom program budget from [] from.machine from.steps from.output
   accesses : (pairs : List Pair) (machine : Machine) (steps : ℕ) (output : List ℕ) (ask : Ask) (reply : ℕ)
-      → Reaches program budget start pairs machine steps output
+      → ReachesFrom program budget from pairs machine steps output
       → steps < budget
       → next_effect program machine ≡ asks ask
-      → Reaches program budget start (pairs ++ (ask, reply) ∷ []) (given (after_next program machine) reply) steps output
+      → ReachesFrom program budget from (pairs ++ (ask, reply) ∷ []) (given (after_next program machine) reply) steps output
   steps_on : (pairs : List Pair) (machine : Machine) (steps : ℕ) (output : List ℕ) (state : State)
-      → Reaches program budget start pairs machine steps output
+      → ReachesFrom program budget from pairs machine steps output
       → steps < budget
       → next_effect program machine ≡ completes state
-      → Reaches program budget start pairs (after_next program machine) (steps + 1) output
+      → ReachesFrom program budget from pairs (after_next program machine) (steps + 1) output
   returns : (pairs : List Pair) (machine : Machine) (steps : ℕ) (output : List ℕ) (call : CallAsk) (answer : ℕ)
-      → Reaches program budget start pairs machine steps output
+      → ReachesFrom program budget from pairs machine steps output
       → steps < budget
       → next_effect program machine ≡ calls call
       → effect_of_call program call (length output) ≡ answers answer
-      → Reaches program budget start pairs (returned (after_next program machine) answer) (steps + 1) output
-  prints : (pairs : List Pair) (machine : Machine) (steps : ℕ) (output : List ℕ) (call : CallAsk) (from : ℕ) (bytes : List ℕ)
-      → Reaches program budget start pairs machine steps output
+      → ReachesFrom program budget from pairs (returned (after_next program machine) answer) (steps + 1) output
+  prints : (pairs : List Pair) (machine : Machine) (steps : ℕ) (output : List ℕ) (call : CallAsk) (addr : ℕ) (bytes : List ℕ)
+      → ReachesFrom program budget from pairs machine steps output
       → steps < budget
       → next_effect program machine ≡ calls call
-      → effect_of_call program call (length output) ≡ writes_bytes from (length bytes)
-      → Reaches program budget start (pairs ++ byte_loads from bytes) (returned (after_next program machine) (length bytes)) (steps + 1) (output ++ bytes)
+      → effect_of_call program call (length output) ≡ writes_bytes addr (length bytes)
+      → ReachesFrom program budget from (pairs ++ byte_loads addr bytes) (returned (after_next program machine) (length bytes)) (steps + 1) (output ++ bytes)
+
+-- a thread comes so far from its start
+abbrev pub Reaches : Program → ℕ → Machine → List Pair → Machine → ℕ → List ℕ → Type 0
+Reaches program budget start = ReachesFrom program budget (first_point start)
 
 -- How a thread ends, with the accesses and replies that it had, its steps and its output: at a stop, which is no step;
 -- by the exit call, which is one; or where its steps are the budget, between two instructions.
@@ -78,6 +93,18 @@ pub data Ends (program : Program) (budget : ℕ) (start : Machine) : List Pair �
   spends : (pairs : List Pair) (machine : Machine) (output : List ℕ)
       → Reaches program budget start pairs machine budget output
       → Ends program budget start pairs Budget budget output
+
+-- How a thread ends on a memory whose classes of rows take a limited number of writes: as above; or at a store that memory
+-- refuses, with its steps and its output before the instruction. Where memory may refuse one is for the history to say.
+pub data EndsOn (program : Program) (budget : ℕ) (start : Machine) : List Pair → Stop → ℕ → List ℕ → Type 0 where
+  by_itself : (pairs : List Pair) (stop : Stop) (steps : ℕ) (output : List ℕ)
+      → Ends program budget start pairs stop steps output
+      → EndsOn program budget start pairs stop steps output
+  by_limit : (pairs : List Pair) (machine : Machine) (steps : ℕ) (output : List ℕ) (place : Place) (value : ℕ)
+      → Reaches program budget start pairs machine steps output
+      → steps < budget
+      → next_effect program machine ≡ asks (Store place value)
+      → EndsOn program budget start pairs (TagLimit place.addr) steps output
 
 -- What a thread asks next, with these accesses and replies behind it: what the instruction in hand asks, or the load of
 -- the next byte of a write.

@@ -4,13 +4,22 @@ ghost use Rattle.llsc_base.specs.Images.{Program};
 ghost use Rattle.a32_instr.specs.declared.outside.Ask.{Ask};
 ghost use Rattle.a32_instr.specs.declared.outside.Stop.{Stop};
 ghost use Rattle.a32_step.specs.Machine.{Machine};
-ghost use Rattle.guest_calls.specs.Run.{Pair, Ends, Asks};
+ghost use Rattle.guest_calls.specs.Run.{Pair, Ends, EndsOn, Asks};
 
 /// A guest thread that starts so, with this budget and these accesses and replies, has one end at most: its stop, its
 /// steps and its output.
 pub fn runs_have_one_end()
     ensures { (program : Program) (budget : ℕ) (start : Machine) (pairs : List Pair) (stop other : Stop) (steps count : ℕ) (output text : List ℕ) →
         Ends program budget start pairs stop steps output → Ends program budget start pairs other count text →
+        (stop ≡ other) × (steps ≡ count) × (output ≡ text) }
+{}
+
+/// The same on a memory whose classes of rows take a limited number of writes: a thread that is stopped at a store which such a
+/// memory refuses has no other end.
+#[tactic(auto, using(crate::proofs::Asked::one_end_on))]
+pub fn runs_have_one_end_on_limits()
+    ensures { (program : Program) (budget : ℕ) (start : Machine) (pairs : List Pair) (stop other : Stop) (steps count : ℕ) (output text : List ℕ) →
+        EndsOn program budget start pairs stop steps output → EndsOn program budget start pairs other count text →
         (stop ≡ other) × (steps ≡ count) × (output ≡ text) }
 {}
 

@@ -9,6 +9,8 @@
 mod calls;
 pub mod laws;
 mod output;
+mod replies;
 
 pub use calls::{CallStep, guest_call};
 pub use output::Output;
+pub use replies::reply_of;

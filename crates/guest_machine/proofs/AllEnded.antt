@@ -6,11 +6,12 @@ use Rattle.llsc_base.specs.Sizes.{Numbers}
 use Rattle.history.specs.declared.entry.Access.{Access}
 use Rattle.a32_instr.specs.declared.outside.Ask.{Ask}
 use Rattle.guest_calls.specs.Run.{Ends}
-use Rattle.guest_thread.specs.Accesses.{pairs_in}
+use Rattle.guest_calls.specs.Pairs.{pairs_in}
 use Rattle.guest_thread.specs.Start.{thread_start}
 use Rattle.guest_machine.specs.Seats.{is_one_of}
-use Rattle.guest_machine.specs.Turns.{access_by, monitor_of, drawn, without, Takes, begins, makes, stops, IsTrace}
-use Rattle.guest_machine.specs.Ended.{HasEnded}
+use Rattle.guest_machine.specs.Turns.{drawn, without, Takes, begins, makes, stops, IsTrace}
+use Rattle.guest_thread.specs.Accesses.{access_by, monitor_of}
+use Rattle.guest_thread.specs.Ended.{HasEnded}
 use Rattle.guest_machine.proofs.Pushed.{other_push}
 use Rattle.guest_machine.proofs.Seated.{turn_live, left_in, in_range}
 
@@ -26,7 +27,7 @@ ended_still program size budget accesses t other ask differs ended = record {
   stop = ended.stop;
   steps = ended.steps;
   output = ended.output;
-  ends = subst (λ pairs. Ends program budget (thread_start program size other) pairs ended.stop ended.steps ended.output)
+  ends = subst (λ pairs. Ends program budget (thread_start program size size.threads other) pairs ended.stop ended.steps ended.output)
       (sym (other_push other t accesses (monitor_of program size accesses) ask differs)) ended.ends;
 }
 
@@ -50,7 +51,7 @@ live_or_ended program size seed budget _ _ _ t known (stops x live accesses u st
       stop = stop;
       steps = steps;
       output = output;
-      ends = subst (λ k. Ends program budget (thread_start program size k) (pairs_in k accesses) stop steps output) (sym same) ends;
+      ends = subst (λ k. Ends program budget (thread_start program size size.threads k) (pairs_in k accesses) stop steps output) (sym same) ends;
     })
     after_stop (inr differs) (inl one) = inl (left_in t u live differs ∙ one)
     after_stop (inr differs) (inr ended) = inr ended

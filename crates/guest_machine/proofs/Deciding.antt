@@ -15,11 +15,11 @@ use Rattle.history.proofs.Marks.{IsAsLarge-accessed}
 use Rattle.a32_instr.specs.declared.outside.Ask.{Ask}
 use Rattle.a32_instr.specs.declared.outside.Ask.TheVariants.{StoreEx}
 use Rattle.guest_calls.specs.Run.{Pair}
-use Rattle.guest_calls.specs.Pairs.{pair_of, pairs_of}
-use Rattle.guest_thread.specs.Accesses.{entry_of, entry_by, reply_of}
-use Rattle.guest_machine.specs.Turns.{access_by}
+use Rattle.guest_calls.specs.Pairs.{pair_of, pairs_of, reply_of}
+use Rattle.history.specs.Accesses.{entry_of, entry_by}
+use Rattle.guest_thread.specs.Accesses.{access_by}
 use Rattle.guest_machine.specs.Alone.{FailsUnmarked, AllFailUnmarked, IsAlone}
-use Rattle.guest_machine.proofs.Served.{on_marked}
+use Rattle.history.proofs.Exclusives.{on_marked}
 use Rattle.guest_calls.proofs.Decided.{Replies, AreDecided}
 
 -- the entry that memory makes of an access of thread 0, and its reply
@@ -39,7 +39,7 @@ abbrev pub by_memory : List ℕ → Replies
 by_memory first front ask = Some (reply_to (served (at_rest first 1) front) ask)
 
 -- each reply is that of memory where it stands
-abbrev AreServed : Monitor → List Pair → Type 0
+abbrev pub AreServed : Monitor → List Pair → Type 0
 AreServed monitor [] = Unit {0}
 AreServed monitor (pair ∷ pairs) = (pair.1 ≡ reply_to monitor pair.0) × AreServed (accessed monitor (made monitor pair.0)) pairs
 
@@ -50,7 +50,7 @@ served_at m [] back ask reply all = all.0
 served_at m (pair ∷ front) back ask reply all = served_at (accessed m (made m pair.0)) front back ask reply all.1
 
 -- so they are decided
-served_decides : (m : Monitor) (pairs : List Pair) → AreServed m pairs → AreDecided (λ front ask. Some (reply_to (served m front) ask)) pairs
+pub served_decides : (m : Monitor) (pairs : List Pair) → AreServed m pairs → AreDecided (λ front ask. Some (reply_to (served m front) ask)) pairs
 served_decides m pairs all front back ask reply parts =
     ap Some (sym (served_at m front back ask reply (subst (AreServed m) parts all)))
 

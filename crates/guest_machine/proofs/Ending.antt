@@ -10,13 +10,14 @@ use Rattle.history.specs.declared.entry.Access.{Access}
 use Rattle.a32_instr.specs.declared.outside.Stop.{Stop}
 use Rattle.a32_step.specs.Machine.{Machine}
 use Rattle.guest_calls.specs.Run.{Ends}
-use Rattle.guest_thread.specs.Accesses.{history_of, pairs_in}
-use Rattle.guest_thread.specs.Counts.{reads_of, writes_of, fails_of}
+use Rattle.history.specs.Accesses.{history_of}
+use Rattle.guest_calls.specs.Pairs.{pairs_in}
+use Rattle.guest_thread.specs.Counting.{AreCounts, counts_in}
 use Rattle.guest_thread.specs.End.{IsEndIn}
 use Rattle.guest_thread.specs.Start.{thread_start}
 use Rattle.guest_thread.specs.declared.ends.GuestEnd.{GuestEnd}
 use Rattle.guest_machine.specs.Seats.{first_seat, is_one_of, StandsBy, IsSeated, HaveTurned, IsEndOf, AreEndsOf, HaveStopped}
-use Rattle.guest_machine.specs.Traces.{AreEnds}
+use Rattle.guest_thread.specs.Ends.{AreEnds}
 use Rattle.guest_machine.specs.declared.seats.Seat.{Seat}
 
 -- ---- all have stopped
@@ -92,9 +93,9 @@ end_at accesses n (suc t) (seat ∷ seats) (first ∷ ends) other end are got =
 -- a stopped thread's end is its end in the history
 end_in : (program : Program) (size : Numbers) (budget : ℕ) (accesses : List Access) (live : List ℕ) (t : ℕ) (seat : Seat) (end : GuestEnd)
     → IsSeated program size budget accesses live t seat → IsEndOf accesses t seat end
-    → IsEndIn program budget (thread_start program size t) (history_of accesses) end
+    → IsEndIn program budget (thread_start program size size.threads t) (history_of accesses) end
 end_in program size budget accesses live t seat end seated is =
-    let start : Machine = thread_start program size t in
+    let start : Machine = thread_start program size size.threads t in
     let stopped : StandsBy program budget start (pairs_in t accesses) seat.guest (Some end.stop) =
     subst (StandsBy program budget start (pairs_in t accesses) seat.guest) is.stopped seated.stands in
     let ends : Ends program budget start (pairs_in t accesses) end.stop end.steps end.out =
@@ -102,13 +103,11 @@ end_in program size budget accesses live t seat end seated is =
     (subst (λ o. Ends program budget start (pairs_in t accesses) end.stop seat.guest.steps o) (sym is.output) stopped) in
     record {
       ends = subst (λ u. Ends program budget start (pairs_in u accesses) end.stop end.steps end.out) (sym is.thread) ends;
-      reads = is.counts.reads ∙ ap (λ u. reads_of (entries_of u (history_of accesses))) (sym is.thread);
-      writes = is.counts.writes ∙ ap (λ u. writes_of (entries_of u (history_of accesses))) (sym is.thread);
-      fails = is.counts.fails ∙ ap (λ u. fails_of (entries_of u (history_of accesses))) (sym is.thread);
+      counts = subst (λ u. AreCounts u (history_of accesses) (counts_in end)) (sym is.thread) is.counts;
     }
 
 pub are_ends : (program : Program) (size : Numbers) (seed budget x : ℕ) (live : List ℕ) (seats : List Seat) (memory : Monitor) (accesses : List Access) (ends : List GuestEnd)
-    → HaveTurned program size seed budget x live seats memory accesses → AreEndsOf accesses 0 seats ends → AreEnds program size budget accesses ends
+    → HaveTurned program size seed budget x live seats memory accesses → AreEndsOf accesses 0 seats ends → AreEnds program size budget (history_of accesses) ends
 are_ends program size seed budget x live seats memory accesses ends turned are = record {
   many = as_many accesses 0 seats ends are ∙ turned.many;
   numbers = λ t end got. (at t end got).1.thread;

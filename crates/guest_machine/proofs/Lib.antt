@@ -1,6 +1,5 @@
 pub mod Deciding
 pub mod AllEnded
-pub mod Counted
 pub mod Ending
 pub mod FlatImages
 pub mod OneEnd
@@ -9,6 +8,6 @@ pub mod OneTrace
 pub mod Pushed
 pub mod SameCounts
 pub mod Seated
-pub mod Served
 pub mod Turning
 pub mod UnderWay
+pub mod TracedAlone

@@ -1,48 +1,60 @@
--- A thread alone has one end at most.
-use Rattle.std.proofs.Common.{◌≡◌, ℕ, List, sym, ◌∙◌, ap, subst}
+-- A thread alone has one end at most, and so has the trace of one thread.
+use Rattle.std.proofs.Common.{◌≡◌, ℕ, List, [], ◌∷◌, refl, sym, ◌∙◌, subst}
 use Rattle.llsc_base.specs.Images.{Program}
+use Rattle.llsc_base.specs.Sizes.{Numbers}
 use Rattle.a32_step.specs.Machine.{Machine}
-use Rattle.history.specs.Parts.{entries_of}
+use Rattle.history.specs.Accesses.{history_of}
+use Rattle.history.specs.declared.entry.Access.{Access}
+use Rattle.history.specs.declared.entry.Entry.{Entry}
 use Rattle.guest_calls.specs.Pairs.{pairs_of}
 use Rattle.guest_calls.specs.Run.{Ends}
-use Rattle.guest_calls.proofs.Decided.{one_end}
-use Rattle.guest_thread.specs.Counts.{reads_in, writes_in, fails_in, reads_of, writes_of, fails_of}
+use Rattle.guest_calls.proofs.Decided.{AreDecided, one_end}
+use Rattle.guest_thread.specs.Counts.{reads_in, writes_in, fails_in}
+use Rattle.guest_thread.specs.Counting.{AreCounts, counts_in}
+use Rattle.guest_thread.specs.End.{IsEndIn}
+use Rattle.guest_thread.specs.Ends.{AreEnds}
+use Rattle.guest_thread.specs.Start.{thread_start}
 use Rattle.guest_thread.specs.declared.ends.GuestEnd.{GuestEnd}
-use Rattle.guest_machine.specs.Alone.{IsEndAlone}
+use Rattle.guest_thread.proofs.OneOutcome.{same_end}
+use Rattle.guest_machine.specs.Alone.{IsEndAlone, IsSoloEnd}
+use Rattle.guest_machine.specs.Turns.{IsTrace}
 use Rattle.guest_machine.proofs.Deciding.{by_memory, alone_decided}
 use Rattle.guest_machine.proofs.SameCounts.{read_by, write_by, fail_by, reads_counted, writes_counted, fails_counted, same_count}
+use Rattle.guest_machine.proofs.TracedAlone.{trace_decided}
 
--- an end is its thread, its stop, its steps, its counts and its output
-same_end : (one two : GuestEnd) → one.thread ≡ two.thread → one.stop ≡ two.stop → one.steps ≡ two.steps → one.reads ≡ two.reads
-    → one.writes ≡ two.writes → one.fails ≡ two.fails → one.out ≡ two.out → one ≡ two
-same_end one two thread stop steps reads writes fails out =
-    ap (λ t. record one { thread = t }) thread
-    ∙ ap (λ s. record one { thread = two.thread; stop = s }) stop
-    ∙ ap (λ n. record one { thread = two.thread; stop = two.stop; steps = n }) steps
-    ∙ ap (λ n. record one { thread = two.thread; stop = two.stop; steps = two.steps; reads = n }) reads
-    ∙ ap (λ n. record two { writes = n; fails = one.fails; out = one.out }) writes
-    ∙ ap (λ n. record two { fails = n; out = one.out }) fails
-    ∙ ap (λ o. record two { out = o }) out
+-- two ends of thread 0, whose replies memory decided, are the same
+same_by_memory : (program : Program) (budget : ℕ) (start : Machine) (bytes : List ℕ) (history others : List Entry) (end other : GuestEnd)
+    → end.thread ≡ 0 → IsEndIn program budget start history end → AreDecided (by_memory bytes) (pairs_of 0 history)
+    → other.thread ≡ 0 → IsEndIn program budget start others other → AreDecided (by_memory bytes) (pairs_of 0 others)
+    → end ≡ other
+same_by_memory program budget start bytes history others end other number is decided number_too is_too decided_too =
+    let ends : Ends program budget start (pairs_of 0 history) end.stop end.steps end.out =
+    subst (λ t. Ends program budget start (pairs_of t history) end.stop end.steps end.out) number is.ends in
+    let ends_too : Ends program budget start (pairs_of 0 others) other.stop other.steps other.out =
+    subst (λ t. Ends program budget start (pairs_of t others) other.stop other.steps other.out) number_too is_too.ends in
+    let counts : AreCounts 0 history (counts_in end) = subst (λ t. AreCounts t history (counts_in end)) number is.counts in
+    let counts_too : AreCounts 0 others (counts_in other) = subst (λ t. AreCounts t others (counts_in other)) number_too is_too.counts in
+    let same = one_end (by_memory bytes) program budget start (pairs_of 0 history) (pairs_of 0 others)
+    end.stop other.stop end.steps other.steps end.out other.out ends decided ends_too decided_too in
+    same_end end other (number ∙ sym number_too) same.1 same.2
+    (counts.reads ∙ same_count reads_in (λ pair. read_by pair.0 pair.1) reads_counted 0 history others same.0 ∙ sym counts_too.reads)
+    (counts.writes ∙ same_count writes_in (λ pair. write_by pair.0 pair.1) writes_counted 0 history others same.0 ∙ sym counts_too.writes)
+    (counts.fails ∙ same_count fails_in (λ pair. fail_by pair.0 pair.1) fails_counted 0 history others same.0 ∙ sym counts_too.fails)
+    same.3
 
 -- two ends of a thread alone are the same
 pub one_end_alone : (program : Program) (budget : ℕ) (start : Machine) (bytes : List ℕ) (end other : GuestEnd)
     → IsEndAlone program budget start bytes end → IsEndAlone program budget start bytes other → end ≡ other
 one_end_alone program budget start bytes end other one two =
-    let ends : Ends program budget start (pairs_of 0 one.history) end.stop end.steps end.out =
-    subst (λ t. Ends program budget start (pairs_of t one.history) end.stop end.steps end.out) one.number one.end_in.ends in
-    let ends_too : Ends program budget start (pairs_of 0 two.history) other.stop other.steps other.out =
-    subst (λ t. Ends program budget start (pairs_of t two.history) other.stop other.steps other.out) two.number two.end_in.ends in
-    let same = one_end (by_memory bytes) program budget start (pairs_of 0 one.history) (pairs_of 0 two.history)
-    end.stop other.stop end.steps other.steps end.out other.out
-    ends (alone_decided bytes one.history one.alone) ends_too (alone_decided bytes two.history two.alone) in
-    let reads = same_count reads_in (λ pair. read_by pair.0 pair.1) reads_counted 0 one.history two.history same.0 in
-    let writes = same_count writes_in (λ pair. write_by pair.0 pair.1) writes_counted 0 one.history two.history same.0 in
-    let fails = same_count fails_in (λ pair. fail_by pair.0 pair.1) fails_counted 0 one.history two.history same.0 in
-    same_end end other (one.number ∙ sym two.number) same.1 same.2
-    (one.end_in.reads ∙ ap (λ t. reads_of (entries_of t one.history)) one.number ∙ reads
-    ∙ sym (two.end_in.reads ∙ ap (λ t. reads_of (entries_of t two.history)) two.number))
-    (one.end_in.writes ∙ ap (λ t. writes_of (entries_of t one.history)) one.number ∙ writes
-    ∙ sym (two.end_in.writes ∙ ap (λ t. writes_of (entries_of t two.history)) two.number))
-    (one.end_in.fails ∙ ap (λ t. fails_of (entries_of t one.history)) one.number ∙ fails
-    ∙ sym (two.end_in.fails ∙ ap (λ t. fails_of (entries_of t two.history)) two.number))
-    same.3
+    same_by_memory program budget start bytes one.history two.history end other
+    one.number one.end_in (alone_decided bytes one.history one.alone)
+    two.number two.end_in (alone_decided bytes two.history two.alone)
+
+-- the end of a trace of one thread is that of the thread alone
+pub end_as_traced : (program : Program) (size : Numbers) (seed budget : ℕ) (accesses : List Access) (end alone : GuestEnd)
+    → IsTrace program size seed budget accesses → AreEnds program size budget (history_of accesses) (end ∷ []) → IsSoloEnd program size budget alone
+    → end ≡ alone
+end_as_traced program size seed budget accesses end alone trace are is =
+    same_by_memory program budget (thread_start program size size.threads 0) program.bytes (history_of accesses) is.1.history end alone
+    (are.numbers 0 end refl) (are.each 0 end refl) (trace_decided program size seed budget accesses is.0 trace)
+    is.1.number is.1.end_in (alone_decided program.bytes is.1.history is.1.alone)

@@ -7,7 +7,7 @@ use Rattle.history.specs.declared.entry.Access.{Access}
 use Rattle.guest_machine.specs.Turns.{drawn, turn_of, without, Takes, begins, makes, stops, IsTrace}
 
 -- thread 0 alone, or nobody
-abbrev IsAlone : List ℕ → Type 0
+abbrev pub IsAlone : List ℕ → Type 0
 IsAlone live = (live ≡ 0 ∷ []) ⊎ (live ≡ [])
 
 only : (x : ℕ) → turn_of x (0 ∷ []) ≡ Some 0
@@ -17,7 +17,7 @@ some_same : (t other : ℕ) → Some t ≡ Some other → t ≡ other
 some_same t other same = cc
 
 -- whose turn it is by one number, it is by any other
-same_turn : (x y t : ℕ) (live : List ℕ) → IsAlone live → turn_of x live ≡ Some t → (turn_of y live ≡ Some t) × (t ≡ 0)
+pub same_turn : (x y t : ℕ) (live : List ℕ) → IsAlone live → turn_of x live ≡ Some t → (turn_of y live ≡ Some t) × (t ≡ 0)
 same_turn x y t live (inl one) turn =
     let zero_t : t ≡ 0 = some_same t 0 (sym turn ∙ ap (turn_of x) one ∙ only x) in
     (ap (turn_of y) one ∙ only y ∙ ap Some (sym zero_t), zero_t)
@@ -29,12 +29,12 @@ alone_without t live (inl one) same = inr (ap (without t) one ∙ ap (λ u. with
 alone_without t live (inr none) same = inr (ap (without t) none)
 
 -- the same turns from another number
-record FromAny (program : Program) (size : Numbers) (seed budget : ℕ) (live : List ℕ) (accesses : List Access) : Type 0 where
-  alone : IsAlone live
-  number : ℕ
-  takes : Takes program size seed budget number live accesses
+pub record FromAny (program : Program) (size : Numbers) (seed budget : ℕ) (live : List ℕ) (accesses : List Access) : Type 0 where
+  pub alone : IsAlone live
+  pub number : ℕ
+  pub takes : Takes program size seed budget number live accesses
 
-from_any : (program : Program) (size : Numbers) (seed other budget x : ℕ) (live : List ℕ) (accesses : List Access) → size.threads ≡ 1
+pub from_any : (program : Program) (size : Numbers) (seed other budget x : ℕ) (live : List ℕ) (accesses : List Access) → size.threads ≡ 1
     → Takes program size seed budget x live accesses → FromAny program size other budget live accesses
 from_any program size seed other budget _ _ _ one begins = record {
   alone = inl (ap (range_with_len 0) one);

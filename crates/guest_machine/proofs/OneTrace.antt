@@ -10,10 +10,11 @@ use Rattle.a32_instr.specs.declared.outside.Ask.{Ask}
 use Rattle.a32_instr.specs.declared.outside.Stop.{Stop}
 use Rattle.guest_calls.specs.Run.{Asks, Ends}
 use Rattle.guest_calls.proofs.Asked.{one_ask, asks_or_ends}
-use Rattle.guest_thread.specs.Accesses.{pairs_in}
+use Rattle.guest_calls.specs.Pairs.{pairs_in}
 use Rattle.guest_thread.specs.Start.{thread_start}
 use Rattle.run_record.specs.Limits.{most_accesses}
-use Rattle.guest_machine.specs.Turns.{access_by, monitor_of, drawn, turn_of, without, Takes, begins, makes, stops, IsTrace, IsTooLong}
+use Rattle.guest_machine.specs.Turns.{drawn, turn_of, without, Takes, begins, makes, stops, IsTrace, IsTooLong}
+use Rattle.guest_thread.specs.Accesses.{access_by, monitor_of}
 
 -- where the threads are: the last number, the threads that have not stopped, and the accesses so far
 pub record Spot : Type 0 where
@@ -41,11 +42,11 @@ stopped spot t = record { number = drawn spot.number; live = without t spot.live
 data Goes (program : Program) (size : Numbers) (budget : ℕ) : Spot → Spot → Type 0 where
   access : (spot : Spot) (t : ℕ) (ask : Ask)
       → turn_of (drawn spot.number) spot.live ≡ Some t
-      → Asks program budget (thread_start program size t) (pairs_in t spot.accesses) ask
+      → Asks program budget (thread_start program size size.threads t) (pairs_in t spot.accesses) ask
       → Goes program size budget spot (made program size spot t ask)
   stop : (spot : Spot) (t : ℕ) (end : Stop) (steps : ℕ) (output : List ℕ)
       → turn_of (drawn spot.number) spot.live ≡ Some t
-      → Ends program budget (thread_start program size t) (pairs_in t spot.accesses) end steps output
+      → Ends program budget (thread_start program size size.threads t) (pairs_in t spot.accesses) end steps output
       → Goes program size budget spot (stopped spot t)
 
 -- so many turns
@@ -63,18 +64,18 @@ one_next : (program : Program) (size : Numbers) (budget : ℕ) (spot next other 
     → Goes program size budget spot next → Goes program size budget spot other → next ≡ other
 one_next program size budget _ _ _ (access spot t ask turn asks) (access _ u wish turn' asks') =
     let same : t ≡ u = some_same t u (turn_of (drawn spot.number) spot.live) turn turn' in
-    let wishes : Asks program budget (thread_start program size t) (pairs_in t spot.accesses) wish =
-    subst (λ n. Asks program budget (thread_start program size n) (pairs_in n spot.accesses) wish) (sym same) asks' in
+    let wishes : Asks program budget (thread_start program size size.threads t) (pairs_in t spot.accesses) wish =
+    subst (λ n. Asks program budget (thread_start program size size.threads n) (pairs_in n spot.accesses) wish) (sym same) asks' in
     ap (λ n. made program size spot n ask) same
-    ∙ ap (made program size spot u) (one_ask program budget (thread_start program size t) (pairs_in t spot.accesses) ask wish asks wishes)
+    ∙ ap (made program size spot u) (one_ask program budget (thread_start program size size.threads t) (pairs_in t spot.accesses) ask wish asks wishes)
 one_next program size budget _ _ _ (access spot t ask turn asks) (stop _ u end steps output turn' ends) =
     let same : t ≡ u = some_same t u (turn_of (drawn spot.number) spot.live) turn turn' in
-    absurd (asks_or_ends program budget (thread_start program size t) (pairs_in t spot.accesses) ask end steps output asks
-    (subst (λ n. Ends program budget (thread_start program size n) (pairs_in n spot.accesses) end steps output) (sym same) ends))
+    absurd (asks_or_ends program budget (thread_start program size size.threads t) (pairs_in t spot.accesses) ask end steps output asks
+    (subst (λ n. Ends program budget (thread_start program size size.threads n) (pairs_in n spot.accesses) end steps output) (sym same) ends))
 one_next program size budget _ _ _ (stop spot t end steps output turn ends) (access _ u wish turn' asks') =
     let same : t ≡ u = some_same t u (turn_of (drawn spot.number) spot.live) turn turn' in
-    absurd (asks_or_ends program budget (thread_start program size t) (pairs_in t spot.accesses) wish end steps output
-    (subst (λ n. Asks program budget (thread_start program size n) (pairs_in n spot.accesses) wish) (sym same) asks') ends)
+    absurd (asks_or_ends program budget (thread_start program size size.threads t) (pairs_in t spot.accesses) wish end steps output
+    (subst (λ n. Asks program budget (thread_start program size size.threads n) (pairs_in n spot.accesses) wish) (sym same) asks') ends)
 one_next program size budget _ _ _ (stop spot t end steps output turn ends) (stop _ u end' steps' output' turn' ends') =
     ap (stopped spot) (some_same t u (turn_of (drawn spot.number) spot.live) turn turn')
 

@@ -10,9 +10,9 @@ use Rattle.history.specs.declared.entry.Entry.{Entry}
 use Rattle.history.proofs.Appends.{monitor_after-push}
 use Rattle.a32_instr.specs.declared.outside.Ask.{Ask}
 use Rattle.a32_instr.specs.declared.outside.Ask.TheVariants.{Load, LoadEx, Store, StoreEx, Clear}
-use Rattle.guest_calls.specs.Pairs.{pair_of, pairs_of}
-use Rattle.guest_thread.specs.Accesses.{history_of, entry_of, entry_by, pairs_in, reply_of}
-use Rattle.guest_machine.specs.Turns.{access_by, monitor_of}
+use Rattle.guest_calls.specs.Pairs.{pair_of, pairs_of, pairs_in, reply_of}
+use Rattle.history.specs.Accesses.{history_of, entry_of, entry_by}
+use Rattle.guest_thread.specs.Accesses.{access_by, monitor_of}
 use Rattle.guest_thread.proofs.Pushed.{history_push, own_entry_push, other_push as another_push}
 
 -- whose an access is
@@ -35,12 +35,6 @@ asked_is m t (StoreEx place value) = exclusive (is_on (row_of place) (marked_row
     exclusive true = refl
     exclusive false = refl
 asked_is m t Clear = refl
-
-pub monitor_push : (program : Program) (size : Numbers) (accesses : List Access) (access : Access)
-    → monitor_of program size (accesses ++ access ∷ []) ≡ accessed (monitor_of program size accesses) (entry_of access)
-monitor_push program size accesses access =
-    ap (λ h. monitor_after (at_rest program.bytes size.threads) h) (history_push accesses access)
-    ∙ monitor_after-push (at_rest program.bytes size.threads) (history_of accesses) (entry_of access)
 
 -- the thread that made an access has what it asked and the reply behind its pairs
 pub own_asked_push : (t : ℕ) (history : List Entry) (m : Monitor) (ask : Ask)

@@ -14,17 +14,19 @@ use Rattle.history.specs.declared.entry.Access.{Access}
 use Rattle.history.proofs.Appends.{IsArmLegal-push}
 use Rattle.a32_instr.specs.declared.outside.Ask.{Ask}
 use Rattle.a32_instr.specs.declared.outside.Stop.{Stop}
-use Rattle.guest_calls.specs.Run.{Pair, Reaches, Asks, Ends}
-use Rattle.guest_thread.specs.Accesses.{entry_of, history_of, pairs_in, reply_of}
+use Rattle.guest_calls.specs.Run.{Pair, ReachesFrom, Asks, Ends}
+use Rattle.history.specs.Accesses.{entry_of, history_of}
+use Rattle.guest_calls.specs.Pairs.{pairs_in, reply_of}
 use Rattle.guest_thread.specs.ThreadState.{ThreadState, IsReadyIn, IsWaitingIn}
 use Rattle.guest_thread.specs.Start.{thread_start}
 use Rattle.guest_thread.specs.Under.{HasCome, Awaits}
 use Rattle.run_record.specs.Limits.{IsAccess, most_accesses}
-use Rattle.guest_machine.specs.Turns.{access_by, monitor_of, drawn, turn_of, without, Takes, begins, makes, stops, IsTooLong}
+use Rattle.guest_machine.specs.Turns.{drawn, turn_of, without, Takes, begins, makes, stops, IsTooLong}
+use Rattle.guest_thread.specs.Accesses.{access_by, monitor_of}
 use Rattle.guest_machine.specs.Seats.{first_seat, is_one_of, StandsBy, IsSeated, HaveTurned}
 use Rattle.guest_machine.specs.declared.seats.Seat.{Seat}
-use Rattle.guest_thread.proofs.Pushed.{history_push}
-use Rattle.guest_machine.proofs.Pushed.{monitor_push, own_push, other_push}
+use Rattle.guest_thread.proofs.Pushed.{history_push, monitor_push}
+use Rattle.guest_machine.proofs.Pushed.{own_push, other_push}
 use Rattle.guest_machine.proofs.Seated.{turn_live, turn_below, taken_out, left_in, still_below, in_range, range_below}
 
 -- ---- the thread whose turn it is
@@ -34,7 +36,7 @@ pub record IsChosen (program : Program) (size : Numbers) (budget : ℕ) (accesse
   pub known : t < size.threads
   pub one : is_one_of live t ≡ true
   pub none : seat.stop ≡ None
-  pub come : HasCome program budget (thread_start program size t) (pairs_in t accesses) seat.guest
+  pub come : HasCome program budget (thread_start program size size.threads t) (pairs_in t accesses) seat.guest
   pub ready : IsReadyIn (length program.bytes) budget seat.guest
 
 none_is : (stop : Option Stop) → is_none stop ≡ true → stop ≡ None
@@ -51,8 +53,8 @@ chosen program size seed budget x live seats memory accesses t seat turned turn 
     let seated : IsSeated program size budget accesses live t seat =
     subst (IsSeated program size budget accesses live t) (sym read) (turned.seats t seat known) in
     let none : seat.stop ≡ None = none_is seat.stop (sym seated.tells ∙ one) in
-    let stands : StandsBy program budget (thread_start program size t) (pairs_in t accesses) seat.guest None =
-    subst (StandsBy program budget (thread_start program size t) (pairs_in t accesses) seat.guest) none seated.stands in
+    let stands : StandsBy program budget (thread_start program size size.threads t) (pairs_in t accesses) seat.guest None =
+    subst (StandsBy program budget (thread_start program size size.threads t) (pairs_in t accesses) seat.guest) none seated.stands in
     record { known = known; one = one; none = none; come = stands.0; ready = stands.1 }
 
 -- ---- after an access
@@ -60,16 +62,16 @@ chosen program size seed budget x live seats memory accesses t seat turned turn 
 -- a thread that was replied to is seated
 own_seated : (program : Program) (size : Numbers) (budget : ℕ) (live : List ℕ) (memory : Monitor) (accesses : List Access) (t : ℕ) (ask : Ask) (seat : Seat) (replied : ThreadState)
     → IsChosen program size budget accesses live t seat
-    → HasCome program budget (thread_start program size t) (pairs_in t accesses ++ (ask, reply_of (access_by memory t ask)) ∷ []) replied
+    → HasCome program budget (thread_start program size size.threads t) (pairs_in t accesses ++ (ask, reply_of (access_by memory t ask)) ∷ []) replied
     → IsReadyIn (length program.bytes) budget replied
     → IsSeated program size budget (accesses ++ access_by memory t ask ∷ []) live t (record { guest = replied; stop = seat.stop })
 own_seated program size budget live memory accesses t ask seat replied is come ready =
     let pairs : List Pair = pairs_in t (accesses ++ access_by memory t ask ∷ []) in
-    let there : HasCome program budget (thread_start program size t) pairs replied =
-    subst (λ p. HasCome program budget (thread_start program size t) p replied) (sym (own_push t accesses memory ask)) come in
+    let there : HasCome program budget (thread_start program size size.threads t) pairs replied =
+    subst (λ p. HasCome program budget (thread_start program size size.threads t) p replied) (sym (own_push t accesses memory ask)) come in
     record {
       tells = is.one ∙ sym (ap is_none is.none);
-      stands = subst (StandsBy program budget (thread_start program size t) pairs replied) (sym is.none) (there, ready);
+      stands = subst (StandsBy program budget (thread_start program size size.threads t) pairs replied) (sym is.none) (there, ready);
     }
 
 -- one that another thread's access leaves where it is is seated
@@ -78,7 +80,7 @@ other_seated : (program : Program) (size : Numbers) (budget : ℕ) (live : List 
     → IsSeated program size budget (accesses ++ access_by memory t ask ∷ []) live other seat
 other_seated program size budget live memory accesses t other ask seat differs seated = record {
   tells = seated.tells;
-  stands = subst (λ p. StandsBy program budget (thread_start program size other) p seat.guest seat.stop)
+  stands = subst (λ p. StandsBy program budget (thread_start program size size.threads other) p seat.guest seat.stop)
       (sym (other_push other t accesses memory ask differs)) seated.stands;
 }
 
@@ -98,16 +100,16 @@ pub after_access : (program : Program) (size : Numbers) (seed budget x : ℕ) (l
     (t : ℕ) (ask : Ask) (seat : Seat) (asked replied : ThreadState)
     → HaveTurned program size seed budget x live seats memory accesses
     → turn_of (drawn x) live ≡ Some t → seat ≡ slice_index_or seats t seat
-    → Asks program budget (thread_start program size t) (pairs_in t accesses) ask
-    → Awaits program budget (thread_start program size t) (pairs_in t accesses) ask asked
+    → Asks program budget (thread_start program size size.threads t) (pairs_in t accesses) ask
+    → Awaits program budget (thread_start program size size.threads t) (pairs_in t accesses) ask asked
     → IsWaitingIn (length program.bytes) budget asked
     → (length accesses ≡ most_accesses → ⊥)
     → IsAsLarge memory (accessed memory (entry_of (access_by memory t ask)))
     → MayAccess memory (entry_of (access_by memory t ask))
     → IsAccess (length memory.marks) (access_by memory t ask)
     → (IsWaitingIn (length program.bytes) budget asked → IsReadyIn (length program.bytes) budget replied)
-    → (Awaits program budget (thread_start program size t) (pairs_in t accesses) ask asked
-    → HasCome program budget (thread_start program size t) (pairs_in t accesses ++ (ask, reply_of (access_by memory t ask)) ∷ []) replied)
+    → (Awaits program budget (thread_start program size size.threads t) (pairs_in t accesses) ask asked
+    → HasCome program budget (thread_start program size size.threads t) (pairs_in t accesses ++ (ask, reply_of (access_by memory t ask)) ∷ []) replied)
     → HaveTurned program size seed budget (drawn x) live (set seats t (record { guest = replied; stop = seat.stop }))
     (accessed memory (entry_of (access_by memory t ask))) (accesses ++ access_by memory t ask ∷ [])
 after_access program size seed budget x live seats memory accesses t ask seat asked replied turned turn read asks awaits waits room large may sound gives comes =
@@ -135,7 +137,7 @@ after_access program size seed budget x live seats memory accesses t ask seat as
 pub too_long : (program : Program) (size : Numbers) (seed budget x : ℕ) (live : List ℕ) (seats : List Seat) (memory : Monitor) (accesses : List Access) (t : ℕ) (ask : Ask)
     → HaveTurned program size seed budget x live seats memory accesses
     → turn_of (drawn x) live ≡ Some t
-    → Asks program budget (thread_start program size t) (pairs_in t accesses) ask
+    → Asks program budget (thread_start program size size.threads t) (pairs_in t accesses) ask
     → length accesses ≡ most_accesses → IsTooLong program size seed budget
 too_long program size seed budget x live seats memory accesses t ask turned turn asks full =
     let access : Access = access_by (monitor_of program size accesses) t ask in (
@@ -164,15 +166,15 @@ pub access_made : (program : Program) (size : Numbers) (seed budget x y : ℕ) (
     (t : ℕ) (ask : Ask) (seat : Seat) (asked replied : ThreadState) (access : Access) (reply : ℕ)
     → HaveTurned program size seed budget x live seats memory accesses
     → turn_of (drawn x) live ≡ Some t → seat ≡ slice_index_or seats t seat
-    → Asks program budget (thread_start program size t) (pairs_in t accesses) ask
-    → Awaits program budget (thread_start program size t) (pairs_in t accesses) ask asked
+    → Asks program budget (thread_start program size size.threads t) (pairs_in t accesses) ask
+    → Awaits program budget (thread_start program size size.threads t) (pairs_in t accesses) ask asked
     → IsWaitingIn (length program.bytes) budget asked
     → (length accesses ≡ most_accesses → ⊥)
     → y ≡ drawn x → access ≡ access_by memory t ask → monitor ≡ accessed memory (entry_of access) → made ≡ accesses ++ access ∷ [] → reply ≡ reply_of access
     → IsAsLarge memory monitor → MayAccess memory (entry_of access) → IsAccess (length memory.marks) access
     → (IsWaitingIn (length program.bytes) budget asked → IsReadyIn (length program.bytes) budget replied)
-    → (Awaits program budget (thread_start program size t) (pairs_in t accesses) ask asked
-    → HasCome program budget (thread_start program size t) (pairs_in t accesses ++ (ask, reply) ∷ []) replied)
+    → (Awaits program budget (thread_start program size size.threads t) (pairs_in t accesses) ask asked
+    → HasCome program budget (thread_start program size size.threads t) (pairs_in t accesses ++ (ask, reply) ∷ []) replied)
     → HaveTurned program size seed budget y live (set seats t (record { guest = replied; stop = seat.stop })) monitor made
 access_made program size seed budget x y live seats memory monitor accesses made t ask seat asked replied access reply turned turn read asks awaits waits room same_x is monitor_is made_is reply_is large may sound gives comes =
     let monitor_by : monitor ≡ accessed memory (entry_of (access_by memory t ask)) = monitor_is ∙ ap (λ a. accessed memory (entry_of a)) is in
@@ -184,7 +186,7 @@ access_made program size seed budget x y live seats memory monitor accesses made
     (subst (λ a. MayAccess memory (entry_of a)) is may)
     (subst (IsAccess (length memory.marks)) is sound)
     gives
-    (λ here. subst (λ r. HasCome program budget (thread_start program size t) (pairs_in t accesses ++ (ask, r) ∷ []) replied) (reply_is ∙ ap reply_of is) (comes here)))
+    (λ here. subst (λ r. HasCome program budget (thread_start program size size.threads t) (pairs_in t accesses ++ (ask, r) ∷ []) replied) (reply_is ∙ ap reply_of is) (comes here)))
 
 -- ---- after a stop
 
@@ -192,7 +194,7 @@ pub after_stop : (program : Program) (size : Numbers) (seed budget x : ℕ) (liv
     (t : ℕ) (stop : Stop) (seat : Seat) (ended : ThreadState)
     → HaveTurned program size seed budget x live seats memory accesses
     → turn_of (drawn x) live ≡ Some t → seat ≡ slice_index_or seats t seat
-    → Ends program budget (thread_start program size t) (pairs_in t accesses) stop ended.steps ended.output
+    → Ends program budget (thread_start program size size.threads t) (pairs_in t accesses) stop ended.steps ended.output
     → HaveTurned program size seed budget (drawn x) (without t live) (set seats t (record { guest = ended; stop = Some stop })) memory accesses
 after_stop program size seed budget x live seats memory accesses t stop seat ended turned turn read ends =
     let is : IsChosen program size budget accesses live t seat = chosen program size seed budget x live seats memory accesses t seat turned turn read in
@@ -236,7 +238,7 @@ at_start program size seed budget live seats memory accesses live_is seats_are m
     }))
   where
     seated : (t : ℕ) → t < size.threads → IsSeated program size budget [] (range_with_len 0 size.threads) t (first_seat program size t)
-    seated t known = record { tells = in_range size.threads t 0 (omega arith) (omega (arith, known)); stands = (Reaches.begins, (tt, omega arith)) }
+    seated t known = record { tells = in_range size.threads t 0 (omega arith) (omega (arith, known)); stands = (ReachesFrom.begins, (tt, omega arith)) }
 
     first_seated : (t : ℕ) (other : Seat) → t < size.threads
         → IsSeated program size budget [] (range_with_len 0 size.threads) t (slice_index_or (map (first_seat program size) (range_with_len 0 size.threads)) t other)

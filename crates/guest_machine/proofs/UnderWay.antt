@@ -13,24 +13,24 @@ use Rattle.a32_instr.specs.declared.outside.Ask.{Ask}
 use Rattle.a32_instr.specs.declared.outside.Ask.TheVariants.{Load, LoadEx, Store, StoreEx, Clear}
 use Rattle.a32_instr.specs.declared.outside.Stop.{Stop}
 use Rattle.a32_step.specs.Machine.{Machine}
-use Rattle.guest_calls.specs.Pairs.{pairs_of}
+use Rattle.guest_calls.specs.Pairs.{pairs_of, reply_of}
 use Rattle.guest_calls.specs.Calls.{most_output}
-use Rattle.guest_calls.specs.Run.{Reaches, Ends}
+use Rattle.guest_calls.specs.Run.{ReachesFrom, Ends}
 use Rattle.guest_thread.proofs.Pushed.{thread_is}
-use Rattle.guest_thread.specs.Accesses.{entry_of, entry_by, reply_of}
+use Rattle.history.specs.Accesses.{entry_of, entry_by}
 use Rattle.guest_thread.specs.Counts.{reads_in, writes_in, fails_in}
 use Rattle.guest_thread.specs.Progress.{IsBounded, progress_of}
 use Rattle.guest_thread.specs.ThreadState.{ThreadState, IsReadyBy, IsReadyIn}
 use Rattle.guest_thread.specs.Start.{first_state, thread_start}
 use Rattle.guest_thread.specs.declared.guests.Printing.{Printing}
 use Rattle.guest_thread.specs.Under.{HasCome, Awaits}
-use Rattle.guest_machine.specs.Turns.{access_by}
+use Rattle.guest_thread.specs.Accesses.{access_by}
 use Rattle.guest_machine.specs.Alone.{FailsUnmarked, AllFailUnmarked, IsEndAlone}
-use Rattle.guest_machine.specs.Counting.{AreCounts}
+use Rattle.guest_thread.specs.Counting.{AreCounts}
 use Rattle.guest_machine.specs.Working.{IsUnderWay, IsOver}
 use Rattle.guest_machine.specs.declared.alone.Alone.{Alone}
-use Rattle.guest_machine.specs.declared.counts.Counts.{Counts}
-use Rattle.guest_machine.proofs.Counted.{own_counted}
+use Rattle.guest_thread.specs.declared.counts.Counts.{Counts}
+use Rattle.guest_thread.proofs.Counted.{own_counted}
 use Rattle.guest_machine.proofs.Pushed.{made_by, own_asked_push}
 
 -- a store-exclusive of memory's fails only where its thread isn't marked
@@ -81,13 +81,13 @@ after_access program budget start bytes alone asked replied monitor counts ask a
     }
 
 -- at the start
-pub at_start : (program : Program) (size : Numbers) (budget : ℕ) (alone : Alone) → alone.guest ≡ first_state program size 0
+pub at_start : (program : Program) (size : Numbers) (budget : ℕ) (alone : Alone) → alone.guest ≡ first_state program size size.threads 0
     → alone.memory ≡ at_rest program.bytes 1 → alone.counts ≡ record { reads = 0; writes = 0; fails = 0 }
-    → IsUnderWay program budget (thread_start program size 0) program.bytes alone
+    → IsUnderWay program budget (thread_start program size size.threads 0) program.bytes alone
 at_start program size budget alone guest memory counts = record {
   history = [];
   allowed = record { legal = tt; decided = tt };
-  come = subst (HasCome program budget (thread_start program size 0) []) (sym guest) Reaches.begins;
+  come = subst (HasCome program budget (thread_start program size size.threads 0) []) (sym guest) ReachesFrom.begins;
   memory = memory;
   counts = subst (AreCounts 0 []) (sym counts) (record { reads = refl; writes = refl; fails = refl });
 }
@@ -104,9 +104,7 @@ end_of program budget start bytes stop alone steps out steps_are out_is over = r
   end_in = record {
     ends = subst (λ n. Ends program budget start (pairs_of 0 over.history) stop n out) (sym steps_are)
         (subst (λ o. Ends program budget start (pairs_of 0 over.history) stop alone.guest.steps o) (sym out_is) over.ends);
-    reads = over.counts.reads;
-    writes = over.counts.writes;
-    fails = over.counts.fails;
+    counts = over.counts;
   };
 }
 

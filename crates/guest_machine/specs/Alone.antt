@@ -36,4 +36,4 @@ pub record IsEndAlone (program : Program) (budget : ℕ) (start : Machine) (byte
 
 -- the machine has one thread, and the end is that of the program's, on a memory that begins as the program's bytes
 abbrev pub IsSoloEnd : Program → Numbers → ℕ → GuestEnd → Type 0
-IsSoloEnd program size budget end = (size.threads ≡ 1) × IsEndAlone program budget (thread_start program size 0) program.bytes end
+IsSoloEnd program size budget end = (size.threads ≡ 1) × IsEndAlone program budget (thread_start program size size.threads 0) program.bytes end

@@ -1,7 +1,5 @@
 pub mod Turns
-pub mod Counting
 pub mod Seats
 pub mod Traces
 pub mod Alone
 pub mod Working
-pub mod Ended

@@ -10,20 +10,22 @@ use Rattle.history.specs.declared.entry.Access.{Access}
 use Rattle.a32_instr.specs.declared.outside.Stop.{Stop}
 use Rattle.guest_calls.specs.Run.{Pair, Ends}
 use Rattle.a32_step.specs.Machine.{Machine}
-use Rattle.guest_thread.specs.Accesses.{history_of, pairs_in}
+use Rattle.history.specs.Accesses.{history_of}
+use Rattle.guest_calls.specs.Pairs.{pairs_in}
 use Rattle.guest_thread.specs.ThreadState.{ThreadState, IsReadyIn}
 use Rattle.guest_thread.specs.Start.{first_state, thread_start}
 use Rattle.guest_thread.specs.Under.{HasCome}
 use Rattle.guest_thread.specs.declared.ends.GuestEnd.{GuestEnd}
-use Rattle.guest_machine.specs.Counting.{AreCounts}
+use Rattle.guest_thread.specs.Counting.{AreCounts, counts_in}
 use Rattle.run_record.specs.Limits.{IsAccess, most_accesses}
-use Rattle.guest_machine.specs.Turns.{Takes, monitor_of}
+use Rattle.guest_machine.specs.Turns.{Takes}
+use Rattle.guest_thread.specs.Accesses.{monitor_of}
 use Rattle.guest_machine.specs.declared.seats.Seat.{Seat}
 use Rattle.guest_machine.specs.declared.turns.Turns.{Turns}
 
 -- a thread at its start
 abbrev pub first_seat : Program → Numbers → ℕ → Seat
-first_seat program size t = record { guest = first_state program size t; stop = None }
+first_seat program size t = record { guest = first_state program size size.threads t; stop = None }
 
 -- a thread is one of some
 abbrev pub is_one_of : List ℕ → ℕ → Bool
@@ -39,7 +41,7 @@ StandsBy program budget start pairs guest (Some stop) = Ends program budget star
 -- no stop
 pub record IsSeated (program : Program) (size : Numbers) (budget : ℕ) (accesses : List Access) (live : List ℕ) (t : ℕ) (seat : Seat) : Type 0 where
   pub tells : is_one_of live t ≡ is_none seat.stop
-  pub stands : StandsBy program budget (thread_start program size t) (pairs_in t accesses) seat.guest seat.stop
+  pub stands : StandsBy program budget (thread_start program size size.threads t) (pairs_in t accesses) seat.guest seat.stop
 
 -- The turns so far have led here: to the last number, the threads that have not stopped, all threads, memory, and the
 -- accesses. Memory is that after the accesses, Arm allows them, and a record may have them.
@@ -71,7 +73,7 @@ pub record IsEndOf (accesses : List Access) (t : ℕ) (seat : Seat) (end : Guest
   pub stopped : seat.stop ≡ Some end.stop
   pub steps : end.steps ≡ seat.guest.steps
   pub output : end.out ≡ seat.guest.output
-  pub counts : AreCounts t (history_of accesses) (record { reads = end.reads; writes = end.writes; fails = end.fails })
+  pub counts : AreCounts t (history_of accesses) (counts_in end)
 
 -- the ends of threads from one on, each of which has stopped
 abbrev pub AreEndsOf : List Access → ℕ → List Seat → List GuestEnd → Type 0

@@ -1,14 +1,11 @@
 -- What is given of a trace.
-use Rattle.std.specs.Prelude.{◌≡◌, ℕ, Some, List, length, slice_get, codes}
+use Rattle.std.specs.Prelude.{◌≡◌, ℕ, List, codes}
 use Rattle.llsc_base.specs.Images.{Program}
 use Rattle.llsc_base.specs.Sizes.{Numbers}
 use Rattle.history.specs.ArmLegal.{IsArmLegal}
 use Rattle.history.specs.Monitor.{at_rest}
 use Rattle.history.specs.declared.entry.Access.{Access}
-use Rattle.guest_thread.specs.Accesses.{history_of}
-use Rattle.guest_thread.specs.End.{IsEndIn}
-use Rattle.guest_thread.specs.Start.{thread_start}
-use Rattle.guest_thread.specs.declared.ends.GuestEnd.{GuestEnd}
+use Rattle.history.specs.Accesses.{history_of}
 use Rattle.run_record.specs.Limits.{IsRecord}
 use Rattle.run_record.specs.declared.records.RunRecord.{RunRecord}
 use Rattle.guest_machine.specs.Turns.{IsTrace}
@@ -21,13 +18,6 @@ pub record IsTraceRecord (program : Program) (size : Numbers) (seed budget : ℕ
   pub budget_is : run.budget ≡ budget
   pub trace : IsTrace program size seed budget run.accesses
   pub sound : IsRecord run
-
--- the ends of all threads in these accesses, in order of number
-pub record AreEnds (program : Program) (size : Numbers) (budget : ℕ) (accesses : List Access) (all : List GuestEnd) : Type 0 where
-  pub many : length all ≡ size.threads
-  pub numbers : (t : ℕ) (end : GuestEnd) → slice_get all t ≡ Some end → end.thread ≡ t
-  pub each : (t : ℕ) (end : GuestEnd) → slice_get all t ≡ Some end
-      → IsEndIn program budget (thread_start program size t) (history_of accesses) end
 
 -- Arm allows these accesses to the program's memory
 abbrev pub IsLegalTrace : Program → Numbers → List Access → Type 0

@@ -1,37 +1,16 @@
 -- A run of all guest threads on one host thread, in an order that a number fixes.
 use Rattle.std.specs.Prelude.{◌≡◌, ℕ, ◌+◌, ◌*◌, ◌/◌, ◌%◌, ◌^◌, ◌<◌, ◌==◌, not, if◌then◌else◌, List, [], ◌∷◌, ◌++◌, length, filter, slice_get, Option, Some}
 use Rattle.std.specs.List.{range_with_len}
-use Rattle.llsc_base.specs.Memory.{row_of, value_at}
 use Rattle.llsc_base.specs.Images.{Program}
 use Rattle.llsc_base.specs.Sizes.{Numbers}
-use Rattle.history.specs.Monitor.{Monitor, at_rest, is_on, marked_row, monitor_after}
 use Rattle.history.specs.declared.entry.Access.{Access}
-use Rattle.history.specs.declared.entry.Deed.TheVariants as deed
 use Rattle.a32_instr.specs.declared.outside.Ask.{Ask}
-use Rattle.a32_instr.specs.declared.outside.Ask.TheVariants.{Load, LoadEx, Store, StoreEx, Clear}
 use Rattle.a32_instr.specs.declared.outside.Stop.{Stop}
 use Rattle.guest_calls.specs.Run.{Asks, Ends}
-use Rattle.guest_thread.specs.Accesses.{history_of, pairs_in}
+use Rattle.guest_calls.specs.Pairs.{pairs_in}
+use Rattle.guest_thread.specs.Accesses.{access_by, monitor_of}
 use Rattle.guest_thread.specs.Start.{thread_start}
-use Rattle.run_record.specs.Limits.{most_accesses, nowhere}
-
--- The access that memory makes of what a thread asks: a load has the value of its place, and a store-exclusive stores
--- just where the thread is marked on the row. CLREX has the place of one byte at address 0.
-abbrev pub access_by : Monitor → ℕ → Ask → Access
-access_by monitor t (Load place) = record { thread = t; deed = deed.Load; place = place; value = value_at monitor.memory place }
-access_by monitor t (LoadEx place) = record { thread = t; deed = deed.LoadEx; place = place; value = value_at monitor.memory place }
-access_by monitor t (Store place value) = record { thread = t; deed = deed.Store; place = place; value = value }
-access_by monitor t (StoreEx place value) = record {
-  thread = t;
-  deed = if is_on (row_of place) (marked_row monitor t) then deed.StoreEx else deed.StoreFail;
-  place = place;
-  value = value;
-}
-access_by monitor t Clear = record { thread = t; deed = deed.Clear; place = nowhere; value = 0 }
-
--- memory and its monitors after these accesses of so many threads
-abbrev pub monitor_of : Program → Numbers → List Access → Monitor
-monitor_of program size accesses = monitor_after (at_rest program.bytes size.threads) (history_of accesses)
+use Rattle.run_record.specs.Limits.{most_accesses}
 
 -- the next number after a number
 abbrev pub drawn : ℕ → ℕ
@@ -51,12 +30,12 @@ pub data Takes (program : Program) (size : Numbers) (seed budget : ℕ) : (x : �
   makes : (x : ℕ) (live : List ℕ) (accesses : List Access) (t : ℕ) (ask : Ask)
       → Takes program size seed budget x live accesses
       → turn_of (drawn x) live ≡ Some t
-      → Asks program budget (thread_start program size t) (pairs_in t accesses) ask
+      → Asks program budget (thread_start program size size.threads t) (pairs_in t accesses) ask
       → Takes program size seed budget (drawn x) live (accesses ++ access_by (monitor_of program size accesses) t ask ∷ [])
   stops : (x : ℕ) (live : List ℕ) (accesses : List Access) (t : ℕ) (stop : Stop) (steps : ℕ) (output : List ℕ)
       → Takes program size seed budget x live accesses
       → turn_of (drawn x) live ≡ Some t
-      → Ends program budget (thread_start program size t) (pairs_in t accesses) stop steps output
+      → Ends program budget (thread_start program size size.threads t) (pairs_in t accesses) stop steps output
       → Takes program size seed budget (drawn x) (without t live) accesses
 
 -- all threads have stopped, and these were the accesses

@@ -11,7 +11,7 @@ use Rattle.guest_thread.specs.Progress.{IsBounded, progress_of}
 use Rattle.guest_thread.specs.ThreadState.{IsReadyIn}
 use Rattle.guest_thread.specs.Under.{HasCome}
 use Rattle.guest_machine.specs.Alone.{IsAlone}
-use Rattle.guest_machine.specs.Counting.{AreCounts, accesses_counted}
+use Rattle.guest_thread.specs.Counting.{AreCounts, accesses_counted}
 use Rattle.guest_machine.specs.declared.alone.Alone.{Alone}
 
 -- it may be asked what it does next; its instruction has had 16 replies at most, and its output is no longer than it may

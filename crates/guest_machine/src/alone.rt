@@ -5,10 +5,10 @@ ghost use Rattle.guest_thread.specs.Progress.{progress_of};
 ghost use Rattle.guest_machine.specs.Alone.{IsSoloEnd};
 ghost use Rattle.guest_machine.specs.Working.{IsOver, IsUnderWay, IsWorking};
 
-use crate::counts::Counts;
 use crate::serving::serve;
 use a32_step::Stop;
-use guest_thread::{Guest, GuestEnd, Turn, reply_of};
+use guest_calls::reply_of;
+use guest_thread::{Counts, Guest, GuestEnd, Turn};
 use history::PlainMemory;
 use llsc_base::{Image, MachineSize};
 use std::alloc::{AllocError, Global};

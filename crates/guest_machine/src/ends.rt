@@ -2,9 +2,8 @@
 ghost use Rattle.std.specs.Prelude.{◌≤◌, IfOk, IsSome, length};
 ghost use Rattle.guest_machine.specs.Seats.{AreEndsOf, HaveStopped, IsEndOf};
 
-use crate::counts::counts_of;
 use crate::seats::Seat;
-use guest_thread::GuestEnd;
+use guest_thread::{GuestEnd, counts_of};
 use history::Access;
 use std::alloc::{AllocError, Global};
 

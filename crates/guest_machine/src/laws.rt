@@ -1,13 +1,15 @@
 //! The laws of traces and of a thread alone, each a function of no effect whose contract is the law.
-ghost use Rattle.std.specs.Prelude.{◌≡◌, ◌≤◌, ◌<◌, ℕ, List, length};
+ghost use Rattle.std.specs.Prelude.{◌≡◌, ◌≤◌, ◌<◌, ◌∷◌, [], ℕ, List, length};
 ghost use Rattle.llsc_base.specs.Images.{Program};
 ghost use Rattle.llsc_base.specs.Sizes.{Numbers};
 ghost use Rattle.history.specs.declared.entry.Access.{Access};
+ghost use Rattle.history.specs.Accesses.{history_of};
 ghost use Rattle.a32_step.specs.Machine.{Machine};
+ghost use Rattle.guest_thread.specs.Ends.{AreEnds};
 ghost use Rattle.guest_thread.specs.declared.ends.GuestEnd.{GuestEnd};
 ghost use Rattle.run_record.specs.Limits.{most_accesses};
 ghost use Rattle.guest_machine.specs.Alone.{IsEndAlone, IsSoloEnd};
-ghost use Rattle.guest_machine.specs.Ended.{HasEnded};
+ghost use Rattle.guest_thread.specs.Ended.{HasEnded};
 ghost use Rattle.guest_machine.specs.Turns.{IsTooLong, IsTrace};
 
 /// A program, a machine, a number and a budget have one trace at most.
@@ -41,4 +43,18 @@ pub fn threads_alone_have_one_end()
         IsEndAlone program budget start bytes end → IsEndAlone program budget start bytes other → end ≡ other }
     ensures solo { (program : Program) (size : Numbers) (budget : ℕ) (end other : GuestEnd) →
         IsSoloEnd program size budget end → IsSoloEnd program size budget other → end ≡ other }
+{}
+
+/// A trace of one thread ends as the thread does alone, however many accesses it has.
+pub fn threads_alone_end_as_traced()
+    ensures { (program : Program) (size : Numbers) (seed budget : ℕ) (accesses : List Access) (end alone : GuestEnd) →
+        IsTrace program size seed budget accesses → AreEnds program size budget (history_of accesses) (end ∷ []) →
+        IsSoloEnd program size budget alone → end ≡ alone }
+{}
+
+/// The threads of a program end in one way at most by a trace, whose accesses are one too.
+pub fn traces_have_one_end()
+    ensures { (program : Program) (size : Numbers) (seed budget : ℕ) (accesses others : List Access) (ends more : List GuestEnd) →
+        IsTrace program size seed budget accesses → AreEnds program size budget (history_of accesses) ends →
+        IsTrace program size seed budget others → AreEnds program size budget (history_of others) more → ends ≡ more }
 {}

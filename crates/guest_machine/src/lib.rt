@@ -7,7 +7,6 @@
 #![tactic(auto)]
 
 mod alone;
-mod counts;
 mod drawing;
 mod ends;
 pub mod laws;

@@ -1,6 +1,8 @@
 //! A trace: the run of all threads in the order that a number fixes.
 ghost use Rattle.std.specs.Prelude.{◌≡◌, ◌⊎◌, ◌<◌, ◌≤◌, IfErr, IfOk, length};
-ghost use Rattle.guest_machine.specs.Traces.{AreEnds, IsLegalTrace, IsTraceRecord, trace_fault_name};
+ghost use Rattle.guest_machine.specs.Traces.{IsLegalTrace, IsTraceRecord, trace_fault_name};
+ghost use Rattle.history.specs.Accesses.{history_of};
+ghost use Rattle.guest_thread.specs.Ends.{AreEnds};
 ghost use Rattle.guest_machine.specs.Turns.{IsTooLong};
 
 use crate::ends::ends_of;
@@ -63,7 +65,7 @@ pub fn trace(
     requires some { 1 ≤ budget }
     requires budget { budget ≤ 1000000000000 }
     ensures run { IfOk result (λ traced. IsTraceRecord image.now size.now seed budget traced.run) }
-    ensures ends { IfOk result (λ traced. AreEnds image.now size.now budget traced.run.accesses traced.ends.items) }
+    ensures ends { IfOk result (λ traced. AreEnds image.now size.now budget (history_of traced.run.accesses) traced.ends.items) }
     ensures legal { IfOk result (λ traced. IsLegalTrace image.now size.now traced.run.accesses) }
     ensures fault { IfErr result (λ fault. ((fault ≡ TraceFault.TooLong) × IsTooLong image.now size.now seed budget)
         ⊎ (fault ≡ TraceFault.Memory)) }

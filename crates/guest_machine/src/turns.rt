@@ -1,14 +1,15 @@
 //! Threads that take turns on one memory.
 ghost use Rattle.std.specs.Prelude.{◌≡◌, ◌⊎◌, ◌<◌, ◌≤◌, [], IfErr, IfOk, length};
 ghost use Rattle.guest_machine.specs.Seats.{AreUnderWay, left_of};
-ghost use Rattle.guest_machine.specs.Traces.{AreEnds};
+ghost use Rattle.guest_thread.specs.Ends.{AreEnds};
 ghost use Rattle.guest_machine.specs.Turns.{IsTooLong};
 
 use crate::drawing::{drawn, take_out, turn_of};
 use crate::seats::{Seat, numbers, seats};
 use crate::serving::serve;
 use crate::traces::TraceFault;
-use guest_thread::{Turn, reply_of};
+use guest_calls::reply_of;
+use guest_thread::Turn;
 use history::{Access, PlainMemory};
 use llsc_base::{Image, MachineSize};
 use std::alloc::{AllocError, Global};

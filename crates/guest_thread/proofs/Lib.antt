@@ -7,3 +7,5 @@ pub mod Tested
 pub mod Kept
 pub mod Pushed
 pub mod Placed
+pub mod Counted
+pub mod OneOutcome

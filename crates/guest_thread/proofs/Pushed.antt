@@ -2,16 +2,20 @@
 use Rattle.std.proofs.Common.{◌≡◌, ℕ, true, List, [], ◌∷◌, ◌++◌, map, refl, sym, ap, ◌∙◌, append-nil}
 use Rattle.std.proofs.lemmas.Bool.{eq-eqb, ne_eqb}
 use Rattle.std.proofs.lemmas.List.{map-append}
+use Rattle.llsc_base.specs.Images.{Program}
+use Rattle.llsc_base.specs.Sizes.{Numbers}
 use Rattle.llsc_base.specs.declared.access.Place.{Place}
+use Rattle.history.specs.Monitor.{accessed, at_rest, monitor_after}
 use Rattle.history.specs.Entry.{is_access, thread_of}
 use Rattle.history.specs.Parts.{accesses_of, entries_of}
 use Rattle.history.specs.declared.entry.Access.{Access}
 use Rattle.history.specs.declared.entry.Deed.{Deed}
 use Rattle.history.specs.declared.entry.Deed.TheVariants as deed
 use Rattle.history.specs.declared.entry.Entry.{Entry}
-use Rattle.history.proofs.Appends.{accesses_of-append, entries_of-append}
-use Rattle.guest_calls.specs.Pairs.{pair_of, pairs_of}
-use Rattle.guest_thread.specs.Accesses.{entry_by, entry_of, history_of, pairs_in}
+use Rattle.history.proofs.Appends.{accesses_of-append, entries_of-append, monitor_after-push}
+use Rattle.guest_calls.specs.Pairs.{pair_of, pairs_of, pairs_in}
+use Rattle.history.specs.Accesses.{entry_by, entry_of, history_of}
+use Rattle.guest_thread.specs.Accesses.{monitor_of}
 
 -- the history has one more entry
 pub history_push : (early : List Access) (access : Access) → history_of (early ++ access ∷ []) ≡ history_of early ++ entry_of access ∷ []
@@ -73,3 +77,10 @@ other_push thread early access other =
     ∙ ap (λ l. pairs_in thread early ++ l)
     (pairs_other thread (entry_of access) (λ same. other (sym (thread_is access) ∙ same)))
     ∙ append-nil (pairs_in thread early)
+
+-- memory after one more access
+pub monitor_push : (program : Program) (size : Numbers) (accesses : List Access) (access : Access)
+    → monitor_of program size (accesses ++ access ∷ []) ≡ accessed (monitor_of program size accesses) (entry_of access)
+monitor_push program size accesses access =
+    ap (λ h. monitor_after (at_rest program.bytes size.threads) h) (history_push accesses access)
+    ∙ monitor_after-push (at_rest program.bytes size.threads) (history_of accesses) (entry_of access)

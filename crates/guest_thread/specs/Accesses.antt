@@ -1,36 +1,29 @@
--- The accesses of a record as a history of memory, and those of one thread as its run has them.
-use Rattle.std.specs.Prelude.{ℕ, true, false, List, map}
-use Rattle.llsc_base.specs.declared.access.Place.{Place}
+-- What memory makes of what threads ask.
+use Rattle.std.specs.Prelude.{ℕ, List}
+use Rattle.llsc_base.specs.Images.{Program}
+use Rattle.llsc_base.specs.Sizes.{Numbers}
+use Rattle.history.specs.Accesses.{history_of, nowhere}
+use Rattle.history.specs.Made.{made}
+use Rattle.history.specs.Monitor.{Monitor, at_rest, monitor_after}
 use Rattle.history.specs.declared.entry.Access.{Access}
-use Rattle.history.specs.declared.entry.Deed.{Deed}
 use Rattle.history.specs.declared.entry.Deed.TheVariants as deed
-use Rattle.history.specs.declared.entry.Entry.{Entry}
-use Rattle.history.specs.declared.entry.Entry.TheVariants as entry
-use Rattle.history.specs.declared.entry.Cause.TheVariants.{Absent}
-use Rattle.guest_calls.specs.Run.{Pair}
-use Rattle.guest_calls.specs.Pairs.{pair_of, pairs_of}
+use Rattle.a32_instr.specs.declared.outside.Ask.{Ask}
+use Rattle.a32_instr.specs.declared.outside.Ask.TheVariants.{Load, LoadEx, Store, StoreEx, Clear}
 
--- an access as an entry of a history: a record keeps no cause of a failure, and Arm's memory asks for none, so it is
--- written as want of a mark
-abbrev pub entry_by : Deed → ℕ → Place → ℕ → Entry
-entry_by deed.Load thread place value = entry.Read thread place value false
-entry_by deed.LoadEx thread place value = entry.Read thread place value true
-entry_by deed.Store thread place value = entry.Write thread place value false
-entry_by deed.StoreEx thread place value = entry.Write thread place value true
-entry_by deed.StoreFail thread place value = entry.Fail thread place value Absent
-entry_by deed.Clear thread place value = entry.Clear thread
+-- the access that a thread tries by what it asks. A load is tried with no value, and CLREX has the place of one byte at
+-- address 0.
+abbrev pub tried_by : ℕ → Ask → Access
+tried_by t (Load place) = record { thread = t; deed = deed.Load; place = place; value = 0 }
+tried_by t (LoadEx place) = record { thread = t; deed = deed.LoadEx; place = place; value = 0 }
+tried_by t (Store place value) = record { thread = t; deed = deed.Store; place = place; value = value }
+tried_by t (StoreEx place value) = record { thread = t; deed = deed.StoreEx; place = place; value = value }
+tried_by t Clear = record { thread = t; deed = deed.Clear; place = nowhere; value = 0 }
 
-abbrev pub entry_of : Access → Entry
-entry_of access = entry_by access.deed access.thread access.place access.value
+-- the access that memory makes of what a thread asks: a load has the value of its place, and a store-exclusive stores just
+-- where the thread is marked on the row
+abbrev pub access_by : Monitor → ℕ → Ask → Access
+access_by monitor t ask = made monitor (tried_by t ask)
 
--- the reply to an access, as a run of its thread has it
-abbrev pub reply_of : Access → ℕ
-reply_of access = (pair_of (entry_of access)).1
-
--- accesses as a history
-abbrev pub history_of : List Access → List Entry
-history_of accesses = map entry_of accesses
-
--- what a thread asked in them, with the replies, in order
-abbrev pub pairs_in : ℕ → List Access → List Pair
-pairs_in thread accesses = pairs_of thread (history_of accesses)
+-- memory and its monitors after these accesses of so many threads
+abbrev pub monitor_of : Program → Numbers → List Access → Monitor
+monitor_of program size accesses = monitor_after (at_rest program.bytes size.threads) (history_of accesses)

@@ -1,6 +1,10 @@
 pub mod Accesses
 pub mod Counts
+pub mod Counting
 pub mod End
+pub mod Ended
+pub mod Ends
+pub mod Outcome
 pub mod Progress
 pub mod ThreadState
 pub mod Start

@@ -5,11 +5,11 @@ use Rattle.llsc_base.specs.Sizes.{Numbers, room_of}
 use Rattle.a32_step.specs.Machine.{Machine, start_of}
 use Rattle.guest_thread.specs.ThreadState.{ThreadState}
 
--- thread t of a program begins at its entry, with its own number and how many threads there are; its stack is the 4096
--- bytes number t behind the room, counted from 0, and its stack pointer their end
-abbrev pub thread_start : Program → Numbers → ℕ → Machine
-thread_start program size t = start_of program.entry t size.threads (room_of size + 4096 * (t + 1))
+-- thread t of a program begins at its entry, with its own number and how many threads begin by themselves; its stack is
+-- the 4096 bytes number t behind the room, counted from 0, and its stack pointer their end
+abbrev pub thread_start : Program → Numbers → (first t : ℕ) → Machine
+thread_start program size first t = start_of program.entry t first (room_of size + 4096 * (t + 1))
 
 -- it has made no step, has written nothing, and is in the middle of no write
-abbrev pub first_state : Program → Numbers → ℕ → ThreadState
-first_state program size t = record { cpu = thread_start program size t; steps = 0; output = []; printing = None }
+abbrev pub first_state : Program → Numbers → (first t : ℕ) → ThreadState
+first_state program size first t = record { cpu = thread_start program size first t; steps = 0; output = []; printing = None }

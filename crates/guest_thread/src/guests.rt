@@ -65,9 +65,9 @@ impl Guest {
         t: u32,
     ) -> Result<Guest, AllocError>
         requires { t < size.now.threads }
-        ensures state { IfOk result (λ guest. guest ≡ first_state image.now size.now t) }
+        ensures state { IfOk result (λ guest. guest ≡ first_state image.now size.now size.now.threads t) }
         ensures ready { IfOk result (λ guest. (mem budget : ℕ) → IsReadyIn mem budget guest) }
-        ensures comes { IfOk result (λ guest. (budget : ℕ) → HasCome image.now budget (thread_start image.now size.now t) [] guest) }
+        ensures comes { IfOk result (λ guest. (budget : ℕ) → HasCome image.now budget (thread_start image.now size.now size.now.threads t) [] guest) }
     {
         let stack = size.room() + 4096 * (t + 1);
         let cpu = Cpu::start(image.entry(), t, size.threads(), stack);

@@ -1,15 +1,31 @@
-//! A law of runs, a function of no effect whose contract is the law.
-ghost use Rattle.std.specs.Prelude.{◌≢◌, ℕ, List};
+//! The laws of ends, each a function of no effect whose contract is the law.
+ghost use Rattle.std.specs.Prelude.{◌≡◌, ◌≢◌, ℕ, List};
 ghost use Rattle.llsc_base.specs.Images.{Program};
 ghost use Rattle.llsc_base.specs.Sizes.{Numbers};
+ghost use Rattle.history.specs.declared.entry.Entry.{Entry};
 ghost use Rattle.a32_instr.specs.declared.outside.Stop.{Stop};
 ghost use Rattle.guest_calls.specs.Run.{Pair, Ends};
+ghost use Rattle.guest_thread.specs.Ends.{AreEnds};
+ghost use Rattle.guest_thread.specs.Outcome.{IsOutcome};
 ghost use Rattle.guest_thread.specs.Start.{thread_start};
+ghost use Rattle.guest_thread.specs.declared.ends.GuestEnd.{GuestEnd};
 
 use a32_step::Stop;
 
-/// No run of a thread ends since a class of rows has no write left: that is for memory to answer.
+/// No run of a thread ends by itself since a class of rows has no write left: that is for memory to answer.
 pub fn runs_reach_no_limit()
-    ensures { (program : Program) (size : Numbers) (budget t : ℕ) (pairs : List Pair) (stop : Stop) (steps : ℕ) (output : List ℕ) (addr : ℕ) →
-        Ends program budget (thread_start program size t) pairs stop steps output → stop ≢ Stop.TagLimit addr }
+    ensures { (program : Program) (size : Numbers) (budget first t : ℕ) (pairs : List Pair) (stop : Stop) (steps : ℕ) (output : List ℕ) (addr : ℕ) →
+        Ends program budget (thread_start program size first t) pairs stop steps output → stop ≢ Stop.TagLimit addr }
+{}
+
+/// All threads end in one way at most by a history: their stops, steps, outputs and counts.
+pub fn histories_end_threads_in_one_way()
+    ensures { (program : Program) (size : Numbers) (budget : ℕ) (history : List Entry) (ends others : List GuestEnd) →
+        AreEnds program size budget history ends → AreEnds program size budget history others → ends ≡ others }
+{}
+
+/// A history has one outcome at most, also on a memory whose classes of rows take a limited number of writes.
+pub fn histories_have_one_outcome()
+    ensures { (program : Program) (size : Numbers) (budget : ℕ) (history : List Entry) (ends others : List GuestEnd) →
+        IsOutcome program size budget history ends → IsOutcome program size budget history others → ends ≡ others }
 {}

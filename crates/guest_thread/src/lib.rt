@@ -7,11 +7,13 @@
 //! ends by itself for what only memory can want.
 #![tactic(auto)]
 
+mod counts;
 mod ends;
 mod guests;
 pub mod laws;
-mod replies;
+mod tries;
 
+pub use counts::{Counts, counts_of};
 pub use ends::GuestEnd;
 pub use guests::{Guest, Turn};
-pub use replies::reply_of;
+pub use tries::tried_by;

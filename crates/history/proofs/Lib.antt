@@ -13,3 +13,4 @@ pub mod SmallMemory
 pub mod SmallHistories
 pub mod Classes
 pub mod Pushes
+pub mod Exclusives

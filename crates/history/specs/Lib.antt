@@ -1,6 +1,8 @@
 pub mod Entry
 pub mod Parts
+pub mod Accesses
 pub mod Monitor
+pub mod Made
 pub mod ArmLegal
 pub mod Operation
 pub mod Since

@@ -1,4 +1,6 @@
 //! The entries of a history, and accesses as records keep them.
+ghost use Rattle.std.specs.Prelude.{◌≡◌};
+
 use llsc_base::Place;
 
 /// Why a store-exclusive failed.
@@ -88,4 +90,22 @@ pub struct Access {
     pub deed: Deed,
     pub place: Place,
     pub value: u64,
+}
+
+impl Access {
+    /// The access with another deed.
+    #[inline(always)]
+    pub fn with_deed(self, deed: Deed) -> Access
+        ensures { result ≡ record self { deed = deed } }
+    {
+        Access { deed, ..self }
+    }
+
+    /// The access with another value.
+    #[inline(always)]
+    pub fn with_value(self, value: u64) -> Access
+        ensures { result ≡ record self { value = value } }
+    {
+        Access { value, ..self }
+    }
 }

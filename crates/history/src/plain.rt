@@ -1,12 +1,15 @@
 //! Memory and Arm's exclusive monitors for one host thread.
-ghost use Rattle.std.specs.Prelude.{◌≡◌, ◌+◌, ◌^◌, ◌%◌, ◌<◌, ◌≤◌, ◌↔◌, ℕ, IfOk, IsTrue, false, length, map, take, true, ◌*◌};
+ghost use Rattle.std.specs.Prelude.{◌≡◌, ◌≢◌, ◌+◌, ◌^◌, ◌%◌, ◌<◌, ◌≤◌, ◌↔◌, ℕ, IfOk, IsTrue, false, length, map, take, true, ◌*◌};
 ghost use Rattle.std.specs.Bool.{OnFalse, OnTrue};
 ghost use Rattle.llsc_base.specs.Memory.{is_aligned, number_of, row_of, size_bytes, stored, value_at};
 ghost use Rattle.row_bytes.specs.Cell.{bytes_of_cells};
+ghost use Rattle.history.specs.Accesses.{entry_of};
+ghost use Rattle.history.specs.ArmLegal.{MayAccess};
+ghost use Rattle.history.specs.Made.{made};
 ghost use Rattle.history.specs.Monitor.{IsAsLarge, accessed, at_rest, is_on, marked_row, unless_on};
 ghost use Rattle.history.specs.declared.entry.Cause.{Cause};
 
-use crate::entry::Entry;
+use crate::entry::{Access, Deed, Entry};
 use llsc_base::{Place, Size};
 use row_bytes::{put, take};
 use std::alloc::{AllocError, Global};
@@ -122,6 +125,58 @@ impl PlainMemory {
     {
         self.marks[t as usize] = None;
     }
+
+    /// Makes an access that is tried, and gives it as it came about: a load with the value of its place, whatever value it is
+    /// tried with, and a store-exclusive as failed where its thread isn't marked on the row. One that is to fail fails.
+    ///
+    /// The thread is one of memory's; the place is aligned and lies in memory, and the value fits it, but for a CLREX, whose
+    /// place is of no account.
+    #[inline(always)]
+    pub fn make(&mut self, tried: Access) -> Access
+        requires thread { tried.thread < length self.old.marks }
+        requires aligned { tried.deed ≢ Deed.Clear → IsTrue (is_aligned tried.place) }
+        requires inside { tried.deed ≢ Deed.Clear → tried.place.addr + size_bytes tried.place.size ≤ length self.old.memory }
+        requires fits { tried.deed ≢ Deed.Clear → tried.value < 256 ^ size_bytes tried.place.size }
+        ensures made { result ≡ made self.old tried }
+        ensures moved { self.new ≡ accessed self.old (entry_of result) }
+        ensures may { MayAccess self.old (entry_of result) }
+        ensures size { IsAsLarge self.old self.new }
+    {
+        let (t, place, value) = (tried.thread, tried.place, tried.value);
+        match tried.deed {
+            Deed::Load => tried.with_value(self.load(place)),
+            Deed::LoadEx => tried.with_value(self.load_ex(t, place)),
+            Deed::Store => {
+                self.store(t, place, value);
+                tried
+            }
+            Deed::StoreEx => self.make_store_ex(tried),
+            Deed::StoreFail | Deed::Clear => {
+                self.clear_ex(t);
+                tried
+            }
+        }
+    }
+
+    /// Makes a store-exclusive: it stores just where its thread is marked on the row.
+    #[inline(always)]
+    #[tactic(auto, using(crate::proofs::Exclusives::on_marked, crate::proofs::Exclusives::off_unmarked))]
+    fn make_store_ex(&mut self, tried: Access) -> Access
+        requires exclusive { tried.deed ≡ Deed.StoreEx }
+        requires thread { tried.thread < length self.old.marks }
+        requires aligned { IsTrue (is_aligned tried.place) }
+        requires inside { tried.place.addr + size_bytes tried.place.size ≤ length self.old.memory }
+        requires fits { tried.value < 256 ^ size_bytes tried.place.size }
+        ensures made { result ≡ made self.old tried }
+        ensures moved { self.new ≡ accessed self.old (entry_of result) }
+        ensures may { MayAccess self.old (entry_of result) }
+        ensures size { IsAsLarge self.old self.new }
+    {
+        if self.store_ex(tried.thread, tried.place, tried.value) {
+            return tried;
+        }
+        tried.with_deed(Deed::StoreFail)
+    }
 }
 
 /// The cells that spell these bytes.
@@ -202,145 +257,4 @@ fn is_marked_on(mark: Option<u32>, row: u32) -> bool
 }
 
 #[cfg(test)]
-mod tests {
-    use super::*;
-    use crate::entry::{Access, Deed};
-
-    /// Whether a value has no more bytes than a size.
-    fn fits(value: u64, size: Size) -> bool
-        ensures { IsTrue result → value < 256 ^ size_bytes size }
-    {
-        match size {
-            Size::B1 => value < 0x100,
-            Size::B2 => value < 0x1_0000,
-            Size::B4 => value < 0x1_0000_0000,
-            Size::B8 => true,
-        }
-    }
-
-    /// Makes an access, and says whether it answers as the record has it.
-    fn answers(memory: &mut PlainMemory, access: Access) -> bool
-        requires bytes { length memory.old.memory ≡ 16384 }
-        requires threads { length memory.old.marks ≡ 2 }
-        ensures size { IsAsLarge memory.old memory.new }
-    {
-        let (t, place, value) = (access.thread, access.place, access.value);
-        let inside = place.addr < 16_384 && place.addr + place.size.bytes() <= 16_384;
-        if t >= 2 || !place.is_aligned() || !inside || !fits(value, place.size) {
-            return false;
-        }
-        match access.deed {
-            Deed::Load => memory.load(place) == value,
-            Deed::LoadEx => memory.load_ex(t, place) == value,
-            Deed::Store => {
-                memory.store(t, place, value);
-                true
-            }
-            Deed::StoreEx => memory.store_ex(t, place, value),
-            Deed::StoreFail => !memory.store_ex(t, place, value),
-            Deed::Clear => {
-                memory.clear_ex(t);
-                true
-            }
-        }
-    }
-
-    /// Whether the accesses answer as they are recorded, one after the other, in memory that begins as zeros.
-    fn all_answer(alloc: Global, accesses: &[Access]) -> Result<bool, AllocError> {
-        let mut memory = PlainMemory::new(alloc, &[0; 16_384], 2)?;
-        for access in accesses {
-            if !answers(&mut memory, *access) {
-                return Ok(false);
-            }
-        }
-        Ok(true)
-    }
-
-    fn access(thread: u32, deed: Deed, addr: u32, size: Size, value: u64) -> Access {
-        Access {
-            thread,
-            deed,
-            place: Place { addr, size },
-            value,
-        }
-    }
-
-    /// Thread 0's load-exclusive and its store-exclusive of a word, as that answers.
-    fn loaded() -> Access {
-        access(0, Deed::LoadEx, 0x2000, Size::B4, 0)
-    }
-
-    fn succeeds() -> Access {
-        access(0, Deed::StoreEx, 0x2000, Size::B4, 9)
-    }
-
-    fn fails() -> Access {
-        access(0, Deed::StoreFail, 0x2000, Size::B4, 9)
-    }
-
-    #[test]
-    fn fails_where_the_word_changed_and_changed_back(rt: HostRuntime) {
-        let accesses = [
-            loaded(),
-            access(1, Deed::Store, 0x2000, Size::B4, 5),
-            access(1, Deed::Store, 0x2000, Size::B4, 0),
-            fails(),
-            access(0, Deed::Load, 0x2000, Size::B4, 0),
-        ];
-        assert_eq!(rt; all_answer(rt.alloc(), &accesses), Ok(true));
-    }
-
-    #[test]
-    fn fails_after_a_store_in_the_row_alone(rt: HostRuntime) {
-        let last_byte = access(1, Deed::Store, 0x2007, Size::B1, 1);
-        let next_row = access(1, Deed::Store, 0x2008, Size::B8, 1);
-        let another_row = access(1, Deed::Store, 0x3000, Size::B4, 1);
-        let alloc = rt.alloc();
-        assert_eq!(rt;
-            all_answer(alloc, &[loaded(), last_byte, fails()]),
-            Ok(true)
-        );
-        assert_eq!(rt;
-            all_answer(alloc, &[loaded(), next_row, succeeds()]),
-            Ok(true)
-        );
-        assert_eq!(rt;
-            all_answer(alloc, &[loaded(), another_row, succeeds()]),
-            Ok(true)
-        );
-    }
-
-    #[test]
-    fn fails_after_an_own_store_in_the_row(rt: HostRuntime) {
-        let accesses = [
-            loaded(),
-            access(1, Deed::Store, 0x2000, Size::B4, 4),
-            access(0, Deed::Store, 0x2004, Size::B4, 1),
-            fails(),
-        ];
-        assert_eq!(rt; all_answer(rt.alloc(), &accesses), Ok(true));
-    }
-
-    #[test]
-    fn sees_the_halves_of_a_doubleword(rt: HostRuntime) {
-        let accesses = [
-            access(0, Deed::LoadEx, 0x2000, Size::B8, 0),
-            access(1, Deed::Store, 0x2006, Size::B2, 0xbeef),
-            access(0, Deed::StoreFail, 0x2000, Size::B8, 1),
-            access(0, Deed::Load, 0x2000, Size::B8, 0xbeef_0000_0000_0000),
-            access(0, Deed::Load, 0x2004, Size::B4, 0xbeef_0000),
-            access(0, Deed::LoadEx, 0x2000, Size::B8, 0xbeef_0000_0000_0000),
-            access(0, Deed::StoreEx, 0x2000, Size::B8, 1),
-        ];
-        assert_eq!(rt; all_answer(rt.alloc(), &accesses), Ok(true));
-    }
-
-    #[test]
-    fn fails_once_cleared(rt: HostRuntime) {
-        let clear = access(0, Deed::Clear, 0, Size::B1, 0);
-        assert_eq!(rt;
-            all_answer(rt.alloc(), &[loaded(), clear, fails()]),
-            Ok(true)
-        );
-    }
-}
+mod tests;

@@ -6,7 +6,8 @@ use Rattle.llsc_base.specs.Sizes.{Numbers}
 use Rattle.a32_instr.specs.declared.outside.Stop.{Stop}
 use Rattle.a32_instr.specs.declared.outside.Stop.TheVariants as stop
 use Rattle.guest_thread.specs.declared.ends.GuestEnd.{GuestEnd}
-use Rattle.guest_machine.specs.Traces.{AreEnds, IsTraceRecord}
+use Rattle.guest_machine.specs.Traces.{IsTraceRecord}
+use Rattle.guest_thread.specs.Ends.{AreEnds}
 use Rattle.guest_machine.specs.Turns.{IsTooLong}
 use Rattle.run_record.specs.Text.{record_text}
 use Rattle.run_record.specs.declared.records.RunRecord.{RunRecord}

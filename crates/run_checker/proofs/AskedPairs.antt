@@ -11,7 +11,7 @@ use Rattle.history.specs.declared.entry.Deed.TheVariants as deed
 use Rattle.a32_instr.specs.declared.outside.Ask.{Ask}
 use Rattle.a32_instr.specs.declared.outside.Ask.TheVariants as ask
 use Rattle.guest_calls.specs.Pairs.{pair_of}
-use Rattle.guest_thread.specs.Accesses.{entry_by, entry_of}
+use Rattle.history.specs.Accesses.{entry_by, entry_of}
 use Rattle.guest_thread.specs.ThreadState.{IsPlaced, ReplyFits}
 use Rattle.run_checker.specs.Verdict.{fits, is_asked, is_place}
 

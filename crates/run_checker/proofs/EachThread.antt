@@ -55,7 +55,7 @@ pub all_brought : (program : Program) (size : Numbers) (budget : ℕ) (early : L
 all_brought program size budget early access checker guest memory brought step = record {
   guests =
       at_set (IsBrought program size budget early) (IsBrought program size budget (early ++ access ∷ [])) checker.guests.items access.thread guest brought.guests
-      (λ k other apart come. subst (λ pairs. HasCome program budget (thread_start program size k) pairs other) (sym (other_push k early access (λ same. apart (sym same)))) come)
+      (λ k other apart come. subst (λ pairs. HasCome program budget (thread_start program size size.threads k) pairs other) (sym (other_push k early access (λ same. apart (sym same)))) come)
       step.brought;
   memory = step.left;
 }

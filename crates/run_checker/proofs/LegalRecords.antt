@@ -14,16 +14,17 @@ use Rattle.history.specs.declared.entry.Access.{Access}
 use Rattle.history.specs.declared.entry.Deed.{Deed}
 use Rattle.history.specs.declared.entry.Deed.TheVariants as deed
 use Rattle.history.proofs.Marks.{IsAsLarge-accessed}
-use Rattle.guest_thread.specs.Accesses.{entry_by, entry_of, history_of, pairs_in}
+use Rattle.history.specs.Accesses.{entry_by, entry_of, history_of}
+use Rattle.guest_calls.specs.Pairs.{pairs_in}
 use Rattle.guest_thread.specs.Start.{thread_start}
 use Rattle.run_record.specs.Limits.{IsAccess}
-use Rattle.guest_machine.specs.Turns.{monitor_of}
-use Rattle.guest_machine.specs.Ended.{HasEnded}
+use Rattle.guest_thread.specs.Accesses.{monitor_of}
+use Rattle.guest_thread.specs.Ended.{HasEnded}
 use Rattle.run_checker.specs.Verdict.{is_load, IsRight, AreRight, Judges, good}
 use Rattle.run_checker.specs.declared.verdicts.Verdict.TheVariants as verdict
 use Rattle.run_checker.proofs.AskedPairs.{asked_inside}
 use Rattle.guest_thread.proofs.Placed.{asks_placed}
-use Rattle.guest_machine.proofs.Pushed.{monitor_push}
+use Rattle.guest_thread.proofs.Pushed.{monitor_push}
 
 -- a mark on a row is that row
 on_row : (row : ℕ) (mark : Option ℕ) → is_on row mark ≡ true → mark ≡ Some row
@@ -71,7 +72,7 @@ module _ (program : Program) (size : Numbers) (budget : ℕ) where
         aligned = access_is.formed.aligned;
         inside = subst (λ n. access.place.addr + size_bytes access.place.size ≤ n) (sym large.bytes)
             (asked_inside (length program.bytes) right.ask access right.asked
-            (asks_placed program budget (thread_start program size access.thread) tt (pairs_in access.thread early) right.ask right.next) other);
+            (asks_placed program budget (thread_start program size size.threads access.thread) tt (pairs_in access.thread early) right.ask right.next) other);
         fits = access_is.formed.fits;
       })
       right.value

@@ -5,5 +5,3 @@ pub mod LegalRecords
 pub mod Makes
 pub mod EachThread
 pub mod Judging
-pub mod GoodTraces
-pub mod TracesAlone

@@ -7,22 +7,21 @@ use Rattle.history.specs.declared.entry.Access.{Access}
 use Rattle.a32_instr.specs.declared.outside.Ask.{Ask}
 use Rattle.a32_step.specs.Machine.{Machine}
 use Rattle.guest_calls.specs.Run.{Pair}
-use Rattle.guest_calls.specs.Pairs.{pair_of}
-use Rattle.guest_thread.specs.Accesses.{entry_of, pairs_in}
+use Rattle.guest_calls.specs.Pairs.{pair_of, pairs_in}
+use Rattle.history.specs.Accesses.{entry_of}
 use Rattle.guest_thread.specs.ThreadState.{ThreadState}
 use Rattle.guest_thread.specs.Start.{thread_start}
 use Rattle.guest_thread.specs.Under.{HasCome, Awaits}
-use Rattle.guest_machine.specs.Turns.{monitor_of}
+use Rattle.guest_thread.specs.Accesses.{monitor_of}
 use Rattle.run_checker.specs.Verdict.{is_asked, AsksNext, HasWrongValue, LacksReservation}
 use Rattle.run_checker.specs.Serving.{IsServed}
 use Rattle.run_checker.specs.Positions.{BringsOn}
 use Rattle.run_checker.proofs.AskedPairs.{asked_pair}
-use Rattle.guest_thread.proofs.Pushed.{own_push}
-use Rattle.guest_machine.proofs.Pushed.{monitor_push}
+use Rattle.guest_thread.proofs.Pushed.{own_push, monitor_push}
 
 pub brings_on : (program : Program) (size : Numbers) (budget : ℕ) (early : List Access) (access : Access) (asked : Ask) (reply : ℕ) (waits goes : ThreadState) (memory after : Monitor)
     → AsksNext program size budget early access.thread asked
-    → Awaits program budget (thread_start program size access.thread) (pairs_in access.thread early) asked waits
+    → Awaits program budget (thread_start program size size.threads access.thread) (pairs_in access.thread early) asked waits
     → is_asked asked access ≡ true
     → memory ≡ monitor_of program size early → IsServed memory access after
     → reply ≡ (pair_of (entry_of access)).1
@@ -37,7 +36,7 @@ brings_on program size budget early access asked reply waits goes memory after n
     reserved = λ lacks. served.reserved (subst (λ m. LacksReservation m access) (sym was) lacks);
   };
   brought =
-      let start = thread_start program size access.thread in
+      let start = thread_start program size size.threads access.thread in
       let pairs = pairs_in access.thread early in
       let pair : (asked, reply) ≡ pair_of (entry_of access) = ap (λ r. (asked, r)) replied ∙ sym (asked_pair asked access as_asked) in
       subst (λ ps. HasCome program budget start ps goes) (ap (λ p. pairs ++ p ∷ []) pair ∙ sym (own_push early access)) (given program budget start pairs asked awaits);

@@ -7,7 +7,7 @@ use Rattle.history.specs.declared.entry.Deed.{Deed}
 use Rattle.history.specs.declared.entry.Deed.TheVariants as deed
 use Rattle.a32_instr.specs.declared.outside.Ask.{Ask}
 use Rattle.guest_calls.proofs.Asked.{one_ask, asks_or_ends}
-use Rattle.guest_machine.specs.Ended.{HasEnded}
+use Rattle.guest_thread.specs.Ended.{HasEnded}
 use Rattle.run_checker.specs.Verdict.{is_asked, is_load, AsksNext, IsRight, IsWrong, AreRight, Judges, good, wrong, unfinished}
 use Rattle.run_checker.specs.declared.verdicts.Reason.{Reason}
 use Rattle.run_checker.specs.declared.verdicts.Reason.TheVariants.{AfterStop, NotAsked, WrongValue, NoReservation, Unfinished}

@@ -4,19 +4,19 @@ use Rattle.llsc_base.specs.Images.{Program}
 use Rattle.llsc_base.specs.Sizes.{Numbers}
 use Rattle.history.specs.Monitor.{Monitor}
 use Rattle.history.specs.declared.entry.Access.{Access}
-use Rattle.guest_thread.specs.Accesses.{pairs_in}
+use Rattle.guest_calls.specs.Pairs.{pairs_in}
 use Rattle.guest_thread.specs.ThreadState.{ThreadState, IsReadyIn}
 use Rattle.guest_thread.specs.Start.{thread_start}
 use Rattle.guest_thread.specs.Under.{HasCome}
-use Rattle.guest_machine.specs.Turns.{monitor_of}
-use Rattle.guest_machine.specs.Ended.{HasEnded}
+use Rattle.guest_thread.specs.Accesses.{monitor_of}
+use Rattle.guest_thread.specs.Ended.{HasEnded}
 use Rattle.run_checker.specs.Verdict.{AsksNext, IsRight}
 use Rattle.a32_instr.specs.declared.outside.Ask.{Ask}
 use Rattle.run_checker.specs.declared.checker.Checker.{Checker}
 
 -- a thread is where its accesses have brought it
 abbrev pub IsBrought : Program → Numbers → ℕ → List Access → ℕ → ThreadState → Type 0
-IsBrought program size budget early t guest = HasCome program budget (thread_start program size t) (pairs_in t early) guest
+IsBrought program size budget early t guest = HasCome program budget (thread_start program size size.threads t) (pairs_in t early) guest
 
 -- an access is right, and has brought its thread and memory on
 pub record BringsOn (program : Program) (size : Numbers) (budget : ℕ) (early : List Access) (access : Access) (guest : ThreadState) (memory : Monitor) : Type 0 where

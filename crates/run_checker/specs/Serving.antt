@@ -2,7 +2,7 @@
 use Rattle.std.specs.Prelude.{◌≡◌}
 use Rattle.history.specs.Monitor.{Monitor, accessed}
 use Rattle.history.specs.declared.entry.Access.{Access}
-use Rattle.guest_thread.specs.Accesses.{entry_of}
+use Rattle.history.specs.Accesses.{entry_of}
 use Rattle.run_checker.specs.Verdict.{HasWrongValue, LacksReservation}
 use Rattle.run_checker.specs.declared.verdicts.Reason.{Reason}
 use Rattle.run_checker.specs.declared.verdicts.Reason.TheVariants.{AfterStop, NotAsked, WrongValue, NoReservation, Unfinished}

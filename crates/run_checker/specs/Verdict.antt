@@ -11,10 +11,10 @@ use Rattle.history.specs.declared.entry.Deed.TheVariants as deed
 use Rattle.a32_instr.specs.declared.outside.Ask.{Ask}
 use Rattle.a32_instr.specs.declared.outside.Ask.TheVariants.{Load, LoadEx, Store, StoreEx, Clear}
 use Rattle.guest_calls.specs.Run.{Asks}
-use Rattle.guest_thread.specs.Accesses.{pairs_in}
+use Rattle.guest_calls.specs.Pairs.{pairs_in}
 use Rattle.guest_thread.specs.Start.{thread_start}
-use Rattle.guest_machine.specs.Ended.{HasEnded}
-use Rattle.guest_machine.specs.Turns.{monitor_of}
+use Rattle.guest_thread.specs.Ended.{HasEnded}
+use Rattle.guest_thread.specs.Accesses.{monitor_of}
 use Rattle.run_checker.specs.declared.verdicts.Reason.{Reason}
 use Rattle.run_checker.specs.declared.verdicts.Reason.TheVariants as reason
 use Rattle.run_checker.specs.declared.verdicts.Verdict.{Verdict}
@@ -54,7 +54,7 @@ LacksReservation monitor access =
 
 -- A thread's next ask, after the accesses before.
 abbrev pub AsksNext : Program → Numbers → ℕ → List Access → ℕ → Ask → Type 0
-AsksNext program size budget before t ask = Asks program budget (thread_start program size t) (pairs_in t before) ask
+AsksNext program size budget before t ask = Asks program budget (thread_start program size size.threads t) (pairs_in t before) ask
 
 -- an access is what its thread asks next, and nothing stands against it
 pub record IsRight (program : Program) (size : Numbers) (budget : ℕ) (before : List Access) (access : Access) : Type 0 where

@@ -5,14 +5,15 @@ ghost use Rattle.llsc_base.specs.Sizes.{Numbers};
 ghost use Rattle.history.specs.Monitor.{IsAsLarge};
 ghost use Rattle.guest_thread.specs.ThreadState.{IsReadyIn};
 ghost use Rattle.run_record.specs.Limits.{IsAccess};
-ghost use Rattle.guest_machine.specs.Turns.{monitor_of};
+ghost use Rattle.guest_thread.specs.Accesses.{monitor_of};
 ghost use Rattle.run_checker.specs.Verdict.{IsRight, IsWrong};
 ghost use Rattle.run_checker.specs.Positions.{AreBrought, BringsOn, HaveEnded, IsBrought, MayGoOn, SomeAsks};
 
 use crate::asked::is_asked;
 use crate::serving::serve;
 use crate::verdicts::Reason;
-use guest_thread::{Guest, Turn, reply_of};
+use guest_calls::reply_of;
+use guest_thread::{Guest, Turn};
 use history::{Access, PlainMemory};
 use llsc_base::{Image, MachineSize};
 use std::alloc::{AllocError, Global};

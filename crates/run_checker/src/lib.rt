@@ -1,8 +1,8 @@
 //! Whether a recorded run is one of its program.
 //!
 //! [`check_record`] runs the threads again, and compares what they ask with the record and memory with its values;
-//! `specs/Verdict.antt` says which access is wrong, and why. [`laws`] has that accesses have one verdict at most, that a
-//! good record is what Arm allows, and that the record of a trace is good.
+//! `specs/Verdict.antt` says which access is wrong, and why. [`laws`] has that accesses have one verdict at most, and that a
+//! good record is what Arm allows.
 #![tactic(auto)]
 
 mod asked;

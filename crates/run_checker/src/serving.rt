@@ -1,7 +1,7 @@
 //! An access of a record, made in memory.
-ghost use Rattle.std.specs.Prelude.{◌≡◌, ◌≢◌, ◌≤◌, ◌+◌, IfSome, IfNone, length};
+ghost use Rattle.std.specs.Prelude.{◌≢◌, ◌≤◌, ◌+◌, IfSome, IfNone, length};
 ghost use Rattle.llsc_base.specs.Memory.{size_bytes};
-ghost use Rattle.history.specs.Monitor.{IsAsLarge, accessed};
+ghost use Rattle.history.specs.Monitor.{IsAsLarge};
 ghost use Rattle.run_record.specs.Limits.{IsAccess};
 ghost use Rattle.run_checker.specs.Serving.{IsRefused, IsServed};
 
@@ -16,36 +16,12 @@ pub fn serve(memory: &mut PlainMemory, access: Access) -> Option<Reason>
     ensures served { IfNone result (IsServed memory.old access memory.new) }
     ensures size { IsAsLarge memory.old memory.new }
 {
-    let thread = access.thread;
-    let place = access.place;
-    let value = access.value;
-    match access.deed {
-        Deed::Load => wrong_value(memory.load(place), value),
-        Deed::LoadEx => wrong_value(memory.load_ex(thread, place), value),
-        Deed::Store => {
-            memory.store(thread, place, value);
-            None
-        }
-        Deed::StoreEx => {
-            if memory.store_ex(thread, place, value) {
-                return None;
-            }
-            Some(Reason::NoReservation)
-        }
-        Deed::StoreFail | Deed::Clear => {
-            memory.clear_ex(thread);
-            None
-        }
+    let made = memory.make(access);
+    if made.deed != access.deed {
+        return Some(Reason::NoReservation);
     }
-}
-
-/// What stands against a load's value, where memory has this one.
-fn wrong_value(has: u64, value: u64) -> Option<Reason>
-    ensures wrong { IfSome result (λ reason. (reason ≡ Reason.WrongValue) × (value ≡ has → ⊥)) }
-    ensures right { IfNone result (value ≡ has) }
-{
-    if value == has {
-        return None;
+    if made.value != access.value {
+        return Some(Reason::WrongValue);
     }
-    Some(Reason::WrongValue)
+    None
 }

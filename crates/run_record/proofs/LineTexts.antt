@@ -16,7 +16,8 @@ use Rattle.number_text.proofs.PlainTexts.{plain_text, text_plain}
 use Rattle.number_text.proofs.HexTexts.{long_read, read_long, read_word, word_read}
 use Rattle.run_record.specs.Fields.{Read, ◌>>=◌, after, field}
 use Rattle.run_record.specs.Fault.{HasLine}
-use Rattle.run_record.specs.Limits.{IsFormed, nowhere}
+use Rattle.run_record.specs.Limits.{IsFormed}
+use Rattle.history.specs.Accesses.{nowhere}
 use Rattle.run_record.specs.Reading.{clear_of, clear_or, deed_of, is_whole, line_access, object_access, size_of}
 use Rattle.run_record.specs.Text.{deed_text, deed_word, line_text, object_text, size_word}
 use Rattle.run_record.proofs.Options.{bind_goes, bind_some, if_only, some_same}

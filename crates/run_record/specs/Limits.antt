@@ -1,8 +1,7 @@
 -- What a record may hold: limits of this project's own.
 use Rattle.std.specs.Prelude.{◌≡◌, ℕ, ◌^◌, ◌<◌, ◌≤◌, IsTrue, All, length}
 use Rattle.llsc_base.specs.Memory.{is_aligned, size_bytes}
-use Rattle.llsc_base.specs.declared.access.Place.{Place}
-use Rattle.llsc_base.specs.declared.access.Size.TheVariants.{B1}
+use Rattle.history.specs.Accesses.{nowhere}
 use Rattle.history.specs.declared.entry.Access.{Access}
 use Rattle.history.specs.declared.entry.Deed.TheVariants as deed
 use Rattle.run_record.specs.declared.records.RunRecord.{RunRecord}
@@ -18,10 +17,6 @@ most_budget = 1000000000000
 -- the most accesses
 abbrev pub most_accesses : ℕ
 most_accesses = 1000000
-
--- the place of a Clear
-abbrev pub nowhere : Place
-nowhere = record { addr = 0; size = B1 }
 
 -- an access as a line says it: its address has 32 bits and is a multiple of its size, its value fits its size, and
 -- a Clear has the place of one byte at address 0 and the value 0

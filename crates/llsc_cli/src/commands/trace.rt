@@ -1,6 +1,7 @@
 //! `trace`: a run of all threads in an order that a number fixes, as a record.
 ghost use Rattle.std.specs.Prelude.{◌≡◌, ◌≢◌, ◌⊎◌, ◌≤◌, None, codes, length};
-ghost use Rattle.guest_machine.specs.Traces.{AreEnds, IsTraceRecord};
+ghost use Rattle.guest_machine.specs.Traces.{IsTraceRecord};
+ghost use Rattle.guest_thread.specs.Ends.{AreEnds};
 ghost use Rattle.run_record.specs.Limits.{IsRecord};
 ghost use Rattle.run_record.specs.Text.{record_text};
 ghost use Rattle.llsc_cli.specs.Host.{Adds, AddsFront, Rose};

@@ -8,7 +8,7 @@ use Rattle.guest_machine.proofs.alone.solo.Goals as goal
 pub returns : goal.returns
 returns c =
     let program = c.args.image.now in
-    let start = thread_start program c.args.size.now 0 in
+    let start = thread_start program c.args.size.now c.args.size.now.threads 0 in
     let alone : Alone = record { guest = c.in_ok-start.field-0; memory = c.in_ok-new.field-0; counts = c.none.result } in
     let ends = end_of program c.args.budget start program.bytes c.run-stop.result c.run-stop.new.self c.steps.result c.into_output.result
     c.steps.ensures c.into_output.ensures

@@ -3,4 +3,5 @@ use Rattle.guest_thread.proofs.Placed.{ends_untagged}
 use Rattle.guest_thread.proofs.laws.runs_reach_no_limit.Goals as goal
 
 pub returns : goal.returns
-returns c program size budget t pairs stop steps output addr ends = ends_untagged program budget (thread_start program size t) tt pairs stop steps output addr ends
+returns c program size budget first t pairs stop steps output addr ends =
+    ends_untagged program budget (thread_start program size first t) tt pairs stop steps output addr ends

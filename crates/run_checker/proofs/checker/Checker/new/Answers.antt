@@ -20,7 +20,7 @@ loop-t-preserved c =
       ready = λ mem budget.
           subst (All (IsReadyIn mem budget)) (sym is) (All-push (IsReadyIn mem budget) guests guest (was.ready mem budget) (c.in_ok-start.ensures.ready mem budget));
       start = λ budget.
-          let P : ℕ → ThreadState → Type 0 = λ t guest. HasCome c.args.image.now budget (thread_start c.args.image.now c.args.size.now t) [] guest in
+          let P : ℕ → ThreadState → Type 0 = λ t guest. HasCome c.args.image.now budget (thread_start c.args.image.now c.args.size.now c.args.size.now.threads t) [] guest in
           subst (EachAt P) (sym is)
           (at_push P guests guest (was.start budget)
           (subst (λ t. P t guest) (sym was.count) (c.in_ok-start.ensures.comes budget)));

@@ -10,5 +10,5 @@ abbrev pub invariant-loop-t : goal.invariant-loop-t
 invariant-loop-t l = record {
   count : length l.guests.items ≡ l.t;
   ready : (mem budget : ℕ) → All (IsReadyIn mem budget) l.guests.items;
-  start : (budget : ℕ) → EachAt (λ t guest. HasCome l.image budget (thread_start l.image l.size t) [] guest) l.guests.items;
+  start : (budget : ℕ) → EachAt (λ t guest. HasCome l.image budget (thread_start l.image l.size l.size.threads t) [] guest) l.guests.items;
 }

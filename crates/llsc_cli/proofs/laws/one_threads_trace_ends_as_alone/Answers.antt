@@ -1,6 +1,6 @@
-use Rattle.guest_thread.specs.Accesses.{history_of}
-use Rattle.run_checker.proofs.TracesAlone.{trace_alone}
-use Rattle.run_checker.proofs.laws.one_threads_trace_ends_as_alone.Goals as goal
+use Rattle.history.specs.Accesses.{history_of}
+use Rattle.llsc_cli.proofs.TracesAlone.{trace_alone}
+use Rattle.llsc_cli.proofs.laws.one_threads_trace_ends_as_alone.Goals as goal
 
 pub returns : goal.returns
 returns c program size seed run end one is number ends = (

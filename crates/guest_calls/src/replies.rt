@@ -1,6 +1,6 @@
 //! The reply to an access.
 ghost use Rattle.std.specs.Prelude.{◌≡◌};
-ghost use Rattle.guest_thread.specs.Accesses.{reply_of};
+ghost use Rattle.guest_calls.specs.Pairs.{reply_of};
 
 use history::{Access, Deed};
 

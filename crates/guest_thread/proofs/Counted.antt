@@ -7,8 +7,8 @@ use Rattle.history.specs.Parts.{entries_of}
 use Rattle.history.specs.declared.entry.Entry.{Entry}
 use Rattle.history.proofs.Appends.{entries_of-append}
 use Rattle.guest_thread.specs.Counts.{reads_in, writes_in, fails_in}
-use Rattle.guest_machine.specs.Counting.{AreCounts}
-use Rattle.guest_machine.specs.declared.counts.Counts.{Counts}
+use Rattle.guest_thread.specs.Counting.{AreCounts}
+use Rattle.guest_thread.specs.declared.counts.Counts.{Counts}
 
 -- the thread's own entry counts
 own_more : (count : Entry → ℕ) (t : ℕ) (history : List Entry) (entry : Entry) → thread_of entry ≡ t

@@ -11,7 +11,8 @@ use Rattle.history.specs.declared.entry.Deed.{Deed}
 use Rattle.history.specs.declared.entry.Deed.TheVariants as deed
 use Rattle.a32_instr.specs.declared.outside.Ask.{Ask}
 use Rattle.a32_instr.specs.declared.outside.Ask.TheVariants.{Load, LoadEx, Store, StoreEx, Clear}
-use Rattle.guest_machine.specs.Turns.{access_by, monitor_of, Takes, begins, makes, stops, IsTrace}
+use Rattle.guest_machine.specs.Turns.{Takes, begins, makes, stops, IsTrace}
+use Rattle.guest_thread.specs.Accesses.{access_by, monitor_of}
 use Rattle.guest_machine.proofs.AllEnded.{all_ended}
 use Rattle.guest_machine.proofs.Pushed.{made_by}
 use Rattle.run_checker.specs.Verdict.{fits, is_asked, is_load, is_place, AreRight, AsksNext, HasWrongValue, IsRight, Judges, LacksReservation, good}

@@ -1,22 +1,22 @@
 //! How many accesses of each kind a thread made.
 ghost use Rattle.std.specs.Prelude.{◌≡◌, ◌<◌, ◌≤◌, ◌+◌, ◌^◌};
-ghost use Rattle.guest_thread.specs.Accesses.{entry_of, history_of};
+ghost use Rattle.history.specs.Accesses.{entry_of, history_of};
 ghost use Rattle.guest_thread.specs.Counts.{fails_in, reads_in, writes_in};
-ghost use Rattle.guest_machine.specs.Counting.{AreCounts, accesses_counted};
+ghost use Rattle.guest_thread.specs.Counting.{AreCounts, accesses_counted};
 
 use history::{Access, Deed};
 
 /// A thread's loads, its stores, and its store-exclusives that failed.
 #[derive(Clone, Copy, Debug, PartialEq, Eq)]
-pub(crate) struct Counts {
-    pub(crate) reads: u64,
-    pub(crate) writes: u64,
-    pub(crate) fails: u64,
+pub struct Counts {
+    pub reads: u64,
+    pub writes: u64,
+    pub fails: u64,
 }
 
 impl Counts {
     /// The counts before the first access.
-    pub(crate) fn none() -> Counts
+    pub fn none() -> Counts
         ensures { result ≡ record { reads = 0; writes = 0; fails = 0 } }
     {
         Counts {
@@ -28,7 +28,7 @@ impl Counts {
 
     /// One more access. CLREX counts for nothing.
     #[inline(always)]
-    pub(crate) fn count(&mut self, access: &Access)
+    pub fn count(&mut self, access: &Access)
         requires few { accesses_counted self.old < 2 ^ 63 }
         ensures reads { self.new.reads ≡ self.old.reads + reads_in (entry_of access.now) }
         ensures writes { self.new.writes ≡ self.old.writes + writes_in (entry_of access.now) }
@@ -45,7 +45,7 @@ impl Counts {
 }
 
 /// The counts of a thread in these accesses.
-pub(crate) fn counts_of(accesses: &[Access], thread: u32) -> Counts
+pub fn counts_of(accesses: &[Access], thread: u32) -> Counts
     ensures { AreCounts thread (history_of accesses.now) result }
 {
     let mut counts = Counts::none();

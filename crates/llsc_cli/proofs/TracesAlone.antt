@@ -6,15 +6,16 @@ use Rattle.llsc_base.specs.Sizes.{Numbers}
 use Rattle.history.specs.ArmLegal.{IsArmLegal}
 use Rattle.history.specs.Monitor.{at_rest}
 use Rattle.history.specs.declared.entry.Access.{Access}
-use Rattle.guest_thread.specs.Accesses.{entry_of, history_of}
+use Rattle.history.specs.Accesses.{entry_of, history_of}
 use Rattle.guest_thread.proofs.Pushed.{history_push}
 use Rattle.run_record.specs.Limits.{IsAccess}
 use Rattle.run_record.specs.declared.records.RunRecord.{RunRecord}
 use Rattle.guest_machine.specs.Alone.{AllFailUnmarked, IsAlone}
 use Rattle.guest_machine.specs.Traces.{IsTraceRecord}
-use Rattle.guest_machine.specs.Turns.{access_by, monitor_of, Takes, begins, makes, stops}
+use Rattle.guest_machine.specs.Turns.{Takes, begins, makes, stops}
+use Rattle.guest_thread.specs.Accesses.{access_by, monitor_of}
 use Rattle.guest_machine.proofs.UnderWay.{all_fail_push, unmarked}
-use Rattle.run_checker.proofs.GoodTraces.{trace_good}
+use Rattle.llsc_cli.proofs.GoodTraces.{trace_good}
 use Rattle.run_checker.proofs.LegalRecords.{right_legal, good_right}
 
 -- each store-exclusive of a trace that failed did so without a mark

@@ -5,7 +5,7 @@ use Rattle.llsc_base.specs.Sizes.{Numbers}
 use Rattle.history.specs.declared.entry.Access.{Access}
 use Rattle.a32_instr.specs.declared.outside.Stop.{Stop}
 use Rattle.guest_calls.specs.Run.{Ends}
-use Rattle.guest_thread.specs.Accesses.{pairs_in}
+use Rattle.guest_calls.specs.Pairs.{pairs_in}
 use Rattle.guest_thread.specs.Start.{thread_start}
 
 -- a thread's accesses among these are those of a run that has ended
@@ -13,4 +13,4 @@ pub record HasEnded (program : Program) (size : Numbers) (budget : ℕ) (accesse
   pub stop : Stop
   pub steps : ℕ
   pub output : List ℕ
-  pub ends : Ends program budget (thread_start program size t) (pairs_in t accesses) stop steps output
+  pub ends : Ends program budget (thread_start program size size.threads t) (pairs_in t accesses) stop steps output

@@ -1,8 +1,8 @@
 -- The counts are those of the accesses so far, and no more than these.
 use Rattle.std.proofs.Common.{◌≤◌, take}
-use Rattle.guest_thread.specs.Accesses.{history_of}
-use Rattle.guest_machine.specs.Counting.{AreCounts, accesses_counted}
-use Rattle.guest_machine.proofs.counts.counts_of.Given as goal
+use Rattle.history.specs.Accesses.{history_of}
+use Rattle.guest_thread.specs.Counting.{AreCounts, accesses_counted}
+use Rattle.guest_thread.proofs.counts.counts_of.Given as goal
 
 abbrev pub invariant-loop-access : goal.invariant-loop-access
 invariant-loop-access l = record {
