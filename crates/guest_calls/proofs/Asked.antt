@@ -65,15 +65,14 @@ asks_rest replies program budget start _ _ (asks_access pairs machine steps outp
     (steps, output, access_rests replies program budget start pairs machine steps output ask reached less asked decided silent)
 asks_rest replies program budget start _ _ (asks_byte pairs machine steps output call from count bytes reached less called known short) decided silent =
     let here : Spot = spot_at pairs machine steps output in
-    let all : List Pair = pairs ++ byte_loads from bytes in
-    (
+    let all : List Pair = pairs ++ byte_loads from bytes in (
       steps,
       output,
       rests_by replies program budget start all here (calls call) (asking (byte_load (from + length bytes)) steps output)
           (came replies program budget start pairs machine steps output reached (decided_front replies pairs (byte_loads from bytes) decided)) less called
           (ap (answered_so replies program here) known ∙ ap (printed program here from count) (bytes_short replies pairs from count bytes decided silent short))
           (ap (rest_by_call (length all - length pairs) here) known
-              ∙ ap (λ loaded. asking (byte_load (from + loaded)) steps output) (loaded_are pairs from bytes)),
+          ∙ ap (λ loaded. asking (byte_load (from + loaded)) steps output) (loaded_are pairs from bytes)),
     )
 
 -- ---- the laws, by the replies of the list itself
@@ -106,7 +105,7 @@ one_ask program budget start pairs ask other one two =
     let first = list_rests program budget start pairs ask one in
     let second = list_rests program budget start pairs other two in
     (same_asking ask other first.0 second.0 first.1 second.1
-        (one_way (replies_of pairs) program budget start pairs (asking ask first.0 first.1) (asking other second.0 second.1) first.2 second.2)).0
+    (one_way (replies_of pairs) program budget start pairs (asking ask first.0 first.1) (asking other second.0 second.1) first.2 second.2)).0
 
 -- a thread that asks hasn't ended
 pub asks_or_ends : (program : Program) (budget : ℕ) (start : Machine) (pairs : List Pair) (ask : Ask) (stop : Stop) (steps : ℕ) (output : List ℕ)
@@ -153,7 +152,7 @@ one_end_on program budget start _ _ _ _ _ _ _ (by_limit pairs machine steps outp
     absurd (asks_or_ends program budget start pairs (Store place value) other count text
     (asks_access pairs machine steps output (Store place value) reached less asked) two)
 one_end_on program budget start _ _ _ _ _ _ _ (by_limit pairs machine steps output place value reached less asked)
-  (by_limit _ one count text target other reached_too less_too asked_too) =
+    (by_limit _ one count text target other reached_too less_too asked_too) =
     let same =
     one_limit program budget start pairs machine one steps count output text place target value other
     reached less asked reached_too less_too asked_too in
