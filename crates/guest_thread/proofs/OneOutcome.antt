@@ -57,18 +57,18 @@ pub one_list : (program : Program) (size : Numbers) (budget : ℕ) (history : Li
     → AreEnds program size budget history ends → AreEnds program size budget history others → ends ≡ others
 one_list program size budget history ends others are are_too =
     same_list ends others (are.many ∙ sym are_too.many) (λ t one two got got_too.
-        let first = are.each t one got in
-        let second = are_too.each t two got_too in
-        same_in program budget (thread_start program size size.threads t) history one two (are.numbers t one got ∙ sym (are_too.numbers t two got_too))
-        (by_itself (pairs_of one.thread history) one.stop one.steps one.out first.ends) first.counts
-        (by_itself (pairs_of two.thread history) two.stop two.steps two.out second.ends) second.counts)
+    let first = are.each t one got in
+    let second = are_too.each t two got_too in
+    same_in program budget (thread_start program size size.threads t) history one two (are.numbers t one got ∙ sym (are_too.numbers t two got_too))
+    (by_itself (pairs_of one.thread history) one.stop one.steps one.out first.ends) first.counts
+    (by_itself (pairs_of two.thread history) two.stop two.steps two.out second.ends) second.counts)
 
 -- the same on a memory whose classes take a limited number of writes
 pub one_list_on : (program : Program) (size : Numbers) (budget : ℕ) (history : List Entry) (ends others : List GuestEnd)
     → AreEndsOn program size budget history ends → AreEndsOn program size budget history others → ends ≡ others
 one_list_on program size budget history ends others are are_too =
     same_list ends others (are.many ∙ sym are_too.many) (λ t one two got got_too.
-        let first = are.each t one got in
-        let second = are_too.each t two got_too in
-        same_in program budget (thread_start program size size.threads t) history one two (are.numbers t one got ∙ sym (are_too.numbers t two got_too))
-        first.ends first.counts second.ends second.counts)
+    let first = are.each t one got in
+    let second = are_too.each t two got_too in
+    same_in program budget (thread_start program size size.threads t) history one two (are.numbers t one got ∙ sym (are_too.numbers t two got_too))
+    first.ends first.counts second.ends second.counts)
