@@ -1,5 +1,5 @@
 -- What an instruction does, from its start state and the replies to its accesses so far.
-use Rattle.std.specs.Prelude.{ℕ, if◌then◌else◌, List, [], ◌∷◌}
+use Rattle.std.specs.Prelude.{ℕ, if◌then◌else◌, List}
 use Rattle.llsc_base.specs.Images.{Program}
 use Rattle.a32_instr.specs.declared.instructions.Instr.{Instr}
 use Rattle.a32_instr.specs.declared.instructions.Instr.TheVariants.{Alu, Movw, Movt, Nop, Yield, Mul, Mla, Mls, Long, Clz, Extend, Rev, Word, Half, Block, Branch, BranchReg, Svc, LoadEx, StoreEx, Clrex, Barrier}
@@ -63,9 +63,8 @@ acts (StoreEx cond size rn rd rt) program replies state = store_exclusive size r
 acts Clrex program replies state = clear_exclusive replies state
 acts (Barrier kind option) program replies state = completes (advanced state)
 
--- An instruction whose condition fails is complete and does nothing (DDI 0406C A8.3.1). The condition is tested
--- before the first access is asked for.
+-- What an instruction does with all of its replies so far: one whose condition fails is complete and does nothing, however
+-- many replies there are (DDI 0406C A8.3.1).
 abbrev pub effect_of : Instr → Program → List ℕ → State → Effect
-effect_of instr program [] state =
-    if passes (condition_of instr) state.flags then acts instr program [] state else completes (advanced state)
-effect_of instr program (reply ∷ replies) state = acts instr program (reply ∷ replies) state
+effect_of instr program replies state =
+    if passes (condition_of instr) state.flags then acts instr program replies state else completes (advanced state)

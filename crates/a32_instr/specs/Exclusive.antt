@@ -7,7 +7,7 @@ use Rattle.llsc_base.specs.declared.access.Place.{Place}
 use Rattle.llsc_base.specs.Images.{Program, bar_of}
 use Rattle.a32_instr.specs.declared.outside.Ask.TheVariants.{LoadEx, StoreEx, Clear}
 use Rattle.a32_instr.specs.State.{State, Effect, asks, completes, low32, register, advanced, with_register}
-use Rattle.a32_instr.specs.LoadStore.{asks_unless}
+use Rattle.a32_instr.specs.LoadStore.{asks_unless, loaded_part}
 
 -- the place of a size at the address that a register has
 abbrev pub place_at : Size → ℕ → State → Place
@@ -19,11 +19,11 @@ next_register rt = (rt + 1) % 16
 
 -- a loaded value in its register, with zeros above it; a doubleword has its low word in the first of two registers
 abbrev pub with_loaded : Size → ℕ → ℕ → State → State
-with_loaded B1 rt value state = with_register state rt (low32 value)
-with_loaded B2 rt value state = with_register state rt (low32 value)
-with_loaded B4 rt value state = with_register state rt (low32 value)
+with_loaded B1 rt value state = with_register state rt value
+with_loaded B2 rt value state = with_register state rt value
+with_loaded B4 rt value state = with_register state rt value
 with_loaded B8 rt value state =
-    with_register (with_register state rt (low32 value)) (next_register rt) (low32 (value / 2 ^ 32))
+    with_register (with_register state rt (low32 value)) (next_register rt) (value / 2 ^ 32)
 
 -- the value that is stored: the low part of a register, or two registers together
 abbrev pub stored_part : Size → ℕ → State → ℕ
@@ -32,10 +32,10 @@ stored_part B2 rt state = register state rt % 2 ^ 16
 stored_part B4 rt state = register state rt
 stored_part B8 rt state = register state (next_register rt) * 2 ^ 32 + register state rt
 
--- a load-exclusive asks for its place, and writes the reply to its register
+-- a load-exclusive asks for its place, and writes what it takes of the reply to its register
 abbrev pub loads_exclusive : Size → Program → Place → ℕ → List ℕ → State → Effect
 loads_exclusive size program place rt [] state = asks_unless (bar_of program place false) place.addr (LoadEx place)
-loads_exclusive size program place rt (value ∷ _) state = completes (advanced (with_loaded size rt value state))
+loads_exclusive size program place rt (reply ∷ _) state = completes (advanced (with_loaded size rt (loaded_part size reply) state))
 
 -- a store-exclusive asks for its place with a value, and writes the reply, 0 where it stored, to its status register
 abbrev pub stores_exclusive : Program → Place → ℕ → ℕ → List ℕ → State → Effect

@@ -5,6 +5,7 @@ use Rattle.std.specs.Prelude.{ℕ, ◌+◌, ◌-◌, ◌%◌, ◌^◌, if◌then
 use Rattle.llsc_base.specs.declared.access.Size.TheVariants.{B1, B2, B4}
 use Rattle.llsc_base.specs.declared.access.Size.{Size}
 use Rattle.llsc_base.specs.declared.access.Place.{Place}
+use Rattle.llsc_base.specs.Memory.{size_bytes}
 use Rattle.llsc_base.specs.declared.access.Bar.{Bar}
 use Rattle.llsc_base.specs.declared.access.Bar.TheVariants as bar
 use Rattle.llsc_base.specs.Images.{Program, bar_of}
@@ -15,7 +16,7 @@ use Rattle.a32_instr.specs.declared.instructions.Index.TheVariants.{Plain, Pre, 
 use Rattle.a32_instr.specs.declared.instructions.HalfKind.{HalfKind}
 use Rattle.a32_instr.specs.declared.instructions.HalfKind.TheVariants.{Strh, Ldrh, Ldrsb, Ldrsh}
 use Rattle.a32_instr.specs.Shift.{shifted_by_number}
-use Rattle.a32_instr.specs.Moves.{extended}
+use Rattle.a32_instr.specs.Moves.{widened}
 use Rattle.a32_instr.specs.declared.outside.Ask.{Ask}
 use Rattle.a32_instr.specs.declared.outside.Ask.TheVariants.{Load, Store}
 use Rattle.a32_instr.specs.declared.outside.Stop.{Stop}
@@ -66,11 +67,16 @@ abbrev pub asks_unless : Option Bar → ℕ → Ask → Effect
 asks_unless None addr ask = asks ask
 asks_unless (Some bar) addr ask = stops (barred bar addr)
 
--- a load asks for its place, and writes the reply to its register, which has 32 bits, after the write-back: a byte's
--- reply is below 2 to the 8, so zeros stand above it
+-- What a load of a size takes of its reply, which may be any number: it is cut to its size, so that the low bits are
+-- taken, as many as the place has, and whatever stands above them is dropped. A reply that fits the place is taken whole.
+abbrev pub loaded_part : Size → ℕ → ℕ
+loaded_part size reply = reply % 256 ^ size_bytes size
+
+-- a load asks for its place, and writes what it takes of the reply to its register, with zeros above it, after the
+-- write-back
 abbrev pub loads : Program → Place → State → ℕ → List ℕ → State → Effect
 loads program place back rt [] state = asks_unless (bar_of program place false) place.addr (Load place)
-loads program place back rt (value ∷ _) state = writes back rt (low32 value)
+loads program place back rt (reply ∷ _) state = writes back rt (loaded_part place.size reply)
 
 -- a store asks for its place with a value, and is complete with the reply and the write-back
 abbrev pub stores : Program → Place → State → ℕ → List ℕ → State → Effect
@@ -108,17 +114,18 @@ half_size Ldrh = B2
 half_size Ldrsb = B1
 half_size Ldrsh = B2
 
--- a loaded value as 32 bits: with zeros above it, or with its sign (Strh loads nothing, and is never asked for here)
+-- a loaded halfword or byte as 32 bits: with zeros above it, or with its sign (Strh loads nothing, and is never asked for
+-- here)
 abbrev pub half_value : HalfKind → ℕ → ℕ
-half_value Strh value = extended true 16 value
-half_value Ldrh value = extended true 16 value
-half_value Ldrsb value = extended false 8 value
-half_value Ldrsh value = extended false 16 value
+half_value Strh part = widened true 16 part
+half_value Ldrh part = widened true 16 part
+half_value Ldrsb part = widened false 8 part
+half_value Ldrsh part = widened false 16 part
 
--- a load asks for its place, and writes the reply to its register after the write-back
+-- a load asks for its place, and writes what it takes of the reply to its register, as 32 bits, after the write-back
 abbrev pub loads_half : HalfKind → Program → Place → State → ℕ → List ℕ → State → Effect
 loads_half kind program place back rt [] state = asks_unless (bar_of program place false) place.addr (Load place)
-loads_half kind program place back rt (value ∷ _) state = writes back rt (half_value kind value)
+loads_half kind program place back rt (reply ∷ _) state = writes back rt (half_value kind (loaded_part place.size reply))
 
 abbrev pub half_accesses : HalfKind → Program → Place → State → ℕ → List ℕ → State → Effect
 half_accesses Strh program place back rt replies state = stores program place back (register state rt % 2 ^ 16) replies state

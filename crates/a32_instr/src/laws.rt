@@ -1,7 +1,11 @@
-//! Laws of the instruction table, each proved for every word.
-ghost use Rattle.std.specs.Prelude.{◌≡◌, ◌==◌, ◌<◌, ◌^◌, ℕ, false, true, negsuc, AllPairs, IsTrue};
+//! Laws of the instruction table, each proved for every word, and of the condition.
+ghost use Rattle.std.specs.Prelude.{◌≡◌, ◌==◌, ◌<◌, ◌^◌, ℕ, List, false, true, negsuc, AllPairs, IsTrue};
 ghost use Rattle.std.specs.List.{list_all};
+ghost use Rattle.llsc_base.specs.Images.{Program};
 ghost use Rattle.a32_instr.specs.Bits.{width_of};
+ghost use Rattle.a32_instr.specs.Condition.{passes};
+ghost use Rattle.a32_instr.specs.Effect.{acts, condition_of, effect_of};
+ghost use Rattle.a32_instr.specs.State.{State, advanced, completes};
 ghost use Rattle.a32_instr.specs.Table.{table, meaning, AreApart, FitsNone, MeansItsRow};
 
 use crate::instructions::{
@@ -25,6 +29,15 @@ pub fn words_have_three_cases()
     ensures undefined { (word : ℕ) → FitsNone table word → meaning table word ≡ Err DecodeFault.Undefined }
     ensures fits_none { (word : ℕ) → meaning table word ≡ Err DecodeFault.Undefined → FitsNone table word }
     ensures by_its_row { (word : ℕ) → word < 2 ^ 32 → MeansItsRow table word (meaning table word) }
+{}
+
+/// The condition of an instruction counts however many replies it has had: where it passes the instruction acts, and where it
+/// fails it is complete and does nothing.
+pub fn conditions_count_with_all_replies()
+    ensures passed { (instr : Instr) (program : Program) (replies : List ℕ) (state : State) →
+        passes (condition_of instr) state.flags ≡ true → effect_of instr program replies state ≡ acts instr program replies state }
+    ensures failed { (instr : Instr) (program : Program) (replies : List ℕ) (state : State) →
+        passes (condition_of instr) state.flags ≡ false → effect_of instr program replies state ≡ completes (advanced state) }
 {}
 
 /// Worked words, computed by the table: `mov r0, #0`, `subs r2, r2, #1`, `cmp r1, #3`, `ldr r0, [r1]`,

@@ -5,5 +5,6 @@ pub mod Words
 pub mod Lists
 pub mod Blocks
 pub mod Passed
+pub mod Replied
 pub mod Remembered
 pub mod ExecutionStates

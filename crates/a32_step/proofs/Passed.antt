@@ -28,7 +28,7 @@ use Rattle.a32_instr.specs.Shift.{top_bit, rotated_right}
 use Rattle.a32_instr.specs.DataProcessing.{operand_of, computed, with_flags, alu_done}
 use Rattle.a32_instr.specs.Multiply.{multiplied, product_flags, less_product}
 use Rattle.a32_instr.specs.Moves.{with_top, reversed, extended, width_of}
-use Rattle.a32_instr.specs.LoadStore.{asks_unless, barred, loads, loads_half, stores, accesses, half_accesses, half_size, half_value, accessed_address, moved_address, written_back, access_size, part_of}
+use Rattle.a32_instr.specs.LoadStore.{asks_unless, barred, loads, loads_half, stores, accesses, half_accesses, half_size, half_value, loaded_part, accessed_address, moved_address, written_back, access_size, part_of}
 use Rattle.a32_instr.specs.Block.{block_ask, block_done, block_loaded, is_listed, with_block, block_at, block_back, block_size, count_of, lowest_address, registers_of, unless_barred}
 use Rattle.a32_instr.specs.Branch.{linked}
 use Rattle.a32_instr.specs.Exclusive.{place_at, stored_part, loads_exclusive, stores_exclusive}
@@ -82,7 +82,7 @@ unless_pass program asked (Some found) addr passed = barred_own found addr
 
 loads_pass : (program : Program) (place : Place) (back : State) (rt : ℕ) (replies : List ℕ) (state : State) → Passes program (loads program place back rt replies state)
 loads_pass program place back rt [] state = unless_pass program (ask.Load place) (bar_of program place false) place.addr (λ none. none)
-loads_pass program place back rt (value ∷ values) state = writes_pass program back rt (low32 value)
+loads_pass program place back rt (value ∷ values) state = writes_pass program back rt (loaded_part place.size value)
 
 stores_pass : (program : Program) (place : Place) (back : State) (value : ℕ) (replies : List ℕ) (state : State) → Passes program (stores program place back value replies state)
 stores_pass program place back value [] state = unless_pass program (ask.Store place value) (bar_of program place true) place.addr (λ none. none)
@@ -94,7 +94,7 @@ word_passes program false byte place back rt replies state = stores_pass program
 
 loads_half_pass : (kind : HalfKind) (program : Program) (place : Place) (back : State) (rt : ℕ) (replies : List ℕ) (state : State) → Passes program (loads_half kind program place back rt replies state)
 loads_half_pass kind program place back rt [] state = unless_pass program (ask.Load place) (bar_of program place false) place.addr (λ none. none)
-loads_half_pass kind program place back rt (value ∷ values) state = writes_pass program back rt (half_value kind value)
+loads_half_pass kind program place back rt (value ∷ values) state = writes_pass program back rt (half_value kind (loaded_part place.size value))
 
 half_passes : (kind : HalfKind) (program : Program) (place : Place) (back : State) (rt : ℕ) (replies : List ℕ) (state : State) → Passes program (half_accesses kind program place back rt replies state)
 half_passes Strh program place back rt replies state = stores_pass program place back (register state rt % 2 ^ 16) replies state

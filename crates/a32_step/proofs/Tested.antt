@@ -21,7 +21,7 @@ use Rattle.a32_instr.specs.Multiply.{multiplied, product_flags, less_product}
 use Rattle.a32_instr.specs.Moves.{with_top, reversed, extended, width_of}
 use Rattle.a32_instr.specs.declared.instructions.HalfKind.{HalfKind}
 use Rattle.a32_instr.specs.declared.instructions.HalfKind.TheVariants.{Strh, Ldrh, Ldrsb, Ldrsh}
-use Rattle.a32_instr.specs.LoadStore.{asks_unless, loads, loads_half, stores, accesses, half_accesses, half_size, half_value, accessed_address, moved_address, written_back, access_size, part_of}
+use Rattle.a32_instr.specs.LoadStore.{asks_unless, loads, loads_half, stores, accesses, half_accesses, half_size, half_value, loaded_part, accessed_address, moved_address, written_back, access_size, part_of}
 use Rattle.a32_instr.specs.Block.{block_back, block_size, lowest_address}
 use Rattle.a32_step.proofs.Blocks.{block_tested}
 use Rattle.a32_instr.specs.Exclusive.{next_register, place_at, stored_part, loads_exclusive, stores_exclusive}
@@ -57,7 +57,7 @@ unless_tested program ask (Some bar) addr fit passed = tt
 
 loads_tested : (program : Program) (place : Place) (back : State) (rt : ℕ) (replies : List ℕ) (state : State) → IsTested program replies (wanted_of (loads program place back rt replies state))
 loads_tested program place back rt [] state = unless_tested program (ask.Load place) (bar_of program place false) place.addr tt (λ none. none)
-loads_tested program place back rt (value ∷ values) state = writes_tested program (value ∷ values) back rt (low32 value)
+loads_tested program place back rt (value ∷ values) state = writes_tested program (value ∷ values) back rt (loaded_part place.size value)
 
 stores_tested : (program : Program) (place : Place) (back : State) (value : ℕ) (replies : List ℕ) (state : State) → value < 256 ^ size_bytes place.size → IsTested program replies (wanted_of (stores program place back value replies state))
 stores_tested program place back value [] state fit = unless_tested program (ask.Store place value) (bar_of program place true) place.addr fit (λ none. none)
@@ -79,7 +79,7 @@ word_tested program false byte addr rt back replies state words =
 
 loads_half_tested : (kind : HalfKind) (program : Program) (place : Place) (back : State) (rt : ℕ) (replies : List ℕ) (state : State) → IsTested program replies (wanted_of (loads_half kind program place back rt replies state))
 loads_half_tested kind program place back rt [] state = unless_tested program (ask.Load place) (bar_of program place false) place.addr tt (λ none. none)
-loads_half_tested kind program place back rt (value ∷ values) state = writes_tested program (value ∷ values) back rt (half_value kind value)
+loads_half_tested kind program place back rt (value ∷ values) state = writes_tested program (value ∷ values) back rt (half_value kind (loaded_part place.size value))
 
 half_tested : (kind : HalfKind) (program : Program) (addr rt : ℕ) (back : State) (replies : List ℕ) (state : State) → IsTested program replies (wanted_of (half_accesses kind program (record { addr = addr; size = half_size kind }) back rt replies state))
 half_tested Strh program addr rt back replies state = stores_tested program (record { addr = addr; size = B2 }) back (register state rt % 2 ^ 16) replies state (omega arith)

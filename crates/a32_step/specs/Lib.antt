@@ -1,4 +1,5 @@
 pub mod Machine
+pub mod Replied
 pub mod Inside
 pub mod Words
 pub mod Progress

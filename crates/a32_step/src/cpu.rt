@@ -79,9 +79,9 @@ impl Cpu {
     }
 
     /// The reply to the access that is awaited; one must be. Any number is taken. Of a load's reply
-    /// the low 32 bits count, of LDRH's and LDRSH's the low 16, of LDRSB's the low 8, and of LDREXD's
-    /// all 64. Of a store-exclusive's the low 32 go to its status register: 0 says that it stored and
-    /// 1 that it failed. Of a store's or a clear's none counts.
+    /// as many of the low bits count as its place has: 8, 16, 32 or 64. Of a store-exclusive's the low
+    /// 32 go to its status register: 0 says that it stored and 1 that it failed. Of a store's or a
+    /// clear's none counts.
     #[tactic(auto, using(crate::proofs::ExecutionStates::is_awaited, crate::proofs::ExecutionStates::replied))]
     pub fn give(&mut self, reply: u64)
         requires { IsAwaiting self.old.phase }

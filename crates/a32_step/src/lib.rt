@@ -4,7 +4,8 @@
 //! memory, a guest call, or nothing, since it is complete or the thread has stopped. The caller
 //! answers an access by [`Cpu::give`] and a call by [`Cpu::answer`]. Each of them is proved to be
 //! what the effect of the instruction says (`a32_instr`, `specs/Effect`); `specs/Machine` here says
-//! it of a machine that is in the middle of an instruction.
+//! it of a machine that is in the middle of an instruction, and [`laws`] that the two agree over all
+//! replies.
 #![tactic(auto)]
 
 mod arithmetic;
@@ -12,6 +13,7 @@ mod conditions;
 mod cpu;
 mod decoded;
 mod execution;
+pub mod laws;
 mod operands;
 mod parts;
 mod phases;

@@ -1,10 +1,11 @@
 //! Words, halves and bytes of numbers (DDI 0406C A5.2.8, A5.4.3, A8.8.106).
 ghost use Rattle.std.specs.Prelude.{◌≡◌};
 ghost use Rattle.a32_instr.specs.State.{low32};
-ghost use Rattle.a32_instr.specs.LoadStore.{half_value};
+ghost use Rattle.a32_instr.specs.LoadStore.{access_size, half_size, half_value, loaded_part};
 ghost use Rattle.a32_instr.specs.Moves.{with_top, reversed, extended, width_of};
 
 use a32_instr::HalfKind;
+use llsc_base::Size;
 
 /// A number with another upper half.
 #[inline(always)]
@@ -66,10 +67,35 @@ pub fn low_word(x: u64) -> u32
     (x & 0xffff_ffff) as u32
 }
 
+/// What a load of this size takes of its reply.
+#[inline]
+pub fn loaded_part(size: Size, reply: u64) -> u64
+    ensures { result ≡ loaded_part size reply }
+{
+    match size {
+        Size::B1 => reply & 0xff,
+        Size::B2 => reply & 0xffff,
+        Size::B4 => reply & 0xffff_ffff,
+        Size::B8 => reply,
+    }
+}
+
+/// A loaded word or byte.
+#[inline]
+pub fn loaded_word(byte: bool, reply: u64) -> u32
+    ensures { result ≡ loaded_part (access_size byte) reply }
+{
+    if byte {
+        (reply & 0xff) as u32
+    } else {
+        low_word(reply)
+    }
+}
+
 /// A loaded halfword or signed byte as 32 bits.
 #[inline]
 pub fn loaded_half(kind: HalfKind, reply: u64) -> u32
-    ensures { result ≡ half_value kind reply }
+    ensures { result ≡ half_value kind (loaded_part (half_size kind) reply) }
 {
     let half = (reply & 0xffff) as u32;
     match kind {

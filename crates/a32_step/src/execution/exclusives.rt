@@ -1,5 +1,6 @@
 //! Synchronization primitives (DDI 0406C A3.4, A5.2.10): exclusives ask, and memory decides.
 ghost use Rattle.std.specs.Prelude.{◌≡◌};
+ghost use Rattle.a32_instr.specs.LoadStore.{loaded_part};
 ghost use Rattle.a32_instr.specs.Exclusive.{next_register, with_loaded, stored_part, load_exclusive, store_exclusive, clear_exclusive};
 ghost use Rattle.a32_instr.specs.Effect.{acts};
 ghost use Rattle.a32_step.specs.Progress.{progress_of};
@@ -7,7 +8,7 @@ ghost use Rattle.a32_step.specs.Classes.{instr_class, synchronization};
 ghost use Rattle.a32_step.specs.ExecutionState.{moves};
 
 use super::Execution;
-use crate::parts::low_word;
+use crate::parts::{loaded_part, low_word};
 use crate::phases::Progress;
 use a32_instr::{Ask, Instr, Reg};
 use llsc_base::{Image, Place, Size};
@@ -20,10 +21,11 @@ fn next_register(rt: Reg) -> Reg
 }
 
 impl Execution {
-    /// A loaded value goes to its register, or to two.
-    fn set_loaded(&mut self, size: Size, rt: Reg, value: u64)
-        ensures { self.new ≡ record self.old { state = with_loaded size rt value self.old.state } }
+    /// What a load-exclusive takes of its reply goes to its register, or to two.
+    fn set_loaded(&mut self, size: Size, rt: Reg, reply: u64)
+        ensures { self.new ≡ record self.old { state = with_loaded size rt (loaded_part size reply) self.old.state } }
     {
+        let value = loaded_part(size, reply);
         self.set(rt, low_word(value));
         if size == Size::B8 {
             self.set(next_register(rt), (value >> 32) as u32);

@@ -12,7 +12,7 @@ use super::Execution;
 use crate::operands::{
     accessed_address, is_added, moved, part_stored, size_of_access, size_of_half,
 };
-use crate::parts::{loaded_half, low_word};
+use crate::parts::{loaded_half, loaded_word};
 use crate::phases::Progress;
 use crate::shifts::shift_by_number;
 use a32_instr::{Ask, HalfKind, Index, Instr, Offset, Reg, Stop};
@@ -153,7 +153,7 @@ impl Execution {
         if let Some(reply) = self.replies.first() {
             let back = self.back(index, rn, offset);
             if load {
-                return self.finish_load(back, rt, low_word(reply));
+                return self.finish_load(back, rt, loaded_word(byte, reply));
             }
             return self.finish_store(back);
         }
