@@ -1,6 +1,6 @@
 /* A spin lock, for any number of threads. Each thread adds the numbers from 1 to 100 to one sum, each of them under the
-   lock, and prints what it has added. The thread that is done last looks at the sum: it leaves with 1 where an addition
-   got lost. All others leave with 0. */
+   lock, and prints what it has added. When all are done, each thread looks at the sum: it leaves with 1 where an addition
+   got lost, and with 0 otherwise. */
 
 /* The compiler is kept to ARMv5, of which it uses nothing that a guest lacks. The lock's instructions are newer. */
 __asm__(".arch armv7-a");
@@ -9,7 +9,7 @@ enum { ROUNDS = 100, ADDED = ROUNDS * (ROUNDS + 1) / 2 };
 
 static volatile unsigned lock; /* 0 where it is free, 1 where it is held */
 static unsigned sum;
-static unsigned done; /* the threads that have added all of their numbers */
+static volatile unsigned done; /* the threads that have added all of their numbers */
 
 static void barrier(void) { __asm__ volatile("dmb" : : : "memory"); }
 
@@ -39,13 +39,14 @@ static void add(unsigned number) {
     free_lock();
 }
 
-/* Whether all threads are done, this one included. */
-static int is_last(unsigned threads) {
+/* Says that this thread is done, and waits until all are. */
+static void wait_for_all(unsigned threads) {
     take_lock();
     done += 1;
-    int last = done == threads;
     free_lock();
-    return last;
+    while (done != threads)
+        __asm__ volatile("yield");
+    barrier(); /* the sum is looked at after that */
 }
 
 static void write(const char *text, unsigned length) {
@@ -84,5 +85,6 @@ int guest(unsigned thread, unsigned threads) {
     print(" added ");
     print_number(ADDED);
     print("\n");
-    return is_last(threads) && sum != threads * ADDED;
+    wait_for_all(threads);
+    return sum != threads * ADDED;
 }

@@ -1,7 +1,32 @@
-@ A spin lock. Ten times the lock is taken, and under it a number is added to a sum; at the end the sum is to be 55,
-@ and the guest leaves with what differs from that.
-        mov r4, #8192           @ the lock: 0 where it is free, 1 where it is held; the sum is the word behind it
+@ A spin lock, for any number of threads. Ten times a thread takes the lock, and under it adds a number to a sum, in all 55.
+@ When all are done, each thread leaves with 0 where the sum is 55 for each of them, and with 1 where an addition got lost.
+        mov r4, #8192           @ the lock: 0 where it is free, 1 where it is held
+        mov r6, r1              @ the number of threads
         mov r5, #10
+again:  bl take
+        ldr r3, [r4, #8]        @ the sum
+        add r3, r3, r5
+        str r3, [r4, #8]
+        bl free
+        subs r5, r5, #1
+        bne again
+        bl take
+        ldr r3, [r4, #12]       @ the number of threads that are done
+        add r3, r3, #1
+        str r3, [r4, #12]
+        bl free
+all:    ldr r3, [r4, #12]
+        cmp r3, r6
+        bne all
+        ldr r3, [r4, #8]
+        mov r1, #55
+        mul r1, r6, r1
+        subs r0, r3, r1
+        movne r0, #1
+        mov r7, #1              @ exit
+        svc #0
+
+@ Takes the lock.
 take:   ldrex r0, [r4]
         cmp r0, #0
         bne wait
@@ -10,19 +35,13 @@ take:   ldrex r0, [r4]
         cmp r2, #0
         bne take
         dmb                     @ what follows is done under the lock
-        ldr r3, [r4, #4]
-        add r3, r3, r5
-        str r3, [r4, #4]
-        dmb                     @ and is seen before the lock is free
-        mov r1, #0
-        str r1, [r4]
-        subs r5, r5, #1
-        bne take
-        ldr r0, [r4, #4]
-        sub r0, r0, #55
-        mov r7, #1              @ exit
-        svc #0
-
+        bx lr
 wait:   clrex                   @ somebody else holds it: no reservation is kept meanwhile
         yield
         b take
+
+@ Frees the lock.
+free:   dmb                     @ what was done is seen before the lock is free
+        mov r1, #0
+        str r1, [r4]
+        bx lr
