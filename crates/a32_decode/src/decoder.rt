@@ -89,6 +89,8 @@ mod half_and_block_tests;
 #[cfg(test)]
 mod operation_tests;
 #[cfg(test)]
+mod refusal_tests;
+#[cfg(test)]
 mod tests;
 #[cfg(test)]
 mod vector_tests;

@@ -34,7 +34,7 @@ kept_after true at mark row h = absurd (let f : ⊥ = cc in f)
 kept_after false at mark row h = kept_on at mark row h
 
 -- a store of another row keeps the row
-stored-keeps : (memory : List ℕ) (place : Place) (value row thread threads : ℕ) → IsSound threads (length memory) thread place value
+pub stored-keeps : (memory : List ℕ) (place : Place) (value row thread threads : ℕ) → IsSound threads (length memory) thread place value
     → row_of place ≢ row → KeepsRow row memory (stored memory place value)
 stored-keeps memory place value row thread threads sound elsewhere k here = elim (cases_lt k place.addr) [
   | inl low ↦ stored-before memory place value k sound.inside low

@@ -1,11 +1,11 @@
 -- Parts of the worked histories that are legal, or not.
-use Rattle.std.proofs.Common.{◌≡◌, ◌==◌, ℕ, zero, suc, Bool, true, false, List, [], ◌∷◌, ◌++◌, refl, subst, arith}
+use Rattle.std.proofs.Common.{◌≡◌, ◌==◌, ℕ, zero, suc, Bool, true, false, List, [], ◌∷◌, ◌++◌, refl, subst, arith, inl, inr, ◌⊎◌}
 use Rattle.std.specs.List.{flat_map, list_all}
 use Rattle.std.proofs.lemmas.Bool.{and_parts}
 use Rattle.llsc_base.specs.Sizes.{Numbers}
 use Rattle.llsc_base.specs.declared.access.Place.{Place}
 use Rattle.history.specs.Cause.{HasCause}
-use Rattle.history.specs.Operation.{Operation, load, load_watched, load_missed, store, fail, clear, entries_of_operation, AreOperations}
+use Rattle.history.specs.Operation.{Operation, load, load_watched, load_missed, store, fail, clear, entries_of_operation, AreFinished, AreOperations}
 use Rattle.history.specs.Parts.{entries_of}
 use Rattle.history.specs.Worked.{word}
 use Rattle.history.specs.declared.entry.Entry.{Entry}
@@ -58,3 +58,32 @@ not_begun thread place value ex rest (load_missed at n ∷ operations) same = cc
 not_begun thread place value ex rest (store at n e ∷ operations) same = cc
 not_begun thread place value ex rest (fail at n cause ∷ operations) same = cc
 not_begun thread place value ex rest (clear ∷ operations) same = cc
+
+-- the entry of a list of one, and what stands behind it
+pub is_of_one : (only entry : Entry) (before later : List Entry) → only ∷ [] ≡ before ++ (entry ∷ later) → (entry ≡ only) × (later ≡ [])
+is_of_one only entry [] later same = (cc, cc)
+is_of_one only entry (first ∷ []) later same = absurd (let f : ⊥ = cc in f)
+is_of_one only entry (first ∷ next ∷ before) later same = absurd (let f : ⊥ = cc in f)
+
+-- an entry of a list of two is the first, and the other stands behind it, or it is the last
+pub is_of_two : (one two entry : Entry) (before later : List Entry) → one ∷ two ∷ [] ≡ before ++ (entry ∷ later)
+    → ((entry ≡ one) × (later ≡ two ∷ [])) ⊎ (entry ≡ two)
+is_of_two one two entry [] later same = inl (cc, cc)
+is_of_two one two entry (first ∷ before) later same = inr (is_of_one two entry before later cc).0
+
+-- no operations of thread 0 begin with a CLREX of thread 1
+pub not_anothers : (rest : List Entry) (operations : List Operation) → Clear 1 ∷ rest ≡ flat_map (entries_of_operation 0) operations → ⊥
+not_anothers rest [] same = cc
+not_anothers rest (load at n ∷ operations) same = cc
+not_anothers rest (load_watched at n ∷ operations) same = cc
+not_anothers rest (load_missed at n ∷ operations) same = cc
+not_anothers rest (store at n e ∷ operations) same = cc
+not_anothers rest (fail at n cause ∷ operations) same = cc
+not_anothers rest (clear ∷ operations) same = let wrong : Clear 1 ≡ Clear 0 = cc in cc
+
+-- the pair is complete
+pub pair_complete : (thread : ℕ) → AreFinished thread (entries_of thread pair)
+pair_complete zero = record { operations = load_watched word 0 ∷ store word 9 true ∷ []; are = refl }
+pair_complete (suc thread) =
+    let another : (0 == suc thread) ≡ false = grind arith in
+    record { operations = []; are = rw another refl }

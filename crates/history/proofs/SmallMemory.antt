@@ -1,5 +1,6 @@
 -- Accesses of the worked histories, in a memory of 32 bytes and two threads.
-use Rattle.std.proofs.Common.{◌≡◌, ℕ, ◌<◌, false, true, Option, Some, None, refl, sym, ◌∙◌, arith, lit<, lit≤}
+use Rattle.std.proofs.Common.{◌≡◌, ◌==◌, ℕ, ◌<◌, false, true, Option, Some, None, refl, sym, ◌∙◌, arith, lit<, lit≤}
+use Rattle.std.proofs.lemmas.Bool.{eq-eqb}
 use Rattle.history.specs.ArmLegal.{IsSound}
 use Rattle.history.specs.Worked.{beside, last_byte, next_row, word}
 
@@ -22,3 +23,10 @@ plain mark row h = absurd (let f : ⊥ = cc in f)
 -- what is marked nowhere isn't marked on a row
 pub nowhere : (row : ℕ) (mark : Option ℕ) → mark ≡ None → mark ≡ Some row → ⊥
 nowhere row mark none some = let h : None ≡ Some row = sym none ∙ some in cc
+
+-- two numbers that the test tells apart
+pub apart : (m n : ℕ) → (m == n) ≡ false → m ≡ n → ⊥
+apart m n differ same = let wrong : false ≡ true = sym differ ∙ eq-eqb m n same in cc
+
+pub apart_rows : (m n : ℕ) → (m == n) ≡ false → Some m ≡ Some n → ⊥
+apart_rows m n differ same = apart m n differ cc

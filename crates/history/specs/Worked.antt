@@ -1,8 +1,10 @@
--- Places of the worked histories: three in one row, and one in the next.
-use Rattle.std.specs.Prelude.{ℕ}
+-- Places of the worked histories, and the small memory in which they lie.
+use Rattle.std.specs.Prelude.{ℕ, Option, List, replicate}
 use Rattle.llsc_base.specs.Sizes.{Numbers}
 use Rattle.llsc_base.specs.declared.access.Place.{Place}
-use Rattle.llsc_base.specs.declared.access.Size.TheVariants.{B1, B4, B8}
+use Rattle.llsc_base.specs.declared.access.Size.TheVariants.{B1, B2, B4, B8}
+use Rattle.history.specs.Monitor.{Monitor, at_rest, marked_row, monitor_after}
+use Rattle.history.specs.declared.entry.Entry.{Entry}
 
 -- the word that is loaded and stored exclusively
 abbrev pub word : Place
@@ -23,3 +25,33 @@ next_row = record { addr = 16; size = B8 }
 -- a small machine of two threads with so many classes, each of which takes one write
 abbrev pub small_machine : ℕ → Numbers
 small_machine classes = record { mem = 65536; threads = 2; classes = classes; limit = 1 }
+
+-- the memory of the worked accesses: 32 bytes that are 0, and two threads, none of them marked
+abbrev pub small_memory : Monitor
+small_memory = at_rest (replicate 32 0) 2
+
+-- the row on which a thread is marked after accesses to it
+abbrev pub mark_after_these : List Entry → ℕ → Option ℕ
+mark_after_these accesses thread = marked_row (monitor_after small_memory accesses) thread
+
+-- the bytes of memory after accesses to it
+abbrev pub bytes_after_these : List Entry → List ℕ
+bytes_after_these accesses = (monitor_after small_memory accesses).memory
+
+-- a halfword in the middle of a row
+abbrev pub half : Place
+half = record { addr = 10; size = B2 }
+
+-- the last word of the memory, the word half of which lies behind it, and the byte behind it
+abbrev pub end_word : Place
+end_word = record { addr = 28; size = B4 }
+
+abbrev pub split_word : Place
+split_word = record { addr = 30; size = B4 }
+
+abbrev pub byte_behind : Place
+byte_behind = record { addr = 32; size = B1 }
+
+-- a word 4096 rows behind the row of the first
+abbrev pub far_word : Place
+far_word = record { addr = 32776; size = B4 }

@@ -12,6 +12,10 @@ mod entry;
 pub mod laws;
 mod plain;
 pub mod worked;
+pub mod worked_accesses;
+pub mod worked_classes;
+pub mod worked_marks;
+pub mod worked_operations;
 
 pub use entry::{Access, Cause, Deed, Entry};
 pub use plain::PlainMemory;

@@ -1,15 +1,10 @@
-//! Words of halfwords, signed bytes and blocks as the GNU assembler encodes them, and words on either side of what the
-//! manual asks of each (DDI 0406C A5.2.8, A5.5).
+//! Words of halfwords, signed bytes and blocks as the GNU assembler encodes them (DDI 0406C A5.2.8, A5.5).
 ghost use Rattle.std.specs.Prelude.{◌<◌};
 
 use super::*;
 use a32_instr::HalfKind::{Ldrh, Ldrsb, Ldrsh, Strh};
 use a32_instr::Index::{Plain, Post, Pre};
 use a32_instr::{Cond, HalfKind, Index, Offset, Reg, ShiftKind};
-
-const UNDEFINED: Result<Instr, DecodeFault> = Err(DecodeFault::Undefined);
-
-const UNPREDICTABLE: Result<Instr, DecodeFault> = Err(DecodeFault::Unpredictable);
 
 fn half(
     cond: u8,
@@ -125,62 +120,6 @@ fn reads_halfwords_and_signed_bytes_with_a_register_as_offset(rt: HostRuntime) {
 }
 
 #[test]
-fn refuses_other_extra_loads_and_stores(rt: HostRuntime) {
-    let words = [
-        // ldrd and strd r0, r1, [r2]; ldrd and strd r0, r1, [r2, r3]; swp r0, r1, [r2]; the same bits with a load
-        (0xE1C200D0, UNDEFINED),
-        (0xE1C200F0, UNDEFINED),
-        (0xE18200D3, UNDEFINED),
-        (0xE18200F3, UNDEFINED),
-        (0xE1020091, UNDEFINED),
-        (0xE1D10092, UNDEFINED),
-        // ldrht r0, [r1], #2; strht r0, [r1], r2; ldrsbt r0, [r1], #2; ldrsht r0, [r1], r2
-        (0xE0F100B2, UNDEFINED),
-        (0xE0A100B2, UNDEFINED),
-        (0xE0F100D2, UNDEFINED),
-        (0xE0B100F2, UNDEFINED),
-        // ldrh r0, [r1, r2] with bit 8 or bit 11 set; ldrh r0, [r1, #2] with a condition field of 15
-        (0xE19101B2, UNDEFINED),
-        (0xE19108B2, UNDEFINED),
-        (0xF1D100B2, UNDEFINED),
-        // The PC in words of no row: ldrht pc, [r1], #2; ldrd pc, [r2]; ldrh r0, [r1, pc] with bit 10 set
-        (0xE0F1F0B2, UNDEFINED),
-        (0xE1C2F0D0, UNDEFINED),
-        (0xE19104BF, UNDEFINED),
-    ];
-    for (word, want) in words {
-        assert_eq!(rt; decode(word), want, "at {word:#x}");
-    }
-}
-
-#[test]
-fn refuses_registers_that_clash_at_halfwords_and_signed_bytes(rt: HostRuntime) {
-    let words = [
-        // ldrh, strh, ldrsb and ldrsh pc, [r1]; ldrh pc, [r1, r2]
-        (0xE1D1F0B0, UNPREDICTABLE),
-        (0xE1C1F0B0, UNPREDICTABLE),
-        (0xE1D1F0D0, UNPREDICTABLE),
-        (0xE1D1F0F0, UNPREDICTABLE),
-        (0xE191F0B2, UNPREDICTABLE),
-        // ldrh r0, [pc], #2; ldrh r0, [pc, #2]!; ldrh r0, [pc, r2]!
-        (0xE0DF00B2, UNPREDICTABLE),
-        (0xE1FF00B2, UNPREDICTABLE),
-        (0xE1BF00B2, UNPREDICTABLE),
-        // ldrh and strh r1, [r1], #2; ldrh and strh r1, [r1, #2]!; ldrh r1, [r1], r2
-        (0xE0D110B2, UNPREDICTABLE),
-        (0xE0C110B2, UNPREDICTABLE),
-        (0xE1F110B2, UNPREDICTABLE),
-        (0xE1E110B2, UNPREDICTABLE),
-        (0xE09110B2, UNPREDICTABLE),
-        // ldrh r0, [r1, pc]
-        (0xE19100BF, UNPREDICTABLE),
-    ];
-    for (word, want) in words {
-        assert_eq!(rt; decode(word), want, "at {word:#x}");
-    }
-}
-
-#[test]
 fn reads_blocks_in_each_direction(rt: HostRuntime) {
     let (load, before, up) = (true, true, true);
     let words = [
@@ -222,38 +161,6 @@ fn reads_blocks_whose_base_is_written_back(rt: HostRuntime) {
         (0xE8208001, block(14, !load, !before, !up, true, 0, 0x8001)),
         (0xE8A10006, block(14, !load, !before, up, true, 1, 6)),
         (0xE8270080, block(14, !load, !before, !up, true, 7, 0x80)),
-    ];
-    for (word, want) in words {
-        assert_eq!(rt; decode(word), want, "at {word:#x}");
-    }
-}
-
-#[test]
-fn refuses_blocks_beside_the_row(rt: HostRuntime) {
-    let words = [
-        // No registers: ldmia and stmia r1, {}; ldmia r1!, {}
-        (0xE8910000, UNPREDICTABLE),
-        (0xE8810000, UNPREDICTABLE),
-        (0xE8B10000, UNPREDICTABLE),
-        // The PC as the base: ldmia and stmia pc, {r1}; ldmia pc!, {r1}
-        (0xE89F0002, UNPREDICTABLE),
-        (0xE88F0002, UNPREDICTABLE),
-        (0xE8BF0002, UNPREDICTABLE),
-        // A base that is loaded: ldmia r4!, {r4, pc}; ldmia r1!, {r0, r1}; ldmia lr!, {lr}
-        (0xE8B48010, UNPREDICTABLE),
-        (0xE8B10003, UNPREDICTABLE),
-        (0xE8BE4000, UNPREDICTABLE),
-        // A base that is stored above another: stmia r1!, {r0, r1}; stmdb sp!, {r0, sp}
-        (0xE8A10003, UNPREDICTABLE),
-        (0xE92D2001, UNPREDICTABLE),
-        // Bit 22: ldmia r1, {r2}^; stmia r1, {r2}^; ldmia r1, {r2, pc}^; ldmia pc, {}^; ldmia r1!, {}^
-        (0xE8D10004, UNDEFINED),
-        (0xE8C10004, UNDEFINED),
-        (0xE8D18004, UNDEFINED),
-        (0xE8DF0000, UNDEFINED),
-        (0xE8F10000, UNDEFINED),
-        // ldmia r1, {r2} with a condition field of 15
-        (0xF8910004, UNDEFINED),
     ];
     for (word, want) in words {
         assert_eq!(rt; decode(word), want, "at {word:#x}");

@@ -1,13 +1,9 @@
-//! Words of data processing, multiplications, moves and extends as the GNU assembler encodes them, and words on
-//! either side of what the manual asks of each (DDI 0406C A5.2, A5.4, A8.8).
+//! Words of data processing, multiplications, moves and extends as the GNU assembler encodes them (DDI 0406C A5.2, A5.4,
+//! A8.8).
 ghost use Rattle.std.specs.Prelude.{◌<◌};
 
 use super::*;
 use a32_instr::{AluOp, Cond, LongKind, Operand2, Reg, ShiftKind};
-
-const UNDEFINED: Result<Instr, DecodeFault> = Err(DecodeFault::Undefined);
-
-const UNPREDICTABLE: Result<Instr, DecodeFault> = Err(DecodeFault::Unpredictable);
 
 fn r(num: u8) -> Reg
     requires { num < 16 }
@@ -296,72 +292,6 @@ fn decodes_counts_reversals_and_extends(rt: HostRuntime) {
         (0xE6BF2873, extend(false, true, 2, 3, 2)),
         (0xE6EF0471, extend(true, false, 0, 1, 1)),
         (0xE6FFEC7C, extend(true, true, 14, 12, 3)),
-    ];
-    for (word, want) in words {
-        assert_eq!(rt; decode(word), want, "at {word:#x}");
-    }
-}
-
-#[test]
-fn refuses_words_beside_each_row(rt: HostRuntime) {
-    let words = [
-        // cmp with rd 1; cmp without S; mov with rn 1; each again with a shift by a register
-        (0xE1511002, UNDEFINED),
-        (0xE1410002, UNDEFINED),
-        (0xE1A10002, UNDEFINED),
-        (0xE1511312, UNDEFINED),
-        (0xE1410312, UNDEFINED),
-        (0xE1A11312, UNDEFINED),
-        // wfe; a write to the flags; nop with rd 14; a write to the saved flags
-        (0xE320F002, UNDEFINED),
-        (0xE321F000, UNDEFINED),
-        (0xE320E000, UNDEFINED),
-        (0xE360F000, UNDEFINED),
-        // mul with bits 15:12 set; mls with S; umaal
-        (0xE0011392, UNDEFINED),
-        (0xE0714392, UNDEFINED),
-        (0xE0414392, UNDEFINED),
-        // clz with other bits at 11:8 and 19:16; sxtab; sxtb with bit 8 set; sxtb16; rev16; rev with bit 8 clear
-        (0xE16F0011, UNDEFINED),
-        (0xE16E0F11, UNDEFINED),
-        (0xE6A20071, UNDEFINED),
-        (0xE6AF0171, UNDEFINED),
-        (0xE68F0071, UNDEFINED),
-        (0xE6BF0FB1, UNDEFINED),
-        (0xE6BF0E31, UNDEFINED),
-    ];
-    for (word, want) in words {
-        assert_eq!(rt; decode(word), want, "at {word:#x}");
-    }
-}
-
-#[test]
-fn refuses_the_pc_where_it_may_not_stand(rt: HostRuntime) {
-    let words = [
-        // movs pc, lr; a shift by a register with the PC in each place
-        (0xE1B0F00E, UNPREDICTABLE),
-        (0xE1A01F12, UNPREDICTABLE),
-        (0xE1A0131F, UNPREDICTABLE),
-        (0xE1A0F312, UNPREDICTABLE),
-        (0xE08F1312, UNPREDICTABLE),
-        // movw and movt; mul with each; mla with ra
-        (0xE306F60D, UNPREDICTABLE),
-        (0xE340F019, UNPREDICTABLE),
-        (0xE00F0392, UNPREDICTABLE),
-        (0xE001039F, UNPREDICTABLE),
-        (0xE0010F92, UNPREDICTABLE),
-        (0xE021F392, UNPREDICTABLE),
-        // umull with one register for both halves, with the PC as each half
-        (0xE0811493, UNPREDICTABLE),
-        (0xE08F1493, UNPREDICTABLE),
-        (0xE082F493, UNPREDICTABLE),
-        // clz, sxtb and rev with each
-        (0xE16FFF11, UNPREDICTABLE),
-        (0xE16F0F1F, UNPREDICTABLE),
-        (0xE6AFF071, UNPREDICTABLE),
-        (0xE6AF007F, UNPREDICTABLE),
-        (0xE6BFFF31, UNPREDICTABLE),
-        (0xE6BF0F3F, UNPREDICTABLE),
     ];
     for (word, want) in words {
         assert_eq!(rt; decode(word), want, "at {word:#x}");

@@ -5,10 +5,6 @@ use super::*;
 use a32_instr::{AluOp, Cond, Index, Offset, Operand2, Reg, ShiftKind};
 use llsc_base::Size;
 
-const UNDEFINED: Result<Instr, DecodeFault> = Err(DecodeFault::Undefined);
-
-const UNPREDICTABLE: Result<Instr, DecodeFault> = Err(DecodeFault::Unpredictable);
-
 /// Data processing under the condition AL.
 fn alu(op: AluOp, s: bool, rd: u8, rn: u8, turn: u8, imm8: u8) -> Result<Instr, DecodeFault>
     requires rd { rd < 16 }
@@ -164,33 +160,6 @@ fn decodes_each_form_of_an_access(rt: HostRuntime) {
         (0xE1C10F92, store_ex(Size::B1)),
         (0xE1E10F92, store_ex(Size::B2)),
         (0xE1A10F92, store_ex(Size::B8)),
-    ];
-    for (word, want) in words {
-        assert_eq!(rt; decode(word), want, "at {word:#x}");
-    }
-}
-
-#[test]
-fn refuses_words_of_no_row(rt: HostRuntime) {
-    let words = [
-        // A condition field of 15; cmp without S; mov with rn 1; cmp with rd 1; movs pc, #0
-        (0xFFFFFFFF, UNDEFINED),
-        (0xE1410002, UNDEFINED),
-        (0xE3A10000, UNDEFINED),
-        (0xE3511003, UNDEFINED),
-        (0xE3B0F000, UNPREDICTABLE),
-        // ldrt r0, [r1], #4; ldr r1, [r1], #4; ldrb pc, [r1]; ldr r0, [pc, #4]!; ldr r0, [r1, pc]
-        (0xE4B10004, UNDEFINED),
-        (0xE4911004, UNPREDICTABLE),
-        (0xE5D1F000, UNPREDICTABLE),
-        (0xE5BF0004, UNPREDICTABLE),
-        (0xE791000F, UNPREDICTABLE),
-        // blx pc; bxj r1; strex with its status in its value; ldrexd of an odd register; a barrier of no kind
-        (0xE12FFF3F, UNPREDICTABLE),
-        (0xE12FFF21, UNDEFINED),
-        (0xE1810F90, UNPREDICTABLE),
-        (0xE1B13F9F, UNPREDICTABLE),
-        (0xF57FF07F, UNDEFINED),
     ];
     for (word, want) in words {
         assert_eq!(rt; decode(word), want, "at {word:#x}");
