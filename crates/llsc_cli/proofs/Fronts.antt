@@ -1,16 +1,18 @@
 -- What was written by some of several writes.
-use Rattle.std.proofs.Common.{◌≡◌, ℕ, ◌+◌, List, ◌++◌, Option, Some, None, length, take, drop, sym, ◌∙◌, ap, subst, append_assoc, Result, Ok, Err, OnErr}
+use Rattle.std.proofs.Common.{◌≡◌, ℕ, ◌+◌, List, ◌++◌, Option, Some, None, length, take, drop, sym, ◌∙◌, ap, subst, append_assoc, Result, Ok, Err, OnErr, IfErr}
+use Rattle.std.specs.Result.{IsErrAnd}
 use Rattle.std.proofs.lemmas.List.{take-append-drop}
 use Rattle.std.proofs.Math.Seq.{take-append_seam, take-append-add}
 use Rattle.llsc_cli.specs.Host.{Adds, AddsFront}
 
 -- two writes, one after the other
 pub adds_both : (old mid new : Option (List ℕ)) (a b : List ℕ) → Adds old mid a → Adds mid new b → Adds old new (a ++ b)
-adds_both (Some x) (Some y) new a b first second =
-    let whole : y ≡ x ++ a = cc in
-    second ∙ ap (λ z. Some (z ++ b)) whole ∙ ap Some (append_assoc x a b)
-adds_both (Some x) None new a b first second = cc
-adds_both None mid new a b first second = tt
+adds_both (Some x) (Some y) (Some z) a b first second = second ∙ ap (λ w. w ++ b) first ∙ append_assoc x a b
+adds_both (Some x) None (Some z) a b first second = absurd second
+adds_both (Some x) mid None a b first second = tt
+adds_both None (Some y) new a b first second = absurd first
+adds_both None None (Some z) a b first second = absurd second
+adds_both None None None a b first second = tt
 
 -- the front of a text is a front of a longer one
 pub front_less : (old new : Option (List ℕ)) (a b : List ℕ) → AddsFront old new a → AddsFront old new (a ++ b)
@@ -33,3 +35,8 @@ owed (Err e) p = p
 pub owed_more : {A B P Q : Type 0} → (r : Result A B) → (P → Q) → OnErr r P → OnErr r Q
 owed_more (Ok x) more p = tt
 owed_more (Err e) more p = more p
+
+-- what is owed of an error, where it is known which error it is
+pub owed_as : {A B : Type 0} {Q P : B → Type 0} → (r : Result A B) → IsErrAnd r Q → ((e : B) → Q e → P e) → IfErr r P
+owed_as (Ok x) is more = tt
+owed_as (Err e) is more = more e is

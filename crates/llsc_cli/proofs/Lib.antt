@@ -11,3 +11,4 @@ pub mod Streams
 pub mod OptionWords
 pub mod TraceAnswers
 pub mod Asked
+pub mod Kept

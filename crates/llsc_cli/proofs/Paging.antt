@@ -9,7 +9,7 @@ use Rattle.llsc_cli.proofs.Fronts.{adds_both, front_less, front_more}
 
 -- nothing is written, and the page is empty
 adds_nothing : (old : Option (List ℕ)) → Adds old old []
-adds_nothing (Some old) = ap Some (sym (append-nil old))
+adds_nothing (Some old) = sym (append-nil old)
 adds_nothing None = tt
 
 pub holds_nothing : (old : Option (List ℕ)) → Holds old old [] []

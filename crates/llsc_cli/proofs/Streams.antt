@@ -2,7 +2,7 @@
 use Rattle.std.proofs.Common.{◌≡◌, ℕ, ◌+◌, ◌-◌, ◌<◌, List, ◌++◌, length, take, drop, Option, Some, None, refl, ◌∙◌, ap, append_assoc, arith, length-append, length-drop}
 use Rattle.std.proofs.Math.Seq.{take-add, take-length}
 use Rattle.std.specs.Io.KnownBytes.{Appends, Consumes, Keeps}
-use Rattle.llsc_cli.specs.Host.{Adds, AreBytes}
+use Rattle.llsc_cli.specs.Host.{AreBytes}
 
 -- two reads took what the first gave and then what the second gave
 pub consumes_on : (a b c : Option (List ℕ)) (xs ys : List ℕ) → Consumes a b xs → Consumes b c ys → Consumes a c (xs ++ ys)
@@ -30,12 +30,12 @@ longer (Some t) (Some u) (Some v) xs ys most f s h =
     (t, refl, omega arith)
 
 -- a write took the next bytes
-pub adds_on : (a b c : Option (List ℕ)) (text : List ℕ) (done n : ℕ) → Adds a b (take done text)
-    → Appends b c (take n (take (length text - done) (drop done text))) → Adds a c (take (done + n) text)
-adds_on None b c text done n f s = tt
-adds_on (Some t) None c text done n f s = cc
-adds_on (Some t) (Some u) None text done n f s = elim s [ ]
-adds_on (Some t) (Some u) (Some v) text done n f s =
+pub appends_on : (a b c : Option (List ℕ)) (text : List ℕ) (done n : ℕ) → Appends a b (take done text)
+    → Appends b c (take n (take (length text - done) (drop done text))) → Appends a c (take (done + n) text)
+appends_on None b c text done n f s = tt
+appends_on (Some t) None c text done n f s = absurd f
+appends_on (Some t) (Some u) None text done n f s = absurd s
+appends_on (Some t) (Some u) (Some v) text done n f s =
     let all : take (length text - done) (drop done text) ≡ drop done text = rw (← length-drop done text) (take-length (drop done text)) in
     let more : take (done + n) text ≡ take done text ++ take n (drop done text) = take-add done n text in
     let next : v ≡ u ++ take n (drop done text) = rw all at s in
@@ -43,8 +43,8 @@ adds_on (Some t) (Some u) (Some v) text done n f s =
     cc
 
 -- a write that failed took nothing
-pub adds_kept : (a b c : Option (List ℕ)) (xs : List ℕ) → Adds a b xs → Keeps b c → Adds a c xs
-adds_kept None b c xs f k = tt
-adds_kept (Some t) None c xs f k = cc
-adds_kept (Some t) (Some u) None xs f k = elim k [ ]
-adds_kept (Some t) (Some u) (Some v) xs f k = cc
+pub appends_kept : (a b c : Option (List ℕ)) (xs : List ℕ) → Appends a b xs → Keeps b c → Appends a c xs
+appends_kept None b c xs f k = tt
+appends_kept (Some t) None c xs f k = absurd f
+appends_kept (Some t) (Some u) None xs f k = absurd k
+appends_kept (Some t) (Some u) (Some v) xs f k = cc

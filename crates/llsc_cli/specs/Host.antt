@@ -12,14 +12,28 @@ abbrev pub AreBytes : Option (List ℕ) → List ℕ → Type 0
 AreBytes (Some told) bytes = bytes ≡ told
 AreBytes None bytes = Unit {0}
 
--- what was written is what was written before and then the text; nothing is owed where it was not told before
+-- What was written is what was written before and then the text, where both are told. A host may stop telling; what was once
+-- not told is never told again.
 abbrev pub Adds : Option (List ℕ) → Option (List ℕ) → List ℕ → Type 0
-Adds (Some old) new text = new ≡ Some (old ++ text)
-Adds None new text = Unit {0}
+Adds (Some old) (Some new) text = new ≡ old ++ text
+Adds (Some old) None text = Unit {0}
+Adds None None text = Unit {0}
+Adds None (Some new) text = ⊥
 
 -- the first bytes of the text were added to what was written
 abbrev pub AddsFront : Option (List ℕ) → Option (List ℕ) → List ℕ → Type 0
 AddsFront old new text = (k : ℕ) × Adds old new (take k text)
+
+-- What a call leaves as it is that reads nothing: what files hold, how many reads failed, and the name of the last that did.
+pub record KeepsReads (held held_after : List ℕ → Option (List ℕ)) (faults faults_after : ℕ) (name name_after : List ℕ) : Type 0 where
+  pub files : held_after ≡ held
+  pub read_faults : faults_after ≡ faults
+  pub lost : name_after ≡ name
+
+-- What a call leaves as it is that writes nothing: what was written, and how many writes failed.
+pub record KeepsWrites (text text_after : Option (List ℕ)) (faults faults_after : ℕ) : Type 0 where
+  pub written : text_after ≡ text
+  pub write_faults : faults_after ≡ faults
 
 -- the name of a read's fault
 abbrev pub read_fault_name : ReadFault → List ℕ

@@ -4,7 +4,6 @@ pub mod MemoryHostInside
 pub mod Options
 pub mod Request
 pub mod Report
-pub mod ReportText
 pub mod Refusals
 pub mod Programs
 pub mod Assembly

@@ -1,6 +1,6 @@
 //! How a call ends, and the texts of one write.
 ghost use Rattle.std.specs.Prelude.{◌≡◌, ◌≢◌, ◌⊎◌};
-ghost use Rattle.llsc_cli.specs.Host.{Adds, AddsFront, Rose};
+ghost use Rattle.llsc_cli.specs.Host.{Adds, AddsFront, KeepsReads, Rose};
 ghost use Rattle.llsc_cli.specs.Refusals.{refusal_text};
 ghost use Rattle.llsc_cli.specs.Trace.{status_of};
 
@@ -42,9 +42,7 @@ pub fn say<H: Host>(host: &mut H, text: &[u8], status: u8) -> Ended
     ensures said { result.status ≡ status → Adds (H.written host.old) (H.written host.new) text.now }
     ensures cut { result.status ≡ 5 → Rose (H.write_faults host.old) (H.write_faults host.new) × AddsFront (H.written host.old) (H.written host.new) text.now }
     ensures write_answered { result.status ≢ 5 → H.write_faults host.new ≡ H.write_faults host.old }
-    ensures files { H.file host.new ≡ H.file host.old }
-    ensures read_faults { H.read_faults host.new ≡ H.read_faults host.old }
-    ensures lost { H.lost host.new ≡ H.lost host.old }
+    ensures reads { KeepsReads (H.file host.old) (H.file host.new) (H.read_faults host.old) (H.read_faults host.new) (H.lost host.old) (H.lost host.new) }
 {
     match host.write(text) {
         Ok(()) => Ended { status },
@@ -59,9 +57,7 @@ pub fn refuse<H: Host>(alloc: Global, host: &mut H, name: &str) -> Ended
     ensures cut { result.status ≡ 5 → Rose (H.write_faults host.old) (H.write_faults host.new) × AddsFront (H.written host.old) (H.written host.new) (refusal_text name.now) }
     ensures memory { result.status ≡ 6 → H.written host.new ≡ H.written host.old }
     ensures write_answered { result.status ≢ 5 → H.write_faults host.new ≡ H.write_faults host.old }
-    ensures files { H.file host.new ≡ H.file host.old }
-    ensures read_faults { H.read_faults host.new ≡ H.read_faults host.old }
-    ensures lost { H.lost host.new ≡ H.lost host.old }
+    ensures reads { KeepsReads (H.file host.old) (H.file host.new) (H.read_faults host.old) (H.read_faults host.new) (H.lost host.old) (H.lost host.new) }
 {
     match format!(in alloc; "llsc: {name}\n") {
         Ok(text) => say(host, text.as_bytes(), 4),

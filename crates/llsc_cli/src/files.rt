@@ -1,6 +1,6 @@
 //! The files of a call: had, or refused.
 ghost use Rattle.std.specs.Prelude.{◌≡◌, ◌≢◌, codes, ◌<◌, ◌≤◌, ◌⊎◌, List, ℕ, None, Some, IfOk, OnOk, IfErr, OnErr, IsTrue, length};
-ghost use Rattle.llsc_cli.specs.Host.{Adds, AddsFront, AreBytes, Rose};
+ghost use Rattle.llsc_cli.specs.Host.{Adds, AddsFront, AreBytes, KeepsReads, KeepsWrites, Rose};
 ghost use Rattle.llsc_cli.specs.Refusals.{machine_of, read_text, refusal_text, too_long, most_program, size_refusal, Refusal, Refuses};
 ghost use Rattle.llsc_cli.specs.Programs.{program_fault_name, image_of, is_wanting, program_refusal, refusal_on};
 ghost use Rattle.llsc_cli.specs.Reads.{Answered, CutAfter, CallEnds};
@@ -15,9 +15,10 @@ use std::alloc::Global;
 /// The most bytes of a program file.
 pub const MOST_BYTES: usize = 33_554_432;
 
-/// The classes of rows of a machine, and the most writes of one.
+/// The classes of rows of a machine.
 const CLASSES: u64 = 4096;
 
+/// The most writes of a class.
 const MOST_WRITES: u64 = 1 << 62;
 
 /// Answers for a file that was not had.
@@ -31,9 +32,7 @@ fn refuse_read<H: Host>(host: &mut H, fault: ReadFault) -> Ended
     ensures cut { result.status ≡ 5 → Rose (H.write_faults host.old) (H.write_faults host.new) × CutAfter fault (H.written host.old) (H.written host.new) }
     ensures memory { result.status ≡ 6 → H.written host.new ≡ H.written host.old }
     ensures write_answered { result.status ≢ 5 → H.write_faults host.new ≡ H.write_faults host.old }
-    ensures files { H.file host.new ≡ H.file host.old }
-    ensures read_faults { H.read_faults host.new ≡ H.read_faults host.old }
-    ensures lost { H.lost host.new ≡ H.lost host.old }
+    ensures reads { KeepsReads (H.file host.old) (H.file host.new) (H.read_faults host.old) (H.read_faults host.new) (H.lost host.old) (H.lost host.new) }
 {
     match fault {
         ReadFault::Failed => say(host, b"llsc: read failed\n", 3),
@@ -50,9 +49,8 @@ fn refuse_read<H: Host>(host: &mut H, fault: ReadFault) -> Ended
 pub fn read<H: Host>(alloc: Global, host: &mut H, name: &str, most: usize) -> Result<Vec<u8>, Ended>
     ensures had { IfOk result (λ file. AreBytes (H.file host.old name.now) file.items × (too_long most file.items ≡ None)) }
     ensures within { IfOk result (λ file. length file.items ≤ most) }
-    ensures silent { OnOk result (H.written host.new ≡ H.written host.old) }
-    ensures unfailed { OnOk result ((H.read_faults host.new ≡ H.read_faults host.old) × (H.write_faults host.new ≡ H.write_faults host.old)) }
-    ensures files { OnOk result (H.file host.new ≡ H.file host.old) }
+    ensures reads { OnOk result (KeepsReads (H.file host.old) (H.file host.new) (H.read_faults host.old) (H.read_faults host.new) (H.lost host.old) (H.lost host.new)) }
+    ensures writes { OnOk result (KeepsWrites (H.written host.old) (H.written host.new) (H.write_faults host.old) (H.write_faults host.new)) }
     ensures ends { IfErr result (λ ended. CallEnds (Refuses (too_long most)) (H.file host.old name.now)
         (Rose (H.read_faults host.old) (H.read_faults host.new) × (H.lost host.new ≡ name.now)) (H.written host.old) (H.written host.new) ended.status) }
     ensures write { IfErr result (λ ended. ended.status ≡ 5 → Rose (H.write_faults host.old) (H.write_faults host.new)) }
@@ -76,9 +74,7 @@ fn refuse_program<H: Host>(alloc: Global, host: &mut H, fault: ProgramFault) -> 
     ensures cut { result.status ≡ 5 → Rose (H.write_faults host.old) (H.write_faults host.new) × AddsFront (H.written host.old) (H.written host.new) (refusal_text (program_fault_name fault)) }
     ensures memory { result.status ≡ 6 → H.written host.new ≡ H.written host.old }
     ensures write_answered { result.status ≢ 5 → H.write_faults host.new ≡ H.write_faults host.old }
-    ensures files { H.file host.new ≡ H.file host.old }
-    ensures read_faults { H.read_faults host.new ≡ H.read_faults host.old }
-    ensures lost { H.lost host.new ≡ H.lost host.old }
+    ensures reads { KeepsReads (H.file host.old) (H.file host.new) (H.read_faults host.old) (H.read_faults host.new) (H.lost host.old) (H.lost host.new) }
 {
     if fault.is_wanting() {
         return out_of_memory();
@@ -102,14 +98,11 @@ pub fn image_on<H: Host>(
     ensures sound { IfOk result (λ image. refusal_on format size.now file.now ≡ None) }
     ensures image { IfOk result (λ image. image ≡ image_of format file.now size.now) }
     ensures whole { IfOk result (λ image. length image.bytes ≡ size.now.mem) }
-    ensures silent { OnOk result (H.written host.new ≡ H.written host.old) }
-    ensures written { OnOk result (H.write_faults host.new ≡ H.write_faults host.old) }
+    ensures writes { OnOk result (KeepsWrites (H.written host.old) (H.written host.new) (H.write_faults host.old) (H.write_faults host.new)) }
     ensures refused { IfErr result (λ ended. Answered (Refusal (refusal_on format size.now file.now)) (H.written host.old) (H.written host.new) ended.status) }
     ensures write { IfErr result (λ ended. ended.status ≡ 5 → Rose (H.write_faults host.old) (H.write_faults host.new)) }
     ensures write_answered { IfErr result (λ ended. ended.status ≢ 5 → H.write_faults host.new ≡ H.write_faults host.old) }
-    ensures files { H.file host.new ≡ H.file host.old }
-    ensures read_faults { H.read_faults host.new ≡ H.read_faults host.old }
-    ensures lost { H.lost host.new ≡ H.lost host.old }
+    ensures reads { KeepsReads (H.file host.old) (H.file host.new) (H.read_faults host.old) (H.read_faults host.new) (H.lost host.old) (H.lost host.new) }
 {
     match image_of(alloc, format, size, file) {
         Ok(image) => Ok(image),
@@ -129,14 +122,11 @@ pub fn machine<H: Host>(
     mem: u64,
 ) -> Result<MachineSize, Ended>
     ensures size { IfOk result (λ size. (size ≡ machine_of threads mem) × (size_refusal (machine_of threads mem) ≡ None)) }
-    ensures written { OnOk result (H.written host.new ≡ H.written host.old) }
-    ensures write_faults { OnOk result (H.write_faults host.new ≡ H.write_faults host.old) }
+    ensures writes { OnOk result (KeepsWrites (H.written host.old) (H.written host.new) (H.write_faults host.old) (H.write_faults host.new)) }
     ensures refused { IfErr result (λ ended. Answered (Refusal (size_refusal (machine_of threads mem))) (H.written host.old) (H.written host.new) ended.status) }
     ensures write { IfErr result (λ ended. ended.status ≡ 5 → Rose (H.write_faults host.old) (H.write_faults host.new)) }
     ensures write_answered { IfErr result (λ ended. ended.status ≢ 5 → H.write_faults host.new ≡ H.write_faults host.old) }
-    ensures files { H.file host.new ≡ H.file host.old }
-    ensures read_faults { H.read_faults host.new ≡ H.read_faults host.old }
-    ensures lost { H.lost host.new ≡ H.lost host.old }
+    ensures reads { KeepsReads (H.file host.old) (H.file host.new) (H.read_faults host.old) (H.read_faults host.new) (H.lost host.old) (H.lost host.new) }
 {
     match MachineSize::new(mem, threads, CLASSES, MOST_WRITES) {
         Ok(size) => Ok(size),
@@ -168,8 +158,8 @@ pub fn load<H: Host>(
     ensures image { IfOk result (λ loaded. (file : List ℕ) × (AreBytes (H.file host.old name.now) file
         × ((program_refusal format (machine_of threads mem) file ≡ None) × (loaded.image ≡ image_of format file (machine_of threads mem))))) }
     ensures whole { IfOk result (λ loaded. length loaded.image.bytes ≡ loaded.size.mem) }
-    ensures silent { OnOk result (H.written host.new ≡ H.written host.old) }
-    ensures unfailed { OnOk result ((H.read_faults host.new ≡ H.read_faults host.old) × (H.write_faults host.new ≡ H.write_faults host.old)) }
+    ensures reads { OnOk result (KeepsReads (H.file host.old) (H.file host.new) (H.read_faults host.old) (H.read_faults host.new) (H.lost host.old) (H.lost host.new)) }
+    ensures writes { OnOk result (KeepsWrites (H.written host.old) (H.written host.new) (H.write_faults host.old) (H.write_faults host.new)) }
     ensures ends { IfErr result (λ ended. CallEnds (Refuses (program_refusal format (machine_of threads mem))) (H.file host.old name.now)
         (Rose (H.read_faults host.old) (H.read_faults host.new) × (H.lost host.new ≡ name.now) × (size_refusal (machine_of threads mem) ≡ None))
         (H.written host.old) (H.written host.new) ended.status) }
@@ -177,16 +167,8 @@ pub fn load<H: Host>(
     ensures write_answered { IfErr result (λ ended. ended.status ≢ 5 → H.write_faults host.new ≡ H.write_faults host.old) }
     ensures read_answered { IfErr result (λ ended. ended.status ≢ 3 → ended.status ≢ 5 → H.read_faults host.new ≡ H.read_faults host.old) }
 {
-    let size = match machine(alloc, host, threads, mem) {
-        Ok(size) => size,
-        Err(ended) => return Err(ended),
-    };
-    let file = match read(alloc, host, name, MOST_BYTES) {
-        Ok(file) => file,
-        Err(ended) => return Err(ended),
-    };
-    match image_on(alloc, host, format, &size, file.as_slice()) {
-        Ok(image) => Ok(Loaded { size, image }),
-        Err(ended) => Err(ended),
-    }
+    let size = machine(alloc, host, threads, mem)?;
+    let file = read(alloc, host, name, MOST_BYTES)?;
+    let image = image_on(alloc, host, format, &size, file.as_slice())?;
+    Ok(Loaded { size, image })
 }

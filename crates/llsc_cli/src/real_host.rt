@@ -1,8 +1,9 @@
 //! The host of the program as it runs: files by their paths, and standard output.
 //!
 //! This is the trusted edge. No clause says what a file holds or what reaches the output.
-ghost use Rattle.std.specs.Prelude.{◌≡◌, ℕ, ◌<◌, ◌≤◌, List, [], length, IfOk, IsTrue, OnErr};
-ghost use Rattle.llsc_cli.specs.Host.{Adds, AddsFront, AreBytes};
+ghost use Rattle.std.specs.Prelude.{◌≡◌, ℕ, ◌<◌, ◌≤◌, List, [], length, take, IfOk, IsTrue, OnErr};
+ghost use Rattle.std.specs.Io.KnownBytes.{Appends};
+ghost use Rattle.llsc_cli.specs.Host.{AreBytes};
 
 use crate::host::{Failed, Host, ReadFault};
 use std::alloc::Global;
@@ -121,8 +122,8 @@ fn read_within<R: Read>(alloc: Global, file: &mut R, most: usize) -> Result<Vec<
 
 /// Writes all of the bytes, or answers false after some of them.
 fn write_whole<W: Write>(output: &mut W, bytes: &[u8]) -> bool
-    ensures whole { IsTrue result → Adds (W.contents output.old) (W.contents output.new) bytes.now }
-    ensures front { AddsFront (W.contents output.old) (W.contents output.new) bytes.now }
+    ensures whole { IsTrue result → Appends (W.contents output.old) (W.contents output.new) bytes.now }
+    ensures front { (k : ℕ) × Appends (W.contents output.old) (W.contents output.new) (take k bytes.now) }
 {
     let mut done = 0;
     for _ in 0..u64::MAX {

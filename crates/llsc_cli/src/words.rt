@@ -13,11 +13,13 @@ const MEM: u64 = 1_048_576;
 /// The steps of a thread where no budget is given.
 const BUDGET: u64 = 100_000_000;
 
-/// The threads, the seed and the steps of a thread where none are given for a trace.
+/// The threads of a trace where none are given.
 const TRACE_THREADS: u64 = 2;
 
+/// The seed of a trace where none is given.
 const TRACE_SEED: u64 = 0;
 
+/// The steps of a thread of a trace where no budget is given.
 const TRACE_BUDGET: u64 = 10_000;
 
 /// The greatest budget.
@@ -164,12 +166,9 @@ fn check(given: Given<'_>) -> Option<Request<'_>>
     if !given.options.has_mem_at_most() {
         return None;
     }
-    let Some(recorded) = given.second_file() else {
-        return None;
-    };
     Some(Request::Check {
         file: given.file,
-        recorded,
+        recorded: given.second_file()?,
         format: given.options.format(),
         mem: given.options.mem.unwrap_or(MEM),
     })
@@ -207,8 +206,5 @@ pub fn parse(words: &[String]) -> Option<Request<'_>>
     let [command, rest @ ..] = words else {
         return None;
     };
-    let Some(given) = given_of(rest) else {
-        return None;
-    };
-    request_of(command.as_str(), given)
+    request_of(command.as_str(), given_of(rest)?)
 }

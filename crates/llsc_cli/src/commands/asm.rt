@@ -2,7 +2,7 @@
 ghost use Rattle.std.specs.Prelude.{◌≡◌, ◌≢◌, None, IfOk, string_bytes};
 ghost use Rattle.a32_asm.specs.Assembled.{most_text};
 ghost use Rattle.elf32.specs.Units.{code_bytes, IsWithin};
-ghost use Rattle.llsc_cli.specs.Host.{Rose};
+ghost use Rattle.llsc_cli.specs.Host.{KeepsReads, Rose};
 ghost use Rattle.llsc_cli.specs.Refusals.{refused, too_long};
 ghost use Rattle.llsc_cli.specs.Assembly.{asm_answer, asm_fault_text, has_data, unit_answer, unit_file};
 ghost use Rattle.llsc_cli.specs.Answer.{AnswersAsm};
@@ -55,9 +55,7 @@ fn write_unit<H: Host>(alloc: Global, host: &mut H, format: Format, unit: &Unit)
     ensures gives { Gives (unit_answer format unit.now) (H.written host.old) (H.written host.new) result.status }
     ensures write { result.status ≡ 5 → Rose (H.write_faults host.old) (H.write_faults host.new) }
     ensures write_answered { result.status ≢ 5 → H.write_faults host.new ≡ H.write_faults host.old }
-    ensures files { H.file host.new ≡ H.file host.old }
-    ensures read_faults { H.read_faults host.new ≡ H.read_faults host.old }
-    ensures lost { H.lost host.new ≡ H.lost host.old }
+    ensures reads { KeepsReads (H.file host.old) (H.file host.new) (H.read_faults host.old) (H.read_faults host.new) (H.lost host.old) (H.lost host.new) }
 {
     if format == Format::Flat && has_data(unit) {
         return refuse(alloc, host, "FlatData");
@@ -81,9 +79,7 @@ fn refuse_text<H: Host>(alloc: Global, host: &mut H, fault: AsmFault) -> Ended
     ensures memory_alone { fault.kind ≡ AsmKind.Memory → result.status ≡ 6 }
     ensures write { result.status ≡ 5 → Rose (H.write_faults host.old) (H.write_faults host.new) }
     ensures write_answered { result.status ≢ 5 → H.write_faults host.new ≡ H.write_faults host.old }
-    ensures files { H.file host.new ≡ H.file host.old }
-    ensures read_faults { H.read_faults host.new ≡ H.read_faults host.old }
-    ensures lost { H.lost host.new ≡ H.lost host.old }
+    ensures reads { KeepsReads (H.file host.old) (H.file host.new) (H.read_faults host.old) (H.read_faults host.new) (H.lost host.old) (H.lost host.new) }
 {
     if fault.kind == AsmKind::Memory {
         return out_of_memory();
@@ -100,9 +96,7 @@ fn respond<H: Host>(alloc: Global, host: &mut H, file: &[u8], format: Format) ->
     ensures gives { Gives (asm_answer format file.now) (H.written host.old) (H.written host.new) result.status }
     ensures write { result.status ≡ 5 → Rose (H.write_faults host.old) (H.write_faults host.new) }
     ensures write_answered { result.status ≢ 5 → H.write_faults host.new ≡ H.write_faults host.old }
-    ensures files { H.file host.new ≡ H.file host.old }
-    ensures read_faults { H.read_faults host.new ≡ H.read_faults host.old }
-    ensures lost { H.lost host.new ≡ H.lost host.old }
+    ensures reads { KeepsReads (H.file host.old) (H.file host.new) (H.read_faults host.old) (H.read_faults host.new) (H.lost host.old) (H.lost host.new) }
 {
     let Ok(text) = str::from_utf8(file) else {
         return refuse(alloc, host, "NotText");

@@ -3,7 +3,7 @@ ghost use Rattle.std.specs.Prelude.{◌≡◌, ◌≢◌, ◌⊎◌, ◌∷◌, 
 ghost use Rattle.run_checker.specs.Verdict.{Judges};
 ghost use Rattle.run_record.specs.Limits.{IsRecord};
 ghost use Rattle.run_record.specs.Reading.{record_of};
-ghost use Rattle.llsc_cli.specs.Host.{Adds, AddsFront, Rose};
+ghost use Rattle.llsc_cli.specs.Host.{Adds, AddsFront, KeepsReads, Rose};
 ghost use Rattle.llsc_cli.specs.Refusals.{machine_of, most_program, refusal_text, too_long};
 ghost use Rattle.llsc_cli.specs.Request.{Check};
 ghost use Rattle.llsc_cli.specs.Check.{files_refusal, most_record, record_fault_text, verdict_status, verdict_text, IsJudged, JudgesRead, JudgesRun};
@@ -50,9 +50,7 @@ fn tell<H: Host>(alloc: Global, host: &mut H, verdict: Verdict) -> Ended
     ensures cut { result.status ≡ 5 → Rose (H.write_faults host.old) (H.write_faults host.new) × AddsFront (H.written host.old) (H.written host.new) (verdict_text verdict) }
     ensures memory { result.status ≡ 6 → H.written host.new ≡ H.written host.old }
     ensures write_answered { result.status ≢ 5 → H.write_faults host.new ≡ H.write_faults host.old }
-    ensures files { H.file host.new ≡ H.file host.old }
-    ensures read_faults { H.read_faults host.new ≡ H.read_faults host.old }
-    ensures lost { H.lost host.new ≡ H.lost host.old }
+    ensures reads { KeepsReads (H.file host.old) (H.file host.new) (H.read_faults host.old) (H.read_faults host.new) (H.lost host.old) (H.lost host.new) }
 {
     match text_of(alloc, verdict) {
         Ok(text) => say(host, text.as_bytes(), status_of(verdict)),
@@ -74,9 +72,7 @@ fn judge<H: Host>(
     ensures answered { Answered (IsJudged image.now size.now run.now) (H.written host.old) (H.written host.new) result.status }
     ensures write { result.status ≡ 5 → Rose (H.write_faults host.old) (H.write_faults host.new) }
     ensures write_answered { result.status ≢ 5 → H.write_faults host.new ≡ H.write_faults host.old }
-    ensures files { H.file host.new ≡ H.file host.old }
-    ensures read_faults { H.read_faults host.new ≡ H.read_faults host.old }
-    ensures lost { H.lost host.new ≡ H.lost host.old }
+    ensures reads { KeepsReads (H.file host.old) (H.file host.new) (H.read_faults host.old) (H.read_faults host.new) (H.lost host.old) (H.lost host.new) }
 {
     match check_record(alloc, image, size, run) {
         Ok(verdict) => tell(alloc, host, verdict),
@@ -98,9 +94,7 @@ fn judge_file<H: Host>(
     ensures answered { Answered (JudgesRun format mem file.now run.now) (H.written host.old) (H.written host.new) result.status }
     ensures write { result.status ≡ 5 → Rose (H.write_faults host.old) (H.write_faults host.new) }
     ensures write_answered { result.status ≢ 5 → H.write_faults host.new ≡ H.write_faults host.old }
-    ensures files { H.file host.new ≡ H.file host.old }
-    ensures read_faults { H.read_faults host.new ≡ H.read_faults host.old }
-    ensures lost { H.lost host.new ≡ H.lost host.old }
+    ensures reads { KeepsReads (H.file host.old) (H.file host.new) (H.read_faults host.old) (H.read_faults host.new) (H.lost host.old) (H.lost host.new) }
 {
     let size = match machine(alloc, host, u64::from(run.threads), mem) {
         Ok(size) => size,
@@ -133,9 +127,7 @@ fn refuse_record<H: Host>(alloc: Global, host: &mut H, fault: RecordFault) -> En
     ensures cut { result.status ≡ 5 → Rose (H.write_faults host.old) (H.write_faults host.new) × AddsFront (H.written host.old) (H.written host.new) (refusal_text (record_fault_text fault)) }
     ensures memory { result.status ≡ 6 → H.written host.new ≡ H.written host.old }
     ensures write_answered { result.status ≢ 5 → H.write_faults host.new ≡ H.write_faults host.old }
-    ensures files { H.file host.new ≡ H.file host.old }
-    ensures read_faults { H.read_faults host.new ≡ H.read_faults host.old }
-    ensures lost { H.lost host.new ≡ H.lost host.old }
+    ensures reads { KeepsReads (H.file host.old) (H.file host.new) (H.read_faults host.old) (H.read_faults host.new) (H.lost host.old) (H.lost host.new) }
 {
     if fault == RecordFault::Memory {
         return out_of_memory();
@@ -159,9 +151,7 @@ fn respond<H: Host>(
     ensures answered { Answered (JudgesRead format mem file.now (record_of recorded.now)) (H.written host.old) (H.written host.new) result.status }
     ensures write { result.status ≡ 5 → Rose (H.write_faults host.old) (H.write_faults host.new) }
     ensures write_answered { result.status ≢ 5 → H.write_faults host.new ≡ H.write_faults host.old }
-    ensures files { H.file host.new ≡ H.file host.old }
-    ensures read_faults { H.read_faults host.new ≡ H.read_faults host.old }
-    ensures lost { H.lost host.new ≡ H.lost host.old }
+    ensures reads { KeepsReads (H.file host.old) (H.file host.new) (H.read_faults host.old) (H.read_faults host.new) (H.lost host.old) (H.lost host.new) }
 {
     match read_record(alloc, recorded) {
         Ok(run) => judge_file(alloc, host, format, mem, file, &run),

@@ -1,7 +1,7 @@
 //! `dis`: an image, word by word.
 ghost use Rattle.std.specs.Prelude.{◌≡◌, ◌≢◌, ◌+◌, ◌%◌, ◌<◌, ◌≤◌, ◌++◌, [], length, codes, None, OnOk, OnErr};
 ghost use Rattle.number_text.specs.Hexadecimal.{word_text};
-ghost use Rattle.llsc_cli.specs.Host.{Adds, AddsFront, Rose};
+ghost use Rattle.llsc_cli.specs.Host.{Adds, AddsFront, KeepsReads, Rose};
 ghost use Rattle.llsc_cli.specs.Refusals.{size_refusal, solo_size};
 ghost use Rattle.llsc_cli.specs.Disassembly.{disassembly, head_text, line_at, word_line, Holds};
 ghost use Rattle.llsc_cli.specs.Answer.{AnswersDis};
@@ -45,9 +45,7 @@ fn make_room<H: Host>(host: &mut H, page: &mut Page, count: usize) -> Result<(),
     ensures front { OnErr result (AddsFront (H.written host.old) (H.written host.new) page.old) }
     ensures cause { OnErr result (Rose (H.write_faults host.old) (H.write_faults host.new)) }
     ensures other { OnOk result (H.write_faults host.new ≡ H.write_faults host.old) }
-    ensures files { H.file host.new ≡ H.file host.old }
-    ensures read_faults { H.read_faults host.new ≡ H.read_faults host.old }
-    ensures lost { H.lost host.new ≡ H.lost host.old }
+    ensures reads { KeepsReads (H.file host.old) (H.file host.new) (H.read_faults host.old) (H.read_faults host.new) (H.lost host.old) (H.lost host.new) }
 {
     if page.has_room(count) {
         return Ok(());
@@ -65,9 +63,7 @@ fn add_line<H: Host>(host: &mut H, page: &mut Page, head: &[u8], text: &[u8]) ->
     ensures front { OnErr result (AddsFront (H.written host.old) (H.written host.new) page.old) }
     ensures cause { OnErr result (Rose (H.write_faults host.old) (H.write_faults host.new)) }
     ensures other { OnOk result (H.write_faults host.new ≡ H.write_faults host.old) }
-    ensures files { H.file host.new ≡ H.file host.old }
-    ensures read_faults { H.read_faults host.new ≡ H.read_faults host.old }
-    ensures lost { H.lost host.new ≡ H.lost host.old }
+    ensures reads { KeepsReads (H.file host.old) (H.file host.new) (H.read_faults host.old) (H.read_faults host.new) (H.lost host.old) (H.lost host.new) }
 {
     make_room(host, page, head.len() + text.len() + 1)?;
     page.push(head);
@@ -83,9 +79,7 @@ fn add_word<H: Host>(host: &mut H, page: &mut Page, addr: u32, word: u32) -> Res
     ensures front { OnErr result (AddsFront (H.written host.old) (H.written host.new) page.old) }
     ensures cause { OnErr result (Rose (H.write_faults host.old) (H.write_faults host.new)) }
     ensures other { OnOk result (H.write_faults host.new ≡ H.write_faults host.old) }
-    ensures files { H.file host.new ≡ H.file host.old }
-    ensures read_faults { H.read_faults host.new ≡ H.read_faults host.old }
-    ensures lost { H.lost host.new ≡ H.lost host.old }
+    ensures reads { KeepsReads (H.file host.old) (H.file host.new) (H.read_faults host.old) (H.read_faults host.new) (H.lost host.old) (H.lost host.new) }
 {
     let head = head_of(addr, word);
     let mut text = Line::new();
@@ -106,9 +100,7 @@ fn add_at<H: Host>(
     ensures front { OnErr result (AddsFront (H.written host.old) (H.written host.new) page.old) }
     ensures cause { OnErr result (Rose (H.write_faults host.old) (H.write_faults host.new)) }
     ensures other { OnOk result (H.write_faults host.new ≡ H.write_faults host.old) }
-    ensures files { H.file host.new ≡ H.file host.old }
-    ensures read_faults { H.read_faults host.new ≡ H.read_faults host.old }
-    ensures lost { H.lost host.new ≡ H.lost host.old }
+    ensures reads { KeepsReads (H.file host.old) (H.file host.new) (H.read_faults host.old) (H.read_faults host.new) (H.lost host.old) (H.lost host.new) }
 {
     match image.fetch_near(addr, near) {
         Some(word) => add_word(host, page, addr, word),
@@ -129,9 +121,7 @@ fn write_lines<H: Host>(
     ensures front { OnErr result (AddsFront (H.written host.old) (H.written host.new) (disassembly image.now)) }
     ensures cause { OnErr result (Rose (H.write_faults host.old) (H.write_faults host.new)) }
     ensures other { OnOk result (H.write_faults host.new ≡ H.write_faults host.old) }
-    ensures files { H.file host.new ≡ H.file host.old }
-    ensures read_faults { H.read_faults host.new ≡ H.read_faults host.old }
-    ensures lost { H.lost host.new ≡ H.lost host.old }
+    ensures reads { KeepsReads (H.file host.old) (H.file host.new) (H.read_faults host.old) (H.read_faults host.new) (H.lost host.old) (H.lost host.new) }
 {
     let count = mem / 4;
     let mut near = 0;
@@ -147,9 +137,7 @@ fn show<H: Host>(alloc: Global, host: &mut H, image: &Image, mem: u32) -> Ended
     ensures gives { Gives (record { status = 0; text = disassembly image.now }) (H.written host.old) (H.written host.new) result.status }
     ensures write { result.status ≡ 5 → Rose (H.write_faults host.old) (H.write_faults host.new) }
     ensures write_answered { result.status ≢ 5 → H.write_faults host.new ≡ H.write_faults host.old }
-    ensures files { H.file host.new ≡ H.file host.old }
-    ensures read_faults { H.read_faults host.new ≡ H.read_faults host.old }
-    ensures lost { H.lost host.new ≡ H.lost host.old }
+    ensures reads { KeepsReads (H.file host.old) (H.file host.new) (H.read_faults host.old) (H.read_faults host.new) (H.lost host.old) (H.lost host.new) }
 {
     let Ok(page) = Page::new(alloc) else {
         return out_of_memory();

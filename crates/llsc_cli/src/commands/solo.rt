@@ -2,7 +2,7 @@
 ghost use Rattle.std.specs.Prelude.{◌≡◌, ◌≢◌, ◌≤◌, ◌⊎◌, None, length};
 ghost use Rattle.guest_machine.specs.Alone.{IsSoloEnd};
 ghost use Rattle.guest_thread.specs.declared.ends.GuestEnd.{GuestEnd};
-ghost use Rattle.llsc_cli.specs.Host.{Adds, AddsFront, Rose};
+ghost use Rattle.llsc_cli.specs.Host.{Adds, AddsFront, KeepsReads, Rose};
 ghost use Rattle.llsc_cli.specs.Report.{report_of};
 ghost use Rattle.llsc_cli.specs.Refusals.{size_refusal, solo_size};
 ghost use Rattle.llsc_cli.specs.Trace.{status_of};
@@ -13,7 +13,7 @@ use crate::ended::{Ended, out_of_memory, status};
 use crate::files::load;
 use crate::formats::Format;
 use crate::host::Host;
-use crate::report::Report;
+use crate::report::write_report;
 use guest_machine::solo;
 use llsc_base::{Image, MachineSize};
 use std::alloc::Global;
@@ -36,20 +36,14 @@ fn run<H: Host>(
         × AddsFront (H.written host.old) (H.written host.new) (report_of budget end)) }
     ensures memory { result.status ≡ 6 → H.written host.new ≡ H.written host.old }
     ensures write_answered { result.status ≢ 5 → H.write_faults host.new ≡ H.write_faults host.old }
-    ensures files { H.file host.new ≡ H.file host.old }
-    ensures read_faults { H.read_faults host.new ≡ H.read_faults host.old }
-    ensures lost { H.lost host.new ≡ H.lost host.old }
+    ensures reads { KeepsReads (H.file host.old) (H.file host.new) (H.read_faults host.old) (H.read_faults host.new) (H.lost host.old) (H.lost host.new) }
 {
     let Ok(end) = solo(alloc, image, size, budget) else {
         return out_of_memory();
     };
-    let stop = end.stop;
-    let Ok(report) = Report::new(alloc, budget, end) else {
-        return out_of_memory();
-    };
-    match report.write(host) {
+    match write_report(host, budget, &end) {
         Ok(()) => Ended {
-            status: status(stop),
+            status: status(end.stop),
         },
         Err(_) => Ended { status: 5 },
     }

@@ -4,7 +4,7 @@ ghost use Rattle.guest_machine.specs.Traces.{IsTraceRecord};
 ghost use Rattle.guest_thread.specs.Ends.{AreEnds};
 ghost use Rattle.run_record.specs.Limits.{IsRecord};
 ghost use Rattle.run_record.specs.Text.{record_text};
-ghost use Rattle.llsc_cli.specs.Host.{Adds, AddsFront, Rose};
+ghost use Rattle.llsc_cli.specs.Host.{Adds, AddsFront, KeepsReads, Rose};
 ghost use Rattle.llsc_cli.specs.Refusals.{machine_of, refusal_text, size_refusal};
 ghost use Rattle.llsc_cli.specs.Trace.{have_left, status_of_all, AnswersTrace, Traces};
 ghost use Rattle.llsc_cli.specs.Reads.{Answered, CallEnds};
@@ -46,9 +46,7 @@ fn print<H: Host>(alloc: Global, host: &mut H, traced: &Traced) -> Ended
     ensures cut { result.status ≡ 5 → Rose (H.write_faults host.old) (H.write_faults host.new) × AddsFront (H.written host.old) (H.written host.new) (record_text traced.now.run) }
     ensures memory { result.status ≡ 6 → H.written host.new ≡ H.written host.old }
     ensures write_answered { result.status ≢ 5 → H.write_faults host.new ≡ H.write_faults host.old }
-    ensures files { H.file host.new ≡ H.file host.old }
-    ensures read_faults { H.read_faults host.new ≡ H.read_faults host.old }
-    ensures lost { H.lost host.new ≡ H.lost host.old }
+    ensures reads { KeepsReads (H.file host.old) (H.file host.new) (H.read_faults host.old) (H.read_faults host.new) (H.lost host.old) (H.lost host.new) }
 {
     let status = status_of_all(traced.ends.as_slice());
     match print_record(alloc, &traced.run) {
@@ -65,9 +63,7 @@ fn refuse_trace<H: Host>(host: &mut H, fault: TraceFault) -> Ended
     ensures cut { result.status ≡ 5 → Rose (H.write_faults host.old) (H.write_faults host.new) × AddsFront (H.written host.old) (H.written host.new) (refusal_text (codes "TooLong")) }
     ensures memory { result.status ≡ 6 → H.written host.new ≡ H.written host.old }
     ensures write_answered { result.status ≢ 5 → H.write_faults host.new ≡ H.write_faults host.old }
-    ensures files { H.file host.new ≡ H.file host.old }
-    ensures read_faults { H.read_faults host.new ≡ H.read_faults host.old }
-    ensures lost { H.lost host.new ≡ H.lost host.old }
+    ensures reads { KeepsReads (H.file host.old) (H.file host.new) (H.read_faults host.old) (H.read_faults host.new) (H.lost host.old) (H.lost host.new) }
 {
     match fault {
         TraceFault::TooLong => say(host, b"llsc: TooLong\n", 4),
@@ -90,9 +86,7 @@ fn run<H: Host>(
     ensures answered { Answered (Traces image.now size.now seed budget) (H.written host.old) (H.written host.new) result.status }
     ensures write { result.status ≡ 5 → Rose (H.write_faults host.old) (H.write_faults host.new) }
     ensures write_answered { result.status ≢ 5 → H.write_faults host.new ≡ H.write_faults host.old }
-    ensures files { H.file host.new ≡ H.file host.old }
-    ensures read_faults { H.read_faults host.new ≡ H.read_faults host.old }
-    ensures lost { H.lost host.new ≡ H.lost host.old }
+    ensures reads { KeepsReads (H.file host.old) (H.file host.new) (H.read_faults host.old) (H.read_faults host.new) (H.lost host.old) (H.lost host.new) }
 {
     match trace(alloc, image, size, seed, budget) {
         Ok(traced) => print(alloc, host, &traced),

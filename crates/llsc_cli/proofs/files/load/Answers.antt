@@ -1,29 +1,25 @@
-use Rattle.std.proofs.Common.{◌≡◌, None}
+use Rattle.std.proofs.Common.{◌≡◌, None, rules}
 use Rattle.llsc_cli.specs.Refusals.{machine_of, size_refusal, too_long, most_program}
 use Rattle.llsc_cli.specs.Host.{AreBytes}
 use Rattle.llsc_cli.proofs.Answering.{answered_for, are_held, ends_as, held_bytes, refused_short, refused_unsized, refuses_sized}
+use Rattle.llsc_cli.proofs.Fronts.{owed_as}
 use Rattle.llsc_cli.proofs.files.load.Goals as goal
 
-pub returns-in-Err-clause-ends : goal.returns-in-Err-clause-ends
-returns-in-Err-clause-ends g c =
+pub returns-in_err-size-clause-ends : goal.returns-in_err-size-clause-ends
+returns-in_err-size-clause-ends g c =
     let held = g.H.Host.file c.args.host.now c.args.name.now in
-    answered_for (g.H.Host.written c.args.host.now) (g.H.Host.written c.machine.new.host) c.in-Err.ended.status (held_bytes held) (are_held held)
-    (refused_unsized c.args.format (machine_of c.args.threads c.args.mem) (held_bytes held)) c.in-Err.ensures.refused
+    let ends = answered_for (g.H.Host.written c.args.host.now) (g.H.Host.written c.machine.new.host) c.in_err-size.field-0.0.status (held_bytes held) (are_held held)
+    (refused_unsized c.args.format (machine_of c.args.threads c.args.mem) (held_bytes held)) c.in_err-size.ensures.refused in
+    owed_as c.from_residual.result c.from_residual.ensures.1 (λ ended same. rw same ends)
 
-pub returns-in-Err-read-clause-ends : goal.returns-in-Err-read-clause-ends
-returns-in-Err-read-clause-ends g c =
-    let none : size_refusal (machine_of c.args.threads c.args.mem) ≡ None = c.in-Ok.ensures.size.1 in
-    let ends = rw (c.machine.ensures.files, c.in-Ok.ensures.written, c.machine.ensures.read_faults) at c.in-Err-read.ensures.ends in
-    ends_as (g.H.Host.file c.args.host.now c.args.name.now) (g.H.Host.written c.args.host.now) (g.H.Host.written c.read.new.host) c.in-Err-read.ended.status
-    (refuses_sized c.args.format (machine_of c.args.threads c.args.mem) none) (λ failed. (failed.0, failed.1, none)) ends
-
-pub returns-clause-ends : goal.returns-clause-ends
-returns-clause-ends g c =
-    let none : size_refusal (machine_of c.args.threads c.args.mem) ≡ None = c.in-Ok.ensures.size.1 in
-    let had = rw (c.machine.ensures.files) at c.in-Ok-read.ensures.had in
+pub returns-in_err-image-clause-ends : goal.returns-in_err-image-clause-ends
+returns-in_err-image-clause-ends g c =
+    let none : size_refusal (machine_of c.args.threads c.args.mem) ≡ None = c.in_ok-size.ensures.size.1 in
+    let had = rw (c.machine.ensures.reads.files) at c.in_ok-file.ensures.had in
     let bytes : AreBytes (g.H.Host.file c.args.host.now c.args.name.now) c.as_slice.result.now = rw c.as_slice.ensures.value had.0 in
     let short : too_long most_program c.as_slice.result.now ≡ None = rw c.as_slice.ensures.value had.1 in
-    let refused = rw (c.in-Ok-read.ensures.silent, c.in-Ok.ensures.written) at c.in-Err-image_on.ensures.refused in
-    answered_for (g.H.Host.written c.args.host.now) (g.H.Host.written c.image_on.new.host) c.in-Err-image_on.ended.status c.as_slice.result.now bytes
-    (refused_short c.args.format c.in-Ok.size (machine_of c.args.threads c.args.mem) c.as_slice.result.now none c.in-Ok.ensures.size.0 short)
-    refused
+    let refused = rw (c.in_ok-file.ensures.writes.written, c.in_ok-size.ensures.writes.written) at c.in_err-image.ensures.refused in
+    let ends = answered_for (g.H.Host.written c.args.host.now) (g.H.Host.written c.image_on.new.host) c.in_err-image.field-0.0.status c.as_slice.result.now bytes
+    (refused_short c.args.format c.in_ok-size.size (machine_of c.args.threads c.args.mem) c.as_slice.result.now none c.in_ok-size.ensures.size.0 short)
+    refused in
+    owed_as c.from_residual-in_err-image.result c.from_residual-in_err-image.ensures.1 (λ ended same. rw same ends)

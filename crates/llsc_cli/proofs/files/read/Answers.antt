@@ -9,7 +9,7 @@ returns-in-Err-clause-ends g c =
     ends_unread c.args.most c.in-Err.fault (g.H.Host.file c.args.host.now c.args.name.now) (g.H.Host.written c.args.host.now) (g.H.Host.written c.refuse_read.new.host)
     c.refuse_read.result.status
     (λ failed. let cause = c.in-Err.ensures.cause (ap Err failed) in
-    (rw said.read_faults cause.0, said.lost ∙ cause.1 ∙ c.in-Ok.ensures.ok))
+    (rw said.reads.read_faults cause.0, said.reads.lost ∙ cause.1 ∙ c.in-Ok.ensures.ok))
     (λ long. subst (λ (n : List ℕ). (file : List ℕ) × AreBytes (g.H.Host.file c.args.host.now n) file × (c.args.most < length file)) c.in-Ok.ensures.ok
     (c.in-Err.ensures.too_long (ap Err long)))
     said.ended said.failed said.too_long

@@ -7,7 +7,7 @@ use Rattle.llsc_cli.proofs.commands.asm.answer.Goals as goal
 pub returns-in-Ok-clause-ends : goal.returns-in-Ok-clause-ends
 returns-in-Ok-clause-ends g c =
     let bytes : AreBytes (g.H.Host.file c.args.host.now c.args.file.now) c.as_slice.result.now = rw c.as_slice.ensures.value c.in-Ok.ensures.had.0 in
-    let gives = rw c.in-Ok.ensures.silent at c.respond.ensures.gives in
+    let gives = rw c.in-Ok.ensures.writes.written at c.respond.ensures.gives in
     ends_given (asm_answer c.args.format) (g.H.Host.file c.args.host.now c.args.file.now) (g.H.Host.written c.args.host.now) (g.H.Host.written c.respond.new.host) c.respond.result.status
     c.as_slice.result.now bytes (asm_done c.args.format c.as_slice.result.now) gives
 

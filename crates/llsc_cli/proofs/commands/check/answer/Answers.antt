@@ -19,10 +19,10 @@ returns-in-Ok-read-clause-ends g c =
     let recorded = c.as_slice-in-Ok-read.result.now in
     let first : AreBytes (g.H.Host.file c.args.host.now c.args.file.now) file = rw c.as_slice.ensures.value c.in-Ok.ensures.had.0 in
     let short : too_long most_program file ≡ None = rw c.as_slice.ensures.value c.in-Ok.ensures.had.1 in
-    let had = rw c.in-Ok.ensures.files at c.in-Ok-read.ensures.had in
+    let had = rw c.in-Ok.ensures.reads.files at c.in-Ok-read.ensures.had in
     let second : AreBytes (g.H.Host.file c.args.host.now c.args.recorded.now) recorded = rw c.as_slice-in-Ok-read.ensures.value had.0 in
     let few : too_long most_record recorded ≡ None = rw c.as_slice-in-Ok-read.ensures.value had.1 in
-    let answered = rw (c.in-Ok-read.ensures.silent, c.in-Ok.ensures.silent) at c.respond.ensures.answered in
+    let answered = rw (c.in-Ok-read.ensures.writes.written, c.in-Ok.ensures.writes.written) at c.respond.ensures.answered in
     answered_for (g.H.Host.written c.args.host.now) (g.H.Host.written c.respond.new.host) c.respond.result.status
     (file ∷ recorded ∷ []) (first, (second, tt)) (check_judged c.args.format c.args.mem file recorded short few) answered
 
@@ -31,7 +31,7 @@ returns-clause-ends g c =
     let file = c.in-Ok.program.items in
     let first : AreBytes (g.H.Host.file c.args.host.now c.args.file.now) file = c.in-Ok.ensures.had.0 in
     let short : too_long most_program file ≡ None = c.in-Ok.ensures.had.1 in
-    let ends = rw (c.in-Ok.ensures.files, c.in-Ok.ensures.silent, c.in-Ok.ensures.unfailed.0) at c.in-Err-read.ensures.ends in
+    let ends = rw (c.in-Ok.ensures.reads.files, c.in-Ok.ensures.writes.written, c.in-Ok.ensures.reads.read_faults) at c.in-Err-read.ensures.ends in
     ends_for (g.H.Host.written c.args.host.now) (g.H.Host.written c.read-2.new.host) c.in-Err-read.ended.status
     (λ recorded s text may refused. (file ∷ recorded ∷ [], ((first, (may, tt)), check_record_long c.args.format c.args.mem file recorded short s text refused)))
     (λ failed. (failed.0, inr (failed.1, (file, (first, short))))) ends

@@ -10,7 +10,7 @@ returns-in-Err-clause-answered g c =
 pub returns-in-Ok-image_on-clause-answered : goal.returns-in-Ok-image_on-clause-answered
 returns-in-Ok-image_on-clause-answered g c =
     let size = rw c.from.ensures at c.in-Ok.ensures.size in
-    let answered = rw (c.in-Ok-image_on.ensures.silent, c.in-Ok.ensures.written) at c.judge.ensures.answered in
+    let answered = rw (c.in-Ok-image_on.ensures.writes.written, c.in-Ok.ensures.writes.written) at c.judge.ensures.answered in
     answered_as (g.H.Host.written c.args.host.now) (g.H.Host.written c.judge.new.host) c.judge.result.status
     (run_judged c.args.format c.args.mem c.in-Ok.size c.args.file.now c.in-Ok-image_on.image c.args.run.now size.1 size.0 c.requires.short
     c.in-Ok-image_on.ensures.sound c.in-Ok-image_on.ensures.image)
@@ -19,7 +19,7 @@ returns-in-Ok-image_on-clause-answered g c =
 pub returns-in-Err-image_on-clause-answered : goal.returns-in-Err-image_on-clause-answered
 returns-in-Err-image_on-clause-answered g c =
     let size = rw c.from.ensures at c.in-Ok.ensures.size in
-    let refused = rw c.in-Ok.ensures.written at c.in-Err-image_on.ensures.refused in
+    let refused = rw c.in-Ok.ensures.writes.written at c.in-Err-image_on.ensures.refused in
     answered_as (g.H.Host.written c.args.host.now) (g.H.Host.written c.image_on.new.host) c.in-Err-image_on.ended.status
     (run_refused c.args.format c.args.mem c.in-Ok.size c.args.file.now c.args.run.now size.1 size.0 c.requires.short)
     refused

@@ -8,7 +8,7 @@ use Rattle.llsc_cli.proofs.commands.dis.answer.Goals as goal
 pub returns-in-Ok-clause-ends : goal.returns-in-Ok-clause-ends
 returns-in-Ok-clause-ends g c =
     let loaded = c.in-Ok.ensures in
-    let gives = rw loaded.silent at c.show.ensures.gives in
+    let gives = rw loaded.writes.written at c.show.ensures.gives in
     ends_given (dis_answer c.args.format c.args.mem) (g.H.Host.file c.args.host.now c.args.file.now) (g.H.Host.written c.args.host.now) (g.H.Host.written c.show.new.host) c.show.result.status
     loaded.image.0 loaded.image.1.0 (dis_done c.args.format c.args.mem loaded.image.0)
     (subst (λ a. Gives a (g.H.Host.written c.args.host.now) (g.H.Host.written c.show.new.host) c.show.result.status)

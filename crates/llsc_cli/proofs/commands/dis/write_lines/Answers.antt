@@ -2,6 +2,7 @@ use Rattle.std.proofs.Common.{◌≤◌, ◌/◌, ◌*◌, length, sym, ◌∙�
 use Rattle.llsc_cli.specs.Host.{AddsFront}
 use Rattle.llsc_cli.specs.Disassembly.{line_at, lines_of, Holds}
 use Rattle.llsc_cli.proofs.Fronts.{owed, owed_more}
+use Rattle.llsc_cli.proofs.Kept.{reads_kept}
 use Rattle.llsc_cli.proofs.Paging.{holds_more, holds_front, lines_more, lines_front}
 use Rattle.llsc_cli.proofs.commands.dis.write_lines.Goals as goal
 
@@ -13,10 +14,8 @@ loop-i-preserved g c =
       held = subst (λ t. Holds (g.H.Host.written c.args.host.now) (g.H.Host.written c.add_at.new.host) c.add_at.new.page t) (sym (lines_more image c.loop-i.i))
           (holds_more (g.H.Host.written c.args.host.now) (g.H.Host.written c.loop-i.host) (g.H.Host.written c.add_at.new.host) c.loop-i.page c.add_at.new.page
           (lines_of image c.loop-i.i) (line_at image (4 * c.loop-i.i)) c.loop-i.invariant.held added.whole);
-      files = added.files ∙ c.loop-i.invariant.files;
-      read_faults = added.read_faults ∙ c.loop-i.invariant.read_faults;
+      reads = reads_kept c.loop-i.invariant.reads added.reads;
       write_faults = added.other ∙ c.loop-i.invariant.write_faults;
-      lost = added.lost ∙ c.loop-i.invariant.lost;
     }
 
 pub returns-in_err-add_at-clause-front : goal.returns-in_err-add_at-clause-front

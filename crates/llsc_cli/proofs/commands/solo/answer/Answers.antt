@@ -6,9 +6,9 @@ pub returns-in-Ok-clause-ends : goal.returns-in-Ok-clause-ends
 returns-in-Ok-clause-ends g c =
     let ran = c.run.ensures in
     let loaded = c.in-Ok.ensures in
-    let done = rw loaded.silent at ran.done in
-    let cut = rw loaded.silent at ran.cut in
-    let memory = rw loaded.silent at ran.memory in
+    let done = rw loaded.writes.written at ran.done in
+    let cut = rw loaded.writes.written at ran.cut in
+    let memory = rw loaded.writes.written at ran.memory in
     ends_run c.args.format c.args.mem c.args.budget loaded.image.0 c.in-Ok.loaded.size c.in-Ok.loaded.image (g.H.Host.file c.args.host.now c.args.file.now)
     (g.H.Host.written c.args.host.now) (g.H.Host.written c.run.new.host) c.run.result.status
     loaded.image.1.0 loaded.image.1.1.0 loaded.size loaded.image.1.1.1

@@ -6,7 +6,7 @@ pub returns-in-Ok-clause-ends : goal.returns-in-Ok-clause-ends
 returns-in-Ok-clause-ends g c =
     let loaded = c.in-Ok.ensures in
     let numbers = c.args.numbers in
-    let answered = rw loaded.silent at c.run.ensures.answered in
+    let answered = rw loaded.writes.written at c.run.ensures.answered in
     answered_for (g.H.Host.written c.args.host.now) (g.H.Host.written c.run.new.host) c.run.result.status loaded.image.0 loaded.image.1.0
     (trace_traced c.args.format numbers.threads numbers.mem numbers.seed numbers.budget loaded.image.0 c.in-Ok.loaded.size c.in-Ok.loaded.image
     loaded.image.1.1.0 loaded.size loaded.image.1.1.1)
