@@ -12,3 +12,5 @@ pub mod OptionWords
 pub mod TraceAnswers
 pub mod Asked
 pub mod Kept
+pub mod GoodTraces
+pub mod TracesAlone

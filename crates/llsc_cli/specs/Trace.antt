@@ -7,6 +7,7 @@ use Rattle.a32_instr.specs.declared.outside.Stop.{Stop}
 use Rattle.a32_instr.specs.declared.outside.Stop.TheVariants as stop
 use Rattle.guest_thread.specs.declared.ends.GuestEnd.{GuestEnd}
 use Rattle.guest_machine.specs.Traces.{IsTraceRecord}
+use Rattle.history.specs.Accesses.{history_of}
 use Rattle.guest_thread.specs.Ends.{AreEnds}
 use Rattle.guest_machine.specs.Turns.{IsTooLong}
 use Rattle.run_record.specs.Text.{record_text}
@@ -32,7 +33,7 @@ status_of_all ends = if have_left ends then 0 else 1
 abbrev pub IsRecorded : Program → Numbers → ℕ → ℕ → ℕ → List ℕ → Type 0
 IsRecorded program size seed budget status text =
     (run : RunRecord) × (ends : List GuestEnd)
-    × (IsTraceRecord program size seed budget run × (AreEnds program size budget run.accesses ends × ((status ≡ status_of_all ends) × (text ≡ record_text run))))
+    × (IsTraceRecord program size seed budget run × (AreEnds program size budget (history_of run.accesses) ends × ((status ≡ status_of_all ends) × (text ≡ record_text run))))
 
 abbrev pub Traces : Program → Numbers → ℕ → ℕ → ℕ → List ℕ → Type 0
 Traces program size seed budget status text =

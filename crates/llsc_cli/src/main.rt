@@ -11,6 +11,7 @@ mod ended;
 mod files;
 mod formats;
 mod host;
+pub mod laws;
 mod memory_host;
 mod options;
 mod pages;

@@ -1,0 +1,30 @@
+//! The laws of what the program answers, each a function of no effect whose contract is the law.
+ghost use Rattle.std.specs.Prelude.{◌≡◌, ℕ, List};
+ghost use Rattle.llsc_base.specs.Images.{Program};
+ghost use Rattle.llsc_base.specs.Sizes.{Numbers};
+ghost use Rattle.history.specs.Accesses.{history_of};
+ghost use Rattle.history.specs.declared.entry.Access.{Access};
+ghost use Rattle.guest_thread.specs.End.{IsEndIn};
+ghost use Rattle.guest_thread.specs.Start.{thread_start};
+ghost use Rattle.guest_thread.specs.declared.ends.GuestEnd.{GuestEnd};
+ghost use Rattle.run_record.specs.declared.records.RunRecord.{RunRecord};
+ghost use Rattle.guest_machine.specs.Alone.{IsSoloEnd};
+ghost use Rattle.guest_machine.specs.Traces.{IsTraceRecord};
+ghost use Rattle.guest_machine.specs.Turns.{IsTrace};
+ghost use Rattle.run_checker.specs.Verdict.{Judges};
+
+use run_checker::Verdict;
+
+/// The record of a trace is good.
+pub fn traces_are_good()
+    ensures { (program : Program) (size : Numbers) (seed budget : ℕ) (accesses : List Access) →
+        IsTrace program size seed budget accesses → Judges program size budget accesses Verdict.Good }
+{}
+
+/// A trace of one thread that a record may have ends as the thread does alone.
+pub fn one_threads_trace_ends_as_alone()
+    ensures { (program : Program) (size : Numbers) (seed : ℕ) (run : RunRecord) (end : GuestEnd) →
+        size.threads ≡ 1 → IsTraceRecord program size seed run.budget run → end.thread ≡ 0 →
+        IsEndIn program run.budget (thread_start program size size.threads 0) (history_of run.accesses) end →
+        IsSoloEnd program size run.budget end }
+{}
