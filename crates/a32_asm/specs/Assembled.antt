@@ -2,7 +2,8 @@
 use Rattle.std.specs.Prelude.{ℕ, ◌+◌, ◌*◌, ◌||◌, nat_lt, if◌then◌else◌, Bool, false, List, [], ◌∷◌, ◌++◌, Option, Some, None, Result, Ok, Err}
 use Rattle.a32_asm.specs.declared.labels.LabelPlace.{LabelPlace}
 use Rattle.elf32.specs.declared.units.Unit.{Unit}
-use Rattle.elf32.specs.Units.{code_start, most_words, most_data}
+use Rattle.llsc_base.specs.Limits.{code_start}
+use Rattle.elf32.specs.Units.{most_words, most_data}
 use Rattle.a32_syntax.specs.declared.kinds.AsmKind.{AsmKind}
 use Rattle.a32_syntax.specs.declared.kinds.AsmKind.TheVariants as kind
 use Rattle.a32_syntax.specs.Meaning.{Site}

@@ -3,7 +3,8 @@ use Rattle.std.specs.Prelude.{ℕ, ◌+◌, ◌*◌, ◌%◌, ◌^◌, ◌&&◌,
 use Rattle.std.specs.List.{find}
 use Rattle.std.specs.Option.{option_map}
 use Rattle.std.specs.Str.{bytes_eq}
-use Rattle.elf32.specs.Units.{code_start, data_start}
+use Rattle.llsc_base.specs.Limits.{code_start}
+use Rattle.elf32.specs.Units.{data_start}
 use Rattle.a32_forms.specs.Text.{parts}
 use Rattle.a32_forms.specs.Forms.{Chosen, chosen, number_at}
 use Rattle.a32_asm.specs.declared.layout.Spot.{Spot}

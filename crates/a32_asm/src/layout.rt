@@ -10,6 +10,7 @@ use crate::heads::Head;
 use crate::labels::{LabelMap, LabelPlace};
 use crate::lines::{Line, first_line, operands_of, read_line};
 use a32_forms::chosen;
+use llsc_base::CODE_START;
 use std::alloc::{AllocError, Global};
 
 /// A place between two lines: the section, the code words and the data bytes before it, and the space, with
@@ -121,7 +122,7 @@ impl TextLayout {
 fn address_at(words: u64, spot: Spot) -> u32
     ensures { result ≡ address_at words spot }
 {
-    let code_start = 0x1000;
+    let code_start = u128::from(CODE_START);
     if !spot.in_data {
         return ((code_start + 4 * u128::from(spot.words)) % 0x1_0000_0000) as u32;
     }

@@ -18,6 +18,7 @@ use a32_encode::encode;
 use a32_forms::{chosen, front_word};
 use a32_instr::Instr;
 use a32_syntax::{AsmKind, Labels, instruction_of, mnemonic_of};
+use llsc_base::CODE_START;
 
 /// What a line adds to a program.
 #[derive(Clone, Copy, Debug, PartialEq, Eq)]
@@ -124,7 +125,7 @@ fn instruction_from(layout: &TextLayout, spot: Spot, line: &Line<'_>) -> Result<
     let Some(mnemonic) = mnemonic_of(front_word(line.statement)) else {
         return Err(AsmKind::Mnemonic);
     };
-    let here = 0x1000 + 4 * spot.words as u32;
+    let here = CODE_START + 4 * spot.words as u32;
     match instruction_of(mnemonic, operands_of(line.statement), here, layout) {
         Ok(instruction) => encoded(&instruction),
         Err(fault) => Err(fault),

@@ -11,8 +11,8 @@ use a32_instr::{DecodeFault, Instr};
 ///
 /// # Errors
 ///
-/// `Undefined` exactly where the word fits no row of the table; `Unpredictable` exactly where it fits one, and the manual
-/// leaves open what it does.
+/// `Undefined` exactly where the word fits no row of the table; `Unpredictable` exactly where it fits one, and the row's
+/// last condition, `unpredictable`, holds of its fields.
 #[inline]
 pub fn decode(word: u32) -> Result<Instr, DecodeFault>
     ensures { result ≡ meaning table word }

@@ -2,6 +2,10 @@
 use Rattle.std.specs.Prelude.{ℕ, ◌==◌, ◌&&◌, ◌||◌, not, if◌then◌else◌, Bool, true}
 use Rattle.a32_instr.specs.declared.conditions.Flags.{Flags}
 
+-- the condition that always holds (AL)
+abbrev pub always : ℕ
+always = 14
+
 -- one flag is as the other
 abbrev pub agree : Bool → Bool → Bool
 agree a b = (a && b) || (not a && not b)

@@ -3,7 +3,7 @@ use Rattle.std.specs.Prelude.{ℕ, if◌then◌else◌, List}
 use Rattle.llsc_base.specs.Images.{Program}
 use Rattle.a32_instr.specs.declared.instructions.Instr.{Instr}
 use Rattle.a32_instr.specs.declared.instructions.Instr.TheVariants.{Alu, Movw, Movt, Nop, Yield, Mul, Mla, Mls, Long, Clz, Extend, Rev, Word, Half, Block, Branch, BranchReg, Svc, LoadEx, StoreEx, Clrex, Barrier}
-use Rattle.a32_instr.specs.Condition.{passes}
+use Rattle.a32_instr.specs.Condition.{always, passes}
 use Rattle.a32_instr.specs.State.{State, Effect, completes, advanced}
 use Rattle.a32_instr.specs.DataProcessing.{alu}
 use Rattle.a32_instr.specs.Multiply.{multiplies, multiplies_and_adds, multiplies_and_subtracts, multiplies_long}
@@ -35,8 +35,8 @@ condition_of (BranchReg cond link rm) = cond
 condition_of (Svc cond imm) = cond
 condition_of (LoadEx cond size rn rt) = cond
 condition_of (StoreEx cond size rn rd rt) = cond
-condition_of Clrex = 14
-condition_of (Barrier kind option) = 14
+condition_of Clrex = always
+condition_of (Barrier kind option) = always
 
 -- what an instruction does whose condition has passed
 abbrev pub acts : Instr → Program → List ℕ → State → Effect

@@ -31,6 +31,9 @@ impl Model for Cond {
 }
 
 impl Cond {
+    /// The condition that always holds (AL).
+    pub const ALWAYS: Cond = Cond { num: 14 };
+
     /// The condition of a number from 0 to 14.
     pub fn new(num: u8) -> Cond
         requires { num < 15 }

@@ -5,9 +5,6 @@ ghost use Rattle.a32_instr.specs.Effect.{condition_of};
 
 use a32_instr::{Cond, Flags, Instr};
 
-/// The number of the condition that always holds (AL, DDI 0406C A8.3).
-pub const ALWAYS: u8 = 14;
-
 /// Whether the flags meet a condition (DDI 0406C A8.3, table A8-1).
 #[tactic(auto, unfolding(a32_instr::specs::Condition::passes))]
 pub fn passes(cond: Cond, flags: Flags) -> bool
@@ -57,6 +54,6 @@ pub fn condition(instr: &Instr) -> Cond
         Instr::Svc { cond, .. } => *cond,
         Instr::LoadEx { cond, .. } => *cond,
         Instr::StoreEx { cond, .. } => *cond,
-        Instr::Clrex | Instr::Barrier { .. } => Cond::new(ALWAYS),
+        Instr::Clrex | Instr::Barrier { .. } => Cond::ALWAYS,
     }
 }

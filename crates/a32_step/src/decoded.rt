@@ -3,7 +3,6 @@ ghost use Rattle.std.specs.Prelude.{◌≡◌, ◌<◌, IfOk, IfErr, Ok, Err, sl
 ghost use Rattle.a32_step.specs.Slots.{instr_of, instr_for};
 ghost use Rattle.a32_instr.specs.Table.{meaning, table};
 
-use crate::conditions::ALWAYS;
 use a32_decode::decode;
 use a32_instr::{Cond, DecodeFault, Instr};
 use std::fmt;
@@ -51,9 +50,7 @@ impl Decoded {
     pub fn new() -> Decoded {
         let slot = Slot {
             word: NOP,
-            instr: Instr::Nop {
-                cond: Cond::new(ALWAYS),
-            },
+            instr: Instr::Nop { cond: Cond::ALWAYS },
         };
         Decoded {
             slots: [slot; SLOTS],

@@ -12,6 +12,7 @@ use Rattle.a32_instr.specs.declared.instructions.BarrierKind.{BarrierKind}
 use Rattle.a32_instr.specs.declared.instructions.BarrierKind.TheVariants.{Dsb, Dmb, Isb}
 use Rattle.llsc_base.specs.declared.access.Size.{Size}
 use Rattle.llsc_base.specs.declared.access.Size.TheVariants.{B1, B2, B4, B8}
+use Rattle.a32_instr.specs.Condition.{always}
 use Rattle.a32_instr.specs.Fields.{is_compare}
 use Rattle.a32_forms.specs.Names.{names_in, place_from}
 use Rattle.a32_syntax.specs.declared.operations.Operation.{Operation}
@@ -128,7 +129,7 @@ may_have_condition Clrex = false
 may_have_condition (Barrier kind) = false
 may_have_condition _ = true
 
--- the conditions by number (DDI 0406C A8.3); number 14, always, is shown by nothing
+-- the conditions by number (DDI 0406C A8.3); the one that always holds is shown by nothing
 abbrev pub conditions : List ℕ
 conditions = codes "eq ne cs cc mi pl vs vc hi ls ge lt gt le"
 
@@ -136,7 +137,7 @@ abbrev pub condition_name : ℕ → List ℕ
 condition_name number = slice_index_or (names_in conditions) number []
 
 abbrev pub condition_of : List ℕ → Option ℕ
-condition_of [] = Some 14
+condition_of [] = Some always
 condition_of (code ∷ word) = place_from 0 (names_in conditions) (code ∷ word)
 
 abbrev pub flags_text : Bool → List ℕ
@@ -150,7 +151,7 @@ mnemonic_text mnemonic = base_of mnemonic.operation ++ (flags_text mnemonic.set_
 abbrev pub is_mnemonic : Mnemonic → Bool
 is_mnemonic mnemonic =
     (may_set_flags mnemonic.operation || not mnemonic.set_flags)
-    && (if may_have_condition mnemonic.operation then nat_lt mnemonic.cond 15 else mnemonic.cond == 14)
+    && (if may_have_condition mnemonic.operation then nat_lt mnemonic.cond 15 else mnemonic.cond == always)
 
 -- Which mnemonic a word is.
 
@@ -176,7 +177,7 @@ mnemonic operation set_flags cond = record { operation = operation; set_flags = 
 
 -- what stands behind the base: nothing, or a condition where there may be one
 abbrev pub with_condition : Operation → Bool → List ℕ → Option Mnemonic
-with_condition operation set_flags [] = Some (mnemonic operation set_flags 14)
+with_condition operation set_flags [] = Some (mnemonic operation set_flags always)
 with_condition operation set_flags (code ∷ word) =
     if may_have_condition operation
     then option_map (mnemonic operation set_flags) (condition_of (code ∷ word))

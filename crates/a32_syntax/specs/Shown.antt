@@ -13,6 +13,7 @@ use Rattle.a32_instr.specs.declared.instructions.Instr.{Instr}
 use Rattle.a32_instr.specs.declared.instructions.Instr.TheVariants as instr
 use Rattle.llsc_base.specs.declared.access.Size.{Size}
 use Rattle.llsc_base.specs.declared.access.Size.TheVariants.{B8}
+use Rattle.a32_instr.specs.Condition.{always}
 use Rattle.a32_instr.specs.Fields.{is_compare, is_move}
 use Rattle.a32_instr.specs.Shift.{rotated_right}
 use Rattle.a32_instr.specs.Branch.{target_of}
@@ -140,10 +141,6 @@ load_exclusive_numbers _ rn rt = rt ∷ rn ∷ []
 abbrev pub store_exclusive_numbers : Size → ℕ → ℕ → ℕ → List ℕ
 store_exclusive_numbers B8 rn rd rt = rd ∷ rt ∷ (rt + 1) ∷ rn ∷ []
 store_exclusive_numbers _ rn rd rt = rd ∷ rt ∷ rn ∷ []
-
--- the condition of an instruction that is always carried out
-abbrev pub always : ℕ
-always = 14
 
 -- what is shown of an instruction at an address
 unfoldable pub showing_of : Instr → ℕ → Showing

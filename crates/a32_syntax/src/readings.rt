@@ -139,7 +139,7 @@ fn condition_of(word: &[u8]) -> Option<Cond>
     ensures { result ≡ condition_of word.now }
 {
     if word.is_empty() {
-        return Some(Cond::new(14));
+        return Some(Cond::ALWAYS);
     }
     let number = place(0, b"eq ne cs cc mi pl vs vc hi ls ge lt gt le", word)?;
     Some(Cond::new(number as u8))

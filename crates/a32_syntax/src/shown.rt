@@ -4,7 +4,7 @@ ghost use Rattle.a32_instr.specs.Branch.{target_of};
 ghost use Rattle.a32_instr.specs.Classes.{is_data, is_multiply};
 ghost use Rattle.a32_instr.specs.DataProcessing.{one_if};
 ghost use Rattle.a32_syntax.specs.Classes.{is_single_transfer, is_exclusive_or_barrier};
-ghost use Rattle.a32_syntax.specs.Shown.{always, load_exclusive_numbers, showing, showing_of, store_exclusive_numbers};
+ghost use Rattle.a32_syntax.specs.Shown.{load_exclusive_numbers, showing, showing_of, store_exclusive_numbers};
 
 use crate::operations::{Mnemonic, Operation};
 use crate::shown_accesses::{access_numbers, half_form, word_form};
@@ -94,13 +94,6 @@ fn of_registers(operation: Operation, set_flags: bool, cond: Cond, registers: &[
         0,
         Numbers::of_registers(registers),
     )
-}
-
-/// The condition of an instruction that is always carried out.
-fn always() -> Cond
-    ensures { result ≡ always }
-{
-    Cond::new(14)
 }
 
 /// Data processing.
@@ -299,9 +292,9 @@ fn synchronization(instruction: &Instr, here: u32) -> Showing
             let numbers = store_exclusive(size, rn, rd, rt);
             in_form(Operation::StoreEx(size), false, cond, 0, numbers)
         }
-        Instr::Clrex => plain(Operation::Clrex, always(), &[]),
+        Instr::Clrex => plain(Operation::Clrex, Cond::ALWAYS, &[]),
         Instr::Barrier { kind, option } => {
-            plain(Operation::Barrier(kind), always(), &[u64::from(option)])
+            plain(Operation::Barrier(kind), Cond::ALWAYS, &[u64::from(option)])
         }
         _ => unreachable!(),
     }

@@ -3,7 +3,8 @@ use Rattle.std.proofs.Common.{◌≡◌, ℕ, ◌+◌, ◌*◌, List, [], ◌∷
 use Rattle.llsc_base.specs.Memory.{bytes_of}
 use Rattle.elf32.specs.declared.units.Unit.{Unit}
 use Rattle.elf32.specs.declared.headers.ProgramHeader.{ProgramHeader}
-use Rattle.elf32.specs.Units.{IsWithin, code_start, code_bytes, data_of, data_size}
+use Rattle.llsc_base.specs.Limits.{code_start}
+use Rattle.elf32.specs.Units.{IsWithin, code_bytes, data_of, data_size}
 use Rattle.elf32.specs.Written.{written_file, code_offset, file_header, code_header, data_header}
 use Rattle.elf32.specs.Headers.{headers_of, headers_from, header_at, entry_field, table_count, table_offset}
 use Rattle.elf32.specs.Faults.{header_fault}

@@ -1,6 +1,7 @@
 -- An assembled program: its limits, where its parts stand in memory, and its image.
 use Rattle.std.specs.Prelude.{ℕ, ◌≤◌, ◌+◌, ◌-◌, ◌*◌, ◌/◌, ◌==◌, ◌&&◌, nat_le, nat_lt, if◌then◌else◌, true, false, List, [], ◌∷◌, length, slice_index}
 use Rattle.std.specs.List.{flat_map}
+use Rattle.llsc_base.specs.Limits.{code_start}
 use Rattle.llsc_base.specs.Memory.{bytes_of}
 use Rattle.llsc_base.specs.Sizes.{Numbers}
 use Rattle.llsc_base.specs.Flat.{values_below}
@@ -19,10 +20,7 @@ pub record IsWithin (unit : Unit) : Type 0 where
   pub code : length unit.words ≤ most_words
   pub bytes : length unit.bytes + unit.space ≤ most_data
 
--- the code begins at 0x1000, and the data at the least multiple of 4096 behind so many words of code
-abbrev pub code_start : ℕ
-code_start = 0x1000
-
+-- the data begins at the least multiple of 4096 behind so many words of code
 abbrev pub data_start : ℕ → ℕ
 data_start words = (code_start + 4 * words + 4095) / 4096 * 4096
 

@@ -5,7 +5,8 @@ use Rattle.std.specs.List.{flat_map}
 use Rattle.llsc_base.specs.Memory.{bytes_of}
 use Rattle.llsc_base.specs.Flat.{elf_magic}
 use Rattle.elf32.specs.declared.units.Unit.{Unit}
-use Rattle.elf32.specs.Units.{code_start, code_bytes, data_of, data_size}
+use Rattle.llsc_base.specs.Limits.{code_start}
+use Rattle.elf32.specs.Units.{code_bytes, data_of, data_size}
 
 -- numbers of 16 and of 32 bits, one after another
 abbrev pub halves : List ℕ → List ℕ

@@ -1,8 +1,9 @@
 ghost use Rattle.std.specs.Prelude.{◌≡◌, ◌+◌, ◌*◌, ◌<◌, ◌≤◌, ◌++◌, [], ◌∷◌, None, length, IfOk, OnOk};
+ghost use Rattle.llsc_base.specs.Limits.{code_start};
 ghost use Rattle.llsc_base.specs.Sizes.{Numbers, room_of};
 ghost use Rattle.elf32.specs.Faults.{first_fault};
 ghost use Rattle.elf32.specs.Image.{image_of};
-ghost use Rattle.elf32.specs.Units.{IsWithin, code_start, data_start, end_of, most_data, most_words, unit_image};
+ghost use Rattle.elf32.specs.Units.{IsWithin, data_start, end_of, most_data, most_words, unit_image};
 ghost use Rattle.elf32.specs.Written.{code_offset, file_header, halves, program_header, words, written_file};
 
 use crate::checks::{ARM, EXECUTABLE, HEADER_SIZE};
@@ -10,10 +11,8 @@ use crate::headers::{LOAD, ProgramHeader};
 use crate::table::ENTRY_SIZE;
 use crate::units::Unit;
 use byteorder::{ByteOrder, LittleEndian};
+use llsc_base::CODE_START;
 use std::alloc::{AllocError, Global};
-
-/// Where the code begins in memory.
-const CODE_START: u32 = 0x1000;
 
 /// Where the code stands in the file: behind the header and the two program headers.
 const CODE_OFFSET: u32 = 116;

@@ -3,7 +3,8 @@ use Rattle.std.proofs.Common.{◌≡◌, ℕ, ◌+◌, ◌-◌, ◌<◌, ◌≤�
 use Rattle.std.proofs.lemmas.List.FromFn.{fill_by_all, get_or-map-range_with_len, length-map-range_with_len}
 use Rattle.std.proofs.lemmas.List.{places, length-append, length-take, length-drop, length-replicate}
 use Rattle.std.proofs.lemmas.Bool.{cases_lt}
-use Rattle.llsc_base.specs.Flat.{flat_byte, flat_fault, flat_start, values_below}
+use Rattle.llsc_base.specs.Limits.{code_start}
+use Rattle.llsc_base.specs.Flat.{flat_byte, flat_fault, values_below}
 use Rattle.llsc_base.specs.Sizes.{Numbers, room_of}
 use Rattle.llsc_base.specs.declared.flat.FlatFault.TheVariants as fault
 
@@ -51,16 +52,16 @@ laid-byte start mem file h k below = elim (cases_lt k start) [
 ]
 
 -- zeros with a file's bytes written over them are the memory of a flat file
-pub flat_memory-is : (file : List ℕ) (mem : ℕ) → flat_start + length file ≤ mem
-    → take flat_start (replicate mem 0) ++ file ++ drop (flat_start + length file) (replicate mem 0) ≡ values_below mem (flat_byte file)
-flat_memory-is file mem h = values_below-is _ mem (flat_byte file) (laid-length flat_start mem file h) (laid-byte flat_start mem file h)
+pub flat_memory-is : (file : List ℕ) (mem : ℕ) → code_start + length file ≤ mem
+    → take code_start (replicate mem 0) ++ file ++ drop (code_start + length file) (replicate mem 0) ≡ values_below mem (flat_byte file)
+flat_memory-is file mem h = values_below-is _ mem (flat_byte file) (laid-length code_start mem file h) (laid-byte code_start mem file h)
 
 -- where no fault stands the file is not empty and ends below the stacks
 none_cases : (elf : Bool) (count room : ℕ)
-    → None ≡ (if elf then Some fault.Elf else if (count == 0) || not (count % 4 == 0) then Some fault.Length else if nat_lt room (flat_start + count) then Some fault.TooLong else None)
-    → (0 < count) × (flat_start + count ≤ room)
+    → None ≡ (if elf then Some fault.Elf else if (count == 0) || not (count % 4 == 0) then Some fault.Length else if nat_lt room (code_start + count) then Some fault.TooLong else None)
+    → (0 < count) × (code_start + count ≤ room)
 none_cases true count room e = absurd (let h : ⊥ = cc in h)
 none_cases false count room e = (grind arith, grind arith)
 
-pub flat_fault-none : (file : List ℕ) (size : Numbers) → None ≡ flat_fault file size → (0 < length file) × (flat_start + length file ≤ room_of size)
+pub flat_fault-none : (file : List ℕ) (size : Numbers) → None ≡ flat_fault file size → (0 < length file) × (code_start + length file ≤ room_of size)
 flat_fault-none file size e = none_cases _ _ _ e

@@ -1,14 +1,11 @@
 -- A flat file: instruction words and nothing else, which stand in memory from 0x1000 up.
 use Rattle.std.specs.Prelude.{ℕ, ◌+◌, ◌-◌, ◌%◌, ◌==◌, ◌&&◌, ◌||◌, nat_le, nat_lt, if◌then◌else◌, true, false, Option, Some, None, List, [], ◌∷◌, length, slice_index, map, not, codes, nat_eq}
 use Rattle.std.specs.List.{range_with_len, starts_with}
+use Rattle.llsc_base.specs.Limits.{code_start}
 use Rattle.llsc_base.specs.Sizes.{Numbers, room_of}
 use Rattle.llsc_base.specs.Images.{Program}
 use Rattle.llsc_base.specs.declared.flat.FlatFault.{FlatFault}
 use Rattle.llsc_base.specs.declared.flat.FlatFault.TheVariants as fault
-
--- where a flat file's bytes begin in memory
-abbrev pub flat_start : ℕ
-flat_start = 0x1000
 
 -- the four bytes with which an ELF file begins (System V gABI, ELF identification)
 abbrev pub elf_magic : List ℕ
@@ -19,13 +16,13 @@ abbrev pub flat_fault : List ℕ → Numbers → Option FlatFault
 flat_fault file size =
     if starts_with nat_eq file elf_magic then Some fault.Elf else
     if (length file == 0) || not (length file % 4 == 0) then Some fault.Length else
-    if nat_lt (room_of size) (flat_start + length file) then Some fault.TooLong else
+    if nat_lt (room_of size) (code_start + length file) then Some fault.TooLong else
     None
 
 -- the byte of memory at an address: the file's from 0x1000 on, and 0 elsewhere
 abbrev pub flat_byte : List ℕ → ℕ → ℕ
 flat_byte file addr =
-    if nat_le flat_start addr && nat_lt addr (flat_start + length file) then slice_index file (addr - flat_start) else 0
+    if nat_le code_start addr && nat_lt addr (code_start + length file) then slice_index file (addr - code_start) else 0
 
 -- a function's values at 0, 1, .. below a number
 unfoldable pub values_below : ℕ → (ℕ → ℕ) → List ℕ
@@ -35,8 +32,8 @@ values_below count f = map f (range_with_len 0 count)
 abbrev pub flat_image : List ℕ → Numbers → Program
 flat_image file size = record {
   bytes = values_below size.mem (flat_byte file);
-  spans = record { start = flat_start; end = flat_start + length file; run = true; write = false } ∷ [];
-  entry = flat_start;
+  spans = record { start = code_start; end = code_start + length file; run = true; write = false } ∷ [];
+  entry = code_start;
 }
 
 -- a fault's name

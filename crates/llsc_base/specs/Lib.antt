@@ -1,3 +1,4 @@
+pub mod Limits
 pub mod Memory
 pub mod Sizes
 pub mod Images

@@ -1,14 +1,13 @@
 ghost use Rattle.std.specs.Prelude.{◌≡◌, ◌⊎◌, ◌+◌, ◌<◌, ◌≤◌, IfErr, IfOk, IfSome, None, Some, length};
-ghost use Rattle.llsc_base.specs.Flat.{flat_byte, flat_fault, flat_fault_name, flat_image, flat_start, values_below};
+ghost use Rattle.llsc_base.specs.Flat.{flat_byte, flat_fault, flat_fault_name, flat_image, values_below};
+ghost use Rattle.llsc_base.specs.Limits.{code_start};
 
 use crate::images::{Image, Span};
+use crate::limits::CODE_START;
 use crate::memory::put;
 use crate::sizes::MachineSize;
 use std::alloc::{AllocError, Global};
 use thiserror::Error;
-
-/// Where a flat file's bytes begin in memory.
-const FLAT_START: u32 = 0x1000;
 
 /// The four bytes with which an ELF file begins (System V gABI, ELF identification).
 const ELF_MAGIC: [u8; 4] = [0x7f, b'E', b'L', b'F'];
@@ -65,15 +64,15 @@ impl Image {
             return Err(FlatFault::Memory);
         };
         let span = Span {
-            start: FLAT_START,
-            end: FLAT_START + bytes.len() as u32,
+            start: CODE_START,
+            end: CODE_START + bytes.len() as u32,
             run: true,
             write: false,
         };
         let Ok(spans) = vec![in alloc; span] else {
             return Err(FlatFault::Memory);
         };
-        Ok(Image::of(memory, spans, FLAT_START))
+        Ok(Image::of(memory, spans, CODE_START))
     }
 }
 
@@ -87,7 +86,7 @@ fn flat_fault(bytes: &[u8], size: &MachineSize) -> Option<FlatFault>
     if bytes.len() == 0 || bytes.len() % 4 != 0 {
         return Some(FlatFault::Length);
     }
-    if FLAT_START as usize + bytes.len() > size.room() as usize {
+    if CODE_START as usize + bytes.len() > size.room() as usize {
         return Some(FlatFault::TooLong);
     }
     None
@@ -95,11 +94,11 @@ fn flat_fault(bytes: &[u8], size: &MachineSize) -> Option<FlatFault>
 
 /// All of memory, with the file's bytes in it and 0 elsewhere.
 fn flat_memory(alloc: Global, file: &[u8], mem: u32) -> Result<Vec<u8>, AllocError>
-    requires { flat_start + length file.now ≤ mem }
+    requires { code_start + length file.now ≤ mem }
     ensures { IfOk result (λ memory. memory.items ≡ values_below mem (flat_byte file.now)) }
 {
     let mut memory = vec![in alloc; 0; mem as usize]?;
-    put(&mut memory, FLAT_START as usize, file);
+    put(&mut memory, CODE_START as usize, file);
     Ok(memory)
 }
 

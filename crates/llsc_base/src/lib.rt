@@ -9,6 +9,7 @@
 mod access;
 mod flat;
 mod images;
+mod limits;
 mod lines;
 mod memory;
 mod sizes;
@@ -16,6 +17,7 @@ mod sizes;
 pub use access::{Bar, BarredWord, Place, Size};
 pub use flat::FlatFault;
 pub use images::{Image, Span};
+pub use limits::{CODE_START, MOST_STEPS};
 pub use lines::Line;
 pub use memory::load;
 pub use sizes::{MachineSize, SizeFault};

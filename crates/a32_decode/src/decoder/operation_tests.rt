@@ -62,7 +62,7 @@ fn movw(rd: u8, imm: u16) -> Result<Instr, DecodeFault>
     requires { rd < 16 }
 {
     Ok(Instr::Movw {
-        cond: Cond::new(14),
+        cond: Cond::ALWAYS,
         rd: r(rd),
         imm,
     })
@@ -72,7 +72,7 @@ fn movt(rd: u8, imm: u16) -> Result<Instr, DecodeFault>
     requires { rd < 16 }
 {
     Ok(Instr::Movt {
-        cond: Cond::new(14),
+        cond: Cond::ALWAYS,
         rd: r(rd),
         imm,
     })
@@ -80,7 +80,7 @@ fn movt(rd: u8, imm: u16) -> Result<Instr, DecodeFault>
 
 fn mul(s: bool) -> Result<Instr, DecodeFault> {
     Ok(Instr::Mul {
-        cond: Cond::new(14),
+        cond: Cond::ALWAYS,
         s,
         rd: r(1),
         rn: r(2),
@@ -90,7 +90,7 @@ fn mul(s: bool) -> Result<Instr, DecodeFault> {
 
 fn mla(s: bool) -> Result<Instr, DecodeFault> {
     Ok(Instr::Mla {
-        cond: Cond::new(14),
+        cond: Cond::ALWAYS,
         s,
         rd: r(1),
         rn: r(2),
@@ -118,7 +118,7 @@ fn extend(unsigned: bool, half: bool, rd: u8, rm: u8, turn: u8) -> Result<Instr,
     requires rm { rm < 16 }
 {
     Ok(Instr::Extend {
-        cond: Cond::new(14),
+        cond: Cond::ALWAYS,
         unsigned,
         half,
         rd: r(rd),
@@ -229,12 +229,7 @@ fn decodes_wide_moves_and_hints(rt: HostRuntime) {
         (0xE3405019, movt(5, 25)),
         (0xE341E234, movt(14, 0x1234)),
         // nop; yieldeq
-        (
-            0xE320F000,
-            Ok(Instr::Nop {
-                cond: Cond::new(14),
-            }),
-        ),
+        (0xE320F000, Ok(Instr::Nop { cond: Cond::ALWAYS })),
         (0x0320F001, Ok(Instr::Yield { cond: Cond::new(0) })),
     ];
     for (word, want) in words {
@@ -253,7 +248,7 @@ fn decodes_products_of_32_bits(rt: HostRuntime) {
         (
             0xE0614392,
             Ok(Instr::Mls {
-                cond: Cond::new(14),
+                cond: Cond::ALWAYS,
                 rd: r(1),
                 rn: r(2),
                 rm: r(3),
@@ -282,7 +277,7 @@ fn decodes_products_of_64_bits(rt: HostRuntime) {
 
 #[test]
 fn decodes_counts_reversals_and_extends(rt: HostRuntime) {
-    let cond = Cond::new(14);
+    let cond = Cond::ALWAYS;
     let (rd, rm) = (r(0), r(1));
     let words = [
         // clz r0, r1; rev r0, r1; sxtb r0, r1; sxth r2, r3, ror #16; uxtb r0, r1, ror #8; uxth r14, r12, ror #24

@@ -12,7 +12,7 @@ fn alu(op: AluOp, s: bool, rd: u8, rn: u8, turn: u8, imm8: u8) -> Result<Instr, 
 {
     let operand = Operand2::Imm { turn, imm8 };
     Ok(Instr::Alu {
-        cond: Cond::new(14),
+        cond: Cond::ALWAYS,
         op,
         s,
         rd: Reg::new(rd),
@@ -42,7 +42,7 @@ fn access(
     requires rn { rn < 16 }
 {
     Ok(Instr::Word {
-        cond: Cond::new(14),
+        cond: Cond::ALWAYS,
         load,
         byte,
         index,
@@ -65,7 +65,7 @@ fn scaled(amount: u8) -> Offset {
 /// A load-exclusive of r0 at r1.
 fn load_ex(size: Size) -> Result<Instr, DecodeFault> {
     Ok(Instr::LoadEx {
-        cond: Cond::new(14),
+        cond: Cond::ALWAYS,
         size,
         rn: Reg::new(1),
         rt: Reg::new(0),
@@ -75,7 +75,7 @@ fn load_ex(size: Size) -> Result<Instr, DecodeFault> {
 /// A store-exclusive of r2 at r1, with its status in r0.
 fn store_ex(size: Size) -> Result<Instr, DecodeFault> {
     Ok(Instr::StoreEx {
-        cond: Cond::new(14),
+        cond: Cond::ALWAYS,
         size,
         rn: Reg::new(1),
         rd: Reg::new(0),
@@ -95,7 +95,7 @@ fn branch(cond: u8, words: i32) -> Result<Instr, DecodeFault>
 
 fn svc(imm: u32) -> Result<Instr, DecodeFault> {
     Ok(Instr::Svc {
-        cond: Cond::new(14),
+        cond: Cond::ALWAYS,
         imm,
     })
 }

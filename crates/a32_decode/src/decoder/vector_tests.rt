@@ -7,8 +7,6 @@ use a32_instr::ShiftKind::{Lsl, Lsr};
 use a32_instr::{AluOp, BarrierKind, Cond, HalfKind, Index, Offset, Operand2, Reg, ShiftKind};
 use llsc_base::Size;
 
-const ALWAYS: u8 = 14;
-
 fn r(num: u8) -> Reg
     requires { num < 16 }
 {
@@ -17,7 +15,7 @@ fn r(num: u8) -> Reg
 
 fn operation(op: AluOp, s: bool, rd: Reg, rn: Reg, operand: Operand2) -> Instr {
     Instr::Alu {
-        cond: Cond::new(ALWAYS),
+        cond: Cond::ALWAYS,
         op,
         s,
         rd,
@@ -36,7 +34,7 @@ fn shifted(op: AluOp, rd: Reg, rn: Reg, rm: Reg, kind: ShiftKind, amount: u8) ->
 
 fn movw(rd: Reg, imm: u16) -> Instr {
     Instr::Movw {
-        cond: Cond::new(ALWAYS),
+        cond: Cond::ALWAYS,
         rd,
         imm,
     }
@@ -44,7 +42,7 @@ fn movw(rd: Reg, imm: u16) -> Instr {
 
 fn movt(rd: Reg, imm: u16) -> Instr {
     Instr::Movt {
-        cond: Cond::new(ALWAYS),
+        cond: Cond::ALWAYS,
         rd,
         imm,
     }
@@ -52,7 +50,7 @@ fn movt(rd: Reg, imm: u16) -> Instr {
 
 fn mla(rd: Reg, rn: Reg, rm: Reg, ra: Reg) -> Instr {
     Instr::Mla {
-        cond: Cond::new(ALWAYS),
+        cond: Cond::ALWAYS,
         s: false,
         rd,
         rn,
@@ -63,7 +61,7 @@ fn mla(rd: Reg, rn: Reg, rm: Reg, ra: Reg) -> Instr {
 
 fn clz(rd: Reg, rm: Reg) -> Instr {
     Instr::Clz {
-        cond: Cond::new(ALWAYS),
+        cond: Cond::ALWAYS,
         rd,
         rm,
     }
@@ -71,7 +69,7 @@ fn clz(rd: Reg, rm: Reg) -> Instr {
 
 fn rev(rd: Reg, rm: Reg) -> Instr {
     Instr::Rev {
-        cond: Cond::new(ALWAYS),
+        cond: Cond::ALWAYS,
         rd,
         rm,
     }
@@ -79,7 +77,7 @@ fn rev(rd: Reg, rm: Reg) -> Instr {
 
 fn uxtb(rd: Reg, rm: Reg, turn: u8) -> Instr {
     Instr::Extend {
-        cond: Cond::new(ALWAYS),
+        cond: Cond::ALWAYS,
         unsigned: true,
         half: false,
         rd,
@@ -91,7 +89,7 @@ fn uxtb(rd: Reg, rm: Reg, turn: u8) -> Instr {
 /// A load or a store with a shifted register added.
 fn word(load: bool, rt: Reg, rn: Reg, rm: Reg, amount: u8) -> Instr {
     Instr::Word {
-        cond: Cond::new(ALWAYS),
+        cond: Cond::ALWAYS,
         load,
         byte: false,
         index: Index::Plain,
@@ -108,7 +106,7 @@ fn word(load: bool, rt: Reg, rn: Reg, rm: Reg, amount: u8) -> Instr {
 
 fn ldrh(rt: Reg, rn: Reg, imm: u16) -> Instr {
     Instr::Half {
-        cond: Cond::new(ALWAYS),
+        cond: Cond::ALWAYS,
         kind: HalfKind::Ldrh,
         index: Index::Plain,
         rn,
@@ -120,7 +118,7 @@ fn ldrh(rt: Reg, rn: Reg, imm: u16) -> Instr {
 /// A block from the base's address up.
 fn block(load: bool, wback: bool, rn: Reg, list: u16) -> Instr {
     Instr::Block {
-        cond: Cond::new(ALWAYS),
+        cond: Cond::ALWAYS,
         load,
         before: false,
         up: true,
@@ -140,7 +138,7 @@ fn bne(words: i32) -> Instr {
 
 fn bx(rm: Reg) -> Instr {
     Instr::BranchReg {
-        cond: Cond::new(ALWAYS),
+        cond: Cond::ALWAYS,
         link: false,
         rm,
     }
@@ -148,7 +146,7 @@ fn bx(rm: Reg) -> Instr {
 
 fn ldrex(rt: Reg, rn: Reg) -> Instr {
     Instr::LoadEx {
-        cond: Cond::new(ALWAYS),
+        cond: Cond::ALWAYS,
         size: Size::B4,
         rn,
         rt,
@@ -157,7 +155,7 @@ fn ldrex(rt: Reg, rn: Reg) -> Instr {
 
 fn strex(rd: Reg, rt: Reg, rn: Reg) -> Instr {
     Instr::StoreEx {
-        cond: Cond::new(ALWAYS),
+        cond: Cond::ALWAYS,
         size: Size::B4,
         rn,
         rd,

@@ -33,10 +33,6 @@ fn gives_back_words_of_each_class(rt: HostRuntime) {
 
 const NONE: Result<u32, EncodeFault> = Err(EncodeFault::NoEncoding);
 
-fn always() -> Cond {
-    Cond::new(14)
-}
-
 fn r(num: u8) -> Reg
     requires { num < 16 }
 {
@@ -48,7 +44,7 @@ fn operation(op: AluOp, s: bool, rd: u8, rn: u8, operand: Operand2) -> Instr
     requires rn { rn < 16 }
 {
     Instr::Alu {
-        cond: always(),
+        cond: Cond::ALWAYS,
         op,
         s,
         rd: r(rd),
@@ -61,7 +57,7 @@ fn ldrh(rt: u8, offset: Offset) -> Instr
     requires { rt < 16 }
 {
     Instr::Half {
-        cond: always(),
+        cond: Cond::ALWAYS,
         kind: HalfKind::Ldrh,
         index: Index::Plain,
         rn: r(1),
@@ -77,7 +73,7 @@ fn one() -> Operand2 {
 
 fn branch(words: i32) -> Instr {
     Instr::Branch {
-        cond: always(),
+        cond: Cond::ALWAYS,
         link: false,
         words,
     }
@@ -125,12 +121,12 @@ fn gives_no_word_where_there_is_none(rt: HostRuntime) {
     assert_eq!(rt; encode(&ldrh(0, offset)), NONE);
     assert_eq!(rt; encode(&ldrh(15, Offset::Imm { add: true, imm: 0 })), NONE);
     let call = Instr::Svc {
-        cond: always(),
+        cond: Cond::ALWAYS,
         imm: 0x100_0000,
     };
     assert_eq!(rt; encode(&call), NONE);
     let largest = Instr::Svc {
-        cond: always(),
+        cond: Cond::ALWAYS,
         imm: 0xffff_ffff,
     };
     assert_eq!(rt; encode(&largest), NONE);

@@ -5,12 +5,6 @@ ghost use Rattle.std.specs.Prelude.{◌≡◌, ◌<◌};
 use super::*;
 use a32_instr::{AluOp, Index, Offset, Operand2, Reg, ShiftKind};
 
-fn always() -> Cond
-    ensures { result ≡ 14 }
-{
-    Cond::new(14)
-}
-
 fn r(num: u8) -> Reg
     requires { num < 16 }
     ensures { result ≡ num }
@@ -24,7 +18,7 @@ fn r(num: u8) -> Reg
 fn writes_an_immediate(rt: HostRuntime) {
     let mut line = Line::new();
     let least = Instr::Alu {
-        cond: always(),
+        cond: Cond::ALWAYS,
         op: AluOp::Mov,
         s: true,
         rd: r(1),
@@ -62,7 +56,7 @@ fn writes_a_block_of_all_registers(rt: HostRuntime) {
 fn writes_a_moved_base(rt: HostRuntime) {
     let mut line = Line::new();
     let store = Instr::Word {
-        cond: always(),
+        cond: Cond::ALWAYS,
         load: false,
         byte: false,
         index: Index::Pre,
@@ -85,7 +79,7 @@ fn writes_a_moved_base(rt: HostRuntime) {
 fn writes_a_target(rt: HostRuntime) {
     let mut line = Line::new();
     let branch = Instr::Branch {
-        cond: always(),
+        cond: Cond::ALWAYS,
         link: true,
         words: -4,
     };
