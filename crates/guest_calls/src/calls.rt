@@ -8,20 +8,25 @@ ghost use Rattle.guest_calls.specs.Steps.{step_of, after_call, HaveRoom};
 use crate::output::Output;
 use a32_step::{CallAsk, Cpu};
 
-/// The number of a call, in r7.
+/// The number of exit, in r7.
 const EXIT: u32 = 1;
 
+/// The number of write.
 const WRITE: u32 = 4;
 
+/// The number of sched_yield.
 const SCHED_YIELD: u32 = 158;
 
-/// Errors as answers: minus 38, minus 9, minus 14 and minus 28.
+/// The answer where there is no such call: minus 38, ENOSYS.
 const NO_CALL: u32 = 0xffff_ffda;
 
+/// The answer where there is no such descriptor: minus 9, EBADF.
 const BAD_DESCRIPTOR: u32 = 0xffff_fff7;
 
+/// The answer where the bytes reach past memory: minus 14, EFAULT.
 const BAD_ADDRESS: u32 = 0xffff_fff2;
 
+/// The answer where the output has no room for the bytes: minus 28, ENOSPC.
 const NO_ROOM: u32 = 0xffff_ffe4;
 
 /// What becomes of a guest call.

@@ -5,7 +5,6 @@ use Rattle.std.proofs.lemmas.List.{drop_more, length_push, get_or_push, get_or-t
 use Rattle.llsc_base.specs.Images.{Program}
 use Rattle.llsc_base.specs.Sizes.{Numbers}
 use Rattle.history.specs.Monitor.{Monitor}
-use Rattle.history.specs.Parts.{entries_of}
 use Rattle.history.specs.declared.entry.Access.{Access}
 use Rattle.a32_instr.specs.declared.outside.Stop.{Stop}
 use Rattle.a32_step.specs.Machine.{Machine}

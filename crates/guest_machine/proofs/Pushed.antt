@@ -1,18 +1,15 @@
 -- Accesses with one more.
 use Rattle.std.proofs.Common.{◌≡◌, ◌≢◌, ℕ, Bool, true, false, if◌then◌else◌, List, [], ◌∷◌, ◌++◌, refl, sym, ◌∙◌, ap, subst}
-use Rattle.llsc_base.specs.Images.{Program}
-use Rattle.llsc_base.specs.Sizes.{Numbers}
 use Rattle.llsc_base.specs.Memory.{row_of}
-use Rattle.history.specs.Monitor.{Monitor, accessed, at_rest, is_on, marked_row, monitor_after}
+use Rattle.history.specs.Monitor.{Monitor, is_on, marked_row}
 use Rattle.history.specs.declared.entry.Access.{Access}
 use Rattle.history.specs.declared.entry.Deed.TheVariants as deed
 use Rattle.history.specs.declared.entry.Entry.{Entry}
-use Rattle.history.proofs.Appends.{monitor_after-push}
 use Rattle.a32_instr.specs.declared.outside.Ask.{Ask}
 use Rattle.a32_instr.specs.declared.outside.Ask.TheVariants.{Load, LoadEx, Store, StoreEx, Clear}
 use Rattle.guest_calls.specs.Pairs.{pair_of, pairs_of, pairs_in, reply_of}
 use Rattle.history.specs.Accesses.{history_of, entry_of, entry_by}
-use Rattle.guest_thread.specs.Accesses.{access_by, monitor_of}
+use Rattle.guest_thread.specs.Accesses.{access_by}
 use Rattle.guest_thread.proofs.Pushed.{history_push, own_entry_push, other_push as another_push}
 
 -- whose an access is

@@ -2,16 +2,15 @@
 use Rattle.std.proofs.Common.{◌≡◌, ℕ, List, [], ◌∷◌, ◌++◌, Some, refl, sym, ◌∙◌, ap, subst}
 use Rattle.llsc_base.specs.Images.{Program}
 use Rattle.llsc_base.specs.Sizes.{Numbers}
-use Rattle.history.specs.Accesses.{entry_of}
 use Rattle.history.specs.Monitor.{Monitor, accessed, at_rest}
 use Rattle.history.specs.declared.entry.Access.{Access}
 use Rattle.a32_instr.specs.declared.outside.Ask.{Ask}
 use Rattle.guest_calls.proofs.Decided.{AreDecided}
 use Rattle.guest_calls.specs.Pairs.{pairs_in, reply_of}
-use Rattle.guest_calls.specs.Run.{Pair, Asks}
+use Rattle.guest_calls.specs.Run.{Pair}
 use Rattle.guest_thread.specs.Accesses.{access_by, monitor_of}
 use Rattle.guest_thread.proofs.Pushed.{monitor_push}
-use Rattle.guest_machine.specs.Turns.{drawn, turn_of, Takes, begins, makes, stops, IsTrace}
+use Rattle.guest_machine.specs.Turns.{drawn, Takes, begins, makes, stops, IsTrace}
 use Rattle.guest_machine.proofs.Deciding.{made, reply_to, served, by_memory, AreServed, served_decides}
 use Rattle.guest_machine.proofs.OneThread.{same_turn, from_any}
 use Rattle.guest_machine.proofs.Pushed.{own_push}

@@ -1,5 +1,6 @@
 //! A run of one thread.
 ghost use Rattle.std.specs.Prelude.{◌≡◌, ◌<◌, ◌≤◌, ℕ, List, IfNone, IfOk, MatchOption, length};
+ghost use Rattle.llsc_base.specs.Limits.{most_budget};
 ghost use Rattle.a32_step.specs.Machine.{Machine};
 ghost use Rattle.guest_thread.specs.Progress.{progress_of};
 ghost use Rattle.guest_machine.specs.Alone.{IsSoloEnd};
@@ -27,7 +28,7 @@ impl Alone {
     fn turn(&mut self, image: &Image, budget: u64) -> Option<Stop>
         requires working { IsWorking image.now budget self.old }
         requires small { length image.now.bytes ≤ 16777216 }
-        requires budget { budget ≤ 1000000000000 }
+        requires budget { budget ≤ most_budget }
         ensures goes_on { IfNone result (IsWorking image.now budget self.new) }
         ensures later { IfNone result (progress_of self.old.guest < progress_of self.new.guest) }
         ensures under_way { (start : Machine) (bytes : List ℕ) → IsUnderWay image.now budget start bytes self.old
@@ -48,7 +49,7 @@ impl Alone {
     fn run(&mut self, image: &Image, budget: u64) -> Stop
         requires working { IsWorking image.now budget self.old }
         requires small { length image.now.bytes ≤ 16777216 }
-        requires budget { budget ≤ 1000000000000 }
+        requires budget { budget ≤ most_budget }
         ensures { (start : Machine) (bytes : List ℕ) → IsUnderWay image.now budget start bytes self.old
             → IsOver image.now budget start bytes result self.new }
     {
@@ -76,7 +77,7 @@ pub fn solo(
 ) -> Result<GuestEnd, AllocError>
     requires one_thread { size.now.threads ≡ 1 }
     requires whole { length image.now.bytes ≡ size.now.mem }
-    requires budget { budget ≤ 1000000000000 }
+    requires budget { budget ≤ most_budget }
     ensures { IfOk result (λ end. IsSoloEnd image.now size.now budget end) }
 {
     let mem = size.mem();

@@ -1,6 +1,7 @@
 //! A trace: the run of all threads in the order that a number fixes.
 ghost use Rattle.std.specs.Prelude.{◌≡◌, ◌⊎◌, ◌<◌, ◌≤◌, IfErr, IfOk, length};
 ghost use Rattle.guest_machine.specs.Traces.{IsLegalTrace, IsTraceRecord, trace_fault_name};
+ghost use Rattle.llsc_base.specs.Limits.{most_budget};
 ghost use Rattle.history.specs.Accesses.{history_of};
 ghost use Rattle.guest_thread.specs.Ends.{AreEnds};
 ghost use Rattle.guest_machine.specs.Turns.{IsTooLong};
@@ -63,7 +64,7 @@ pub fn trace(
 ) -> Result<Traced, TraceFault>
     requires whole { length image.now.bytes ≡ size.now.mem }
     requires some { 1 ≤ budget }
-    requires budget { budget ≤ 1000000000000 }
+    requires budget { budget ≤ most_budget }
     ensures run { IfOk result (λ traced. IsTraceRecord image.now size.now seed budget traced.run) }
     ensures ends { IfOk result (λ traced. AreEnds image.now size.now budget (history_of traced.run.accesses) traced.ends.items) }
     ensures legal { IfOk result (λ traced. IsLegalTrace image.now size.now traced.run.accesses) }

@@ -1,6 +1,7 @@
 //! Threads that take turns on one memory.
 ghost use Rattle.std.specs.Prelude.{◌≡◌, ◌⊎◌, ◌<◌, ◌≤◌, [], IfErr, IfOk, length};
 ghost use Rattle.guest_machine.specs.Seats.{AreUnderWay, left_of};
+ghost use Rattle.llsc_base.specs.Limits.{most_budget};
 ghost use Rattle.guest_thread.specs.Ends.{AreEnds};
 ghost use Rattle.guest_machine.specs.Turns.{IsTooLong};
 
@@ -12,10 +13,8 @@ use guest_calls::reply_of;
 use guest_thread::Turn;
 use history::{Access, PlainMemory};
 use llsc_base::{Image, MachineSize};
+use run_record::MOST_ACCESSES;
 use std::alloc::{AllocError, Global};
-
-/// The most accesses that a record may have.
-const MOST: usize = 1_000_000;
 
 /// What is traced: the program, the machine, the number that the turns begin with, and each thread's steps.
 #[derive(Clone, Copy)]
@@ -60,7 +59,7 @@ impl Turns {
         requires under_way { AreUnderWay plan.now.image.now plan.now.size.now plan.now.seed plan.now.budget self.old }
         requires some { 1 ≤ length self.old.live.items }
         requires small { length plan.now.image.now.bytes ≤ 16777216 }
-        requires budget { plan.now.budget ≤ 1000000000000 }
+        requires budget { plan.now.budget ≤ most_budget }
         ensures goes_on { IfOk result (λ _. AreUnderWay plan.now.image.now plan.now.size.now plan.now.seed plan.now.budget self.new) }
         ensures nearer { IfOk result (λ _. left_of self.new < left_of self.old) }
         ensures fault { IfErr result (λ fault. ((fault ≡ TraceFault.TooLong) × IsTooLong plan.now.image.now plan.now.size.now plan.now.seed plan.now.budget)
@@ -71,7 +70,7 @@ impl Turns {
         let seat = &mut self.seats[t as usize];
         match seat.guest.next(plan.image, plan.budget) {
             Turn::Asks(ask) => {
-                if self.accesses.len() == MOST {
+                if self.accesses.len() == MOST_ACCESSES {
                     return Err(TraceFault::TooLong);
                 }
                 let access = serve(&mut self.memory, t, ask);
@@ -93,7 +92,7 @@ impl Turns {
     pub(crate) fn run(&mut self, plan: &Plan) -> Result<(), TraceFault>
         requires under_way { AreUnderWay plan.now.image.now plan.now.size.now plan.now.seed plan.now.budget self.old }
         requires small { length plan.now.image.now.bytes ≤ 16777216 }
-        requires budget { plan.now.budget ≤ 1000000000000 }
+        requires budget { plan.now.budget ≤ most_budget }
         ensures over { IfOk result (λ _. AreUnderWay plan.now.image.now plan.now.size.now plan.now.seed plan.now.budget self.new × (self.new.live.items ≡ [])) }
         ensures fault { IfErr result (λ fault. ((fault ≡ TraceFault.TooLong) × IsTooLong plan.now.image.now plan.now.size.now plan.now.seed plan.now.budget)
             ⊎ (fault ≡ TraceFault.Memory)) }

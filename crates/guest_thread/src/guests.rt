@@ -1,5 +1,6 @@
 //! A thread's turns.
 ghost use Rattle.std.specs.Prelude.{◌≡◌, ◌≤◌, ◌<◌, ◌+◌, ◌^◌, ℕ, List, [], None, ◌∷◌, ◌++◌, length, IfNone, IfOk, IfSome, MatchOption};
+ghost use Rattle.llsc_base.specs.Limits.{most_budget};
 ghost use Rattle.llsc_base.specs.Images.{Program};
 ghost use Rattle.a32_instr.specs.declared.outside.Ask.{Ask};
 ghost use Rattle.a32_step.specs.Machine.{Machine, IsReady, IsCalling};
@@ -113,7 +114,7 @@ impl Guest {
     pub fn next(&mut self, image: &Image, budget: u64) -> Turn
         requires ready { IsReadyIn (length image.now.bytes) budget self.old }
         requires small { length image.now.bytes < 2 ^ 32 }
-        requires budget { budget ≤ 1000000000000 }
+        requires budget { budget ≤ most_budget }
         ensures comes { (start : Machine) (pairs : List Pair) → HasCome image.now budget start pairs self.old
             → ComesTo image.now budget start pairs result self.new }
         ensures pending { IsPendingAfter (length image.now.bytes) budget result self.new }
@@ -136,7 +137,7 @@ impl Guest {
     #[tactic(auto, using(crate::proofs::Kept::calling_keeps, crate::proofs::Kept::stopping_keeps))]
     fn turn(&mut self, image: &Image) -> Option<Turn>
         requires at_turn { IsAtTurn self.old }
-        requires few { self.old.steps < 1000000000000 }
+        requires few { self.old.steps < most_budget }
         requires small { length image.now.bytes < 2 ^ 32 }
         ensures goes_on { IfNone result (IsOneStepOn self.old self.new) }
         ensures comes { (budget : ℕ) (start : Machine) (pairs : List Pair) → HasCome image.now budget start pairs self.old → self.old.steps < budget
@@ -159,7 +160,7 @@ impl Guest {
     /// A guest call is made. `None` where it was answered; a write asks for its first byte.
     fn call(&mut self, image: &Image, call: CallAsk) -> Option<Turn>
         requires calling { IsCalling self.old.cpu.phase }
-        requires few { self.old.steps < 1000000000000 }
+        requires few { self.old.steps < most_budget }
         requires small { length image.now.bytes < 2 ^ 32 }
         ensures made { AfterCall (length image.now.bytes) (effect_of_call image.now call (length self.old.output)) self.old result self.new }
         ensures at_most { self.new.steps ≤ self.old.steps + 1 }

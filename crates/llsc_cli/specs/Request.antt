@@ -2,7 +2,7 @@
 use Rattle.std.specs.Prelude.{ℕ, ◌≤◌, Bool, ◌&&◌, nat_le, List, [], ◌∷◌, Option, Some, None, if◌then◌else◌, codes}
 use Rattle.std.specs.Option.{option_and_then, unwrap_or}
 use Rattle.std.specs.Str.{bytes_eq}
-use Rattle.run_record.specs.Limits.{most_budget}
+use Rattle.llsc_base.specs.Limits.{most_budget}
 use Rattle.llsc_cli.specs.declared.formats.Format.{Format}
 use Rattle.llsc_cli.specs.declared.words.Request.{Request as Call}
 use Rattle.llsc_cli.specs.declared.words.Request.TheVariants as call

@@ -1,6 +1,7 @@
 //! The threads and the memory of a run that is checked.
 ghost use Rattle.std.specs.Prelude.{◌≡◌, ◌≤◌, ◌<◌, ◌∷◌, ◌++◌, [], ℕ, List, IfNone, IfOk, IfSome, length};
 ghost use Rattle.std.specs.Bool.{OnFalse, OnTrue};
+ghost use Rattle.llsc_base.specs.Limits.{most_budget};
 ghost use Rattle.llsc_base.specs.Sizes.{Numbers};
 ghost use Rattle.history.specs.Monitor.{IsAsLarge};
 ghost use Rattle.guest_thread.specs.ThreadState.{IsReadyIn};
@@ -46,7 +47,7 @@ impl Checker {
     /// Makes an access as it is recorded, or says why it is wrong.
     pub fn step(&mut self, image: &Image, budget: u64, access: Access) -> Option<Reason>
         requires ready { MayGoOn (length image.now.bytes) budget self.old }
-        requires budget { budget ≤ 1000000000000 }
+        requires budget { budget ≤ most_budget }
         requires access { IsAccess (length self.old.memory.marks) access }
         ensures wrong { IfSome result (λ why. (size : Numbers) (early : List Access) → AreBrought image.now size budget early self.old
             → IsWrong image.now size budget early access why) }
@@ -62,7 +63,7 @@ impl Checker {
     /// Whether some thread still asks for an access.
     pub fn asks(&mut self, image: &Image, budget: u64) -> bool
         requires ready { MayGoOn (length image.now.bytes) budget self.old }
-        requires budget { budget ≤ 1000000000000 }
+        requires budget { budget ≤ most_budget }
         ensures asks { OnTrue result ((size : Numbers) (early : List Access) → AreBrought image.now size budget early self.old
             → SomeAsks image.now size budget early (length self.old.guests.items)) }
         ensures stopped { OnFalse result ((size : Numbers) (early : List Access) → AreBrought image.now size budget early self.old
@@ -87,7 +88,7 @@ fn make(
 ) -> Option<Reason>
     requires ready { IsReadyIn (length image.now.bytes) budget guest.old }
     requires small { length image.now.bytes ≤ 16777216 }
-    requires budget { budget ≤ 1000000000000 }
+    requires budget { budget ≤ most_budget }
     requires bytes { length memory.old.memory ≡ length image.now.bytes }
     requires access { IsAccess (length memory.old.marks) access }
     ensures wrong { IfSome result (λ why. (size : Numbers) (early : List Access) → IsBrought image.now size budget early access.thread guest.old

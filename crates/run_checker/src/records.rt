@@ -1,7 +1,8 @@
 //! The verdict on a record.
 ghost use Rattle.std.specs.Prelude.{◌≡◌, ◌≤◌, [], All, IfOk, ℕ, length};
+ghost use Rattle.llsc_base.specs.Limits.{most_budget};
 ghost use Rattle.llsc_base.specs.Sizes.{Numbers};
-ghost use Rattle.run_record.specs.Limits.{IsAccess, IsRecord};
+ghost use Rattle.run_record.specs.Limits.{IsAccess, IsRecord, most_accesses};
 ghost use Rattle.run_checker.specs.Verdict.{Judges};
 ghost use Rattle.run_checker.specs.Positions.{AreBrought, MayGoOn};
 
@@ -39,8 +40,8 @@ pub fn check_record(
 /// The verdict on accesses, by threads and memory at their start.
 fn verdict_of(mut checker: Checker, image: &Image, budget: u64, accesses: &[Access]) -> Verdict
     requires ready { MayGoOn (length image.now.bytes) budget checker }
-    requires budget { budget ≤ 1000000000000 }
-    requires few { length accesses.now ≤ 1000000 }
+    requires budget { budget ≤ most_budget }
+    requires few { length accesses.now ≤ most_accesses }
     requires accesses { All (IsAccess (length checker.memory.marks)) accesses.now }
     ensures { (size : Numbers) → size.threads ≡ length checker.guests.items → AreBrought image.now size budget [] checker
         → Judges image.now size budget accesses.now result }

@@ -8,7 +8,8 @@ use Rattle.number_text.proofs.PlainTexts.{plain_text, text_plain}
 use Rattle.run_record.specs.declared.headers.Header.{Header}
 use Rattle.run_record.specs.Fault.{HasHeader}
 use Rattle.run_record.specs.Fields.{Read, ◌>>=◌, after, field}
-use Rattle.run_record.specs.Limits.{IsRun, most_threads, most_budget}
+use Rattle.llsc_base.specs.Limits.{most_budget}
+use Rattle.run_record.specs.Limits.{IsRun, most_threads}
 use Rattle.run_record.specs.Reading.{header_numbers, header_of, is_run, labelled}
 use Rattle.run_record.specs.Text.{header_text}
 use Rattle.run_record.proofs.Options.{bind_goes, bind_some, if_only, some_same}

@@ -1,5 +1,6 @@
 -- What a record may hold: limits of this project's own.
 use Rattle.std.specs.Prelude.{◌≡◌, ℕ, ◌^◌, ◌<◌, ◌≤◌, IsTrue, All, length}
+use Rattle.llsc_base.specs.Limits.{most_budget}
 use Rattle.llsc_base.specs.Memory.{is_aligned, size_bytes}
 use Rattle.history.specs.Accesses.{nowhere}
 use Rattle.history.specs.declared.entry.Access.{Access}
@@ -9,10 +10,6 @@ use Rattle.run_record.specs.declared.records.RunRecord.{RunRecord}
 -- the most threads
 abbrev pub most_threads : ℕ
 most_threads = 16
-
--- the most instructions of a thread
-abbrev pub most_budget : ℕ
-most_budget = 1000000000000
 
 -- the most accesses
 abbrev pub most_accesses : ℕ

@@ -14,7 +14,8 @@ use Rattle.run_record.specs.declared.faults.RecordFault.TheVariants as fault
 use Rattle.run_record.specs.declared.headers.Header.{Header}
 use Rattle.run_record.specs.declared.records.RunRecord.{RunRecord}
 use Rattle.run_record.specs.Fields.{Read, ◌>>=◌, after, field}
-use Rattle.run_record.specs.Limits.{most_threads, most_budget, most_accesses}
+use Rattle.llsc_base.specs.Limits.{most_budget}
+use Rattle.run_record.specs.Limits.{most_threads, most_accesses}
 use Rattle.history.specs.Accesses.{nowhere}
 
 -- the deed of a word

@@ -4,6 +4,7 @@ ghost use Rattle.run_record.specs.Reading.{header_numbers, header_of, is_run, la
 ghost use Rattle.run_record.specs.Seen.{read_seen};
 
 use crate::fields::{after, number_field};
+use llsc_base::MOST_STEPS;
 
 /// The numbers of a header line: threads, the budget of each, and accesses.
 #[derive(Clone, Copy)]
@@ -41,7 +42,7 @@ fn is_run(header: Header) -> bool
     ensures { result ≡ is_run header }
 {
     (1 <= header.threads && header.threads <= 16)
-        && (1 <= header.budget && header.budget <= 1_000_000_000_000)
+        && (1 <= header.budget && header.budget <= MOST_STEPS)
 }
 
 /// The header line of a run that bytes begin with, and what stands behind it.

@@ -11,12 +11,14 @@ mod faults;
 mod fields;
 mod headers;
 pub mod laws;
+mod limits;
 mod lines;
 mod printing;
 mod reading;
 mod records;
 
 pub use faults::RecordFault;
+pub use limits::MOST_ACCESSES;
 pub use printing::print_record;
 pub use reading::read_record;
 pub use records::{Accesses, RunRecord};

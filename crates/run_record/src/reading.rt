@@ -1,20 +1,18 @@
 //! A record, read.
 ghost use Rattle.std.specs.Prelude.{◌≡◌, ◌⊎◌, ◌+◌, ◌<◌, ◌≤◌, ◌^◌, IfErr, IfOk, Ok, Err};
 ghost use Rattle.run_record.specs.Fault.{HasFault};
-ghost use Rattle.run_record.specs.Limits.{IsRecord};
+ghost use Rattle.run_record.specs.Limits.{IsRecord, most_accesses};
 ghost use Rattle.run_record.specs.Reading.{accesses_from, record_of};
 ghost use Rattle.run_record.specs.Seen.{fault_or_memory};
 ghost use Rattle.run_record.specs.Text.{record_text};
 
 use crate::faults::RecordFault;
 use crate::headers::header_of;
+use crate::limits::MOST_ACCESSES;
 use crate::lines::next_access;
 use crate::records::{Accesses, RunRecord};
 use history::Access;
 use std::alloc::Global;
-
-/// The most accesses of a record.
-const MOST_ACCESSES: u64 = 1_000_000;
 
 /// The first fault of so many lines, the first of which has this number, and `Memory` where they have none.
 fn fault_of_lines(threads: u32, count: u32, number: u32, bytes: &[u8]) -> RecordFault
@@ -41,7 +39,7 @@ fn accesses_from(
     count: u32,
     bytes: &[u8],
 ) -> Result<Vec<Access>, RecordFault>
-    requires { count ≤ 1000000 }
+    requires { count ≤ most_accesses }
     ensures read { IfOk result (λ accesses. accesses_from threads count 2 bytes.now ≡ Ok accesses.items) }
     ensures fault { IfErr result (λ fault. fault ≡ fault_or_memory (accesses_from threads count 2 bytes.now)) }
 {
@@ -68,7 +66,7 @@ fn record_of(alloc: Global, bytes: &[u8]) -> Result<RunRecord, RecordFault>
     let Some((header, rest)) = header_of(bytes) else {
         return Err(RecordFault::Header);
     };
-    if header.count > MOST_ACCESSES {
+    if header.count > MOST_ACCESSES as u64 {
         return Err(RecordFault::TooLong);
     }
     let threads = header.threads as u32;

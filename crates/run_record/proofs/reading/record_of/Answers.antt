@@ -5,17 +5,17 @@ use Rattle.run_record.proofs.reading.record_of.Goals as goal
 pub returns-in_default-clause-fault : goal.returns-in_default-clause-fault
 returns-in_default-clause-fault c = no_header c.args.bytes.now c.in_default.ensures
 
-pub returns-then-header-gt-MOST_ACCESSES-clause-fault : goal.returns-then-header-gt-MOST_ACCESSES-clause-fault
-returns-then-header-gt-MOST_ACCESSES-clause-fault c =
-    long_header c.args.bytes.now (c.in-Some.header, c.in-Some.rest.now) c.in-Some.ensures c.if-header-gt-MOST_ACCESSES.true
+pub returns-then-header-clause-fault : goal.returns-then-header-clause-fault
+returns-then-header-clause-fault c =
+    long_header c.args.bytes.now (c.in-Some.header, c.in-Some.rest.now) c.in-Some.ensures c.if-header.true
 
 pub overflow_cast-threads : goal.overflow_cast-threads
 overflow_cast-threads c = let few = few_threads c.args.bytes.now (c.in-Some.header, c.in-Some.rest.now) c.in-Some.ensures in omega (arith, few)
 
 pub returns-in-Ok-clause-read : goal.returns-in-Ok-clause-read
 returns-in-Ok-clause-read c =
-    header_read c.args.bytes.now (c.in-Some.header, c.in-Some.rest.now) c.new.result c.in-Some.ensures c.if-header-gt-MOST_ACCESSES.false (c.in-Ok.ensures.read ∙ ap Ok (sym c.new.ensures))
+    header_read c.args.bytes.now (c.in-Some.header, c.in-Some.rest.now) c.new.result c.in-Some.ensures c.if-header.false (c.in-Ok.ensures.read ∙ ap Ok (sym c.new.ensures))
 
 pub returns-in-Err-clause-fault : goal.returns-in-Err-clause-fault
 returns-in-Err-clause-fault c =
-    header_fault c.args.bytes.now (c.in-Some.header, c.in-Some.rest.now) c.in-Err.fault c.in-Some.ensures c.if-header-gt-MOST_ACCESSES.false c.in-Err.ensures.fault
+    header_fault c.args.bytes.now (c.in-Some.header, c.in-Some.rest.now) c.in-Err.fault c.in-Some.ensures c.if-header.false c.in-Err.ensures.fault

@@ -1,4 +1,5 @@
 use Rattle.std.proofs.Common.{◌≡◌, ◌<◌, length, refl, sym, subst, inl, arith}
+use Rattle.run_record.specs.Limits.{most_accesses}
 use Rattle.guest_machine.specs.Turns.{drawn}
 use Rattle.guest_machine.proofs.Seated.{turn_live, fewer}
 use Rattle.guest_machine.proofs.Turning.{chosen, turn_is, turned_as, access_made, after_stop, too_long}
@@ -9,12 +10,12 @@ next-requires-clause-ready c =
     let turn = turn_is c.args.self.now.number c.drawn-self.result c.turn_of-t.result c.args.self.now.live.items c.deref.result.now c.drawn-self.ensures c.deref.ensures.value c.turn_of-t.ensures in
     (chosen _ _ _ _ _ _ _ _ _ _ c.index_mut-seat.result.now c.requires.under_way turn c.index_mut-seat.ensures.value).ready
 
-pub returns-then-len-eq-MOST-clause-fault : goal.returns-then-len-eq-MOST-clause-fault
-returns-then-len-eq-MOST-clause-fault c =
+pub returns-then-len-eq-MOST_ACCESSES-clause-fault : goal.returns-then-len-eq-MOST_ACCESSES-clause-fault
+returns-then-len-eq-MOST_ACCESSES-clause-fault c =
     let old = c.args.self.now in
     let turn = turn_is c.args.self.now.number c.drawn-self.result c.turn_of-t.result c.args.self.now.live.items c.deref.result.now c.drawn-self.ensures c.deref.ensures.value c.turn_of-t.ensures in
     let is = chosen _ _ _ _ _ _ _ _ _ _ c.index_mut-seat.result.now c.requires.under_way turn c.index_mut-seat.ensures.value in
-    let full : length old.accesses.items ≡ 1000000 = omega (arith, old.accesses.ok.0, c.len.ensures, c.if-len-eq-MOST.true) in
+    let full : length old.accesses.items ≡ most_accesses = omega (arith, old.accesses.ok.0, c.len.ensures, c.if-len-eq-MOST_ACCESSES.true) in
     inl (refl, too_long _ _ _ _ _ _ _ _ _ c.turn_of-t.result c.in-Asks.ask c.requires.under_way turn (c.in-Asks.ensures.comes _ _ is.come).0 full)
 
 pub serve-access-requires-clause-known : goal.serve-access-requires-clause-known
@@ -32,7 +33,7 @@ returns-in-Ok-clause-goes_on c =
     access_made _ _ _ _ old.number c.drawn-self.result old.live.items old.seats.items old.memory c.serve-access.new.memory old.accesses.items c.push.new.self.items
     c.turn_of-t.result c.in-Asks.ask c.index_mut-seat.result.now c.next.new.self c.give.new.self c.serve-access.result c.reply_of.result
     c.requires.under_way turn c.index_mut-seat.ensures.value comes.0 comes.1 c.in-Asks.ensures.pending.waiting
-    (λ full. let f : ⊥ = c.if-len-eq-MOST.false (omega (arith, old.accesses.ok.0, c.len.ensures, full)) in f)
+    (λ full. let f : ⊥ = c.if-len-eq-MOST_ACCESSES.false (omega (arith, old.accesses.ok.0, c.len.ensures, full)) in f)
     c.drawn-self.ensures c.serve-access.ensures.access c.serve-access.ensures.memory c.in-Ok.ensures.items c.reply_of.ensures
     c.serve-access.ensures.size c.serve-access.ensures.may c.serve-access.ensures.sound
     (c.give.ensures.ready _ _)

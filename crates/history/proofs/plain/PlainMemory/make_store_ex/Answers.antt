@@ -1,8 +1,7 @@
-use Rattle.std.proofs.Common.{◌≡◌, sym, ap, ◌∙◌}
+use Rattle.std.proofs.Common.{sym, ap, ◌∙◌}
 use Rattle.history.specs.Accesses.{entry_of}
 use Rattle.history.specs.Monitor.{accessed}
 use Rattle.history.specs.declared.entry.Cause.TheVariants.{Absent}
-use Rattle.history.specs.declared.entry.Deed.TheVariants.{StoreFail}
 use Rattle.history.proofs.plain.PlainMemory.make_store_ex.Goals as goal
 
 pub returns-clause-moved : goal.returns-clause-moved
