@@ -194,9 +194,7 @@ pub fn chosen<'a>(forms: &[u8], text: &'a [u8]) -> Option<Chosen<'a>>
         if let Some(fields) = fields_of(cuts::before_code(left, b'|'), text) {
             return Some(Chosen::new(form, fields));
         }
-        let Some((_, after)) = cuts::from_code(left, b'|').split_first() else {
-            return None;
-        };
+        let (_, after) = cuts::from_code(left, b'|').split_first()?;
         left = after;
         form += 1;
     }

@@ -19,7 +19,7 @@ mod worked;
 mod written;
 
 pub use cuts::{before_code, from_code};
-pub use fields::Chosen;
+pub use fields::{Chosen, MOST_NUMBERS};
 pub use form_texts::form_in;
 pub use forms::chosen;
 pub use names::place;

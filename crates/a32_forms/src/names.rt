@@ -17,9 +17,7 @@ pub fn place(start: u64, names: &[u8], word: &[u8]) -> Option<u64>
         if cuts::before_code(rest, b' ') == word {
             return Some(place);
         }
-        let Some((_, after)) = cuts::from_code(rest, b' ').split_first() else {
-            return None;
-        };
+        let (_, after) = cuts::from_code(rest, b' ').split_first()?;
         rest = after;
         place += 1;
     }

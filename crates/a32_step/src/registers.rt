@@ -23,8 +23,8 @@ pub fn count_of(list: u16) -> u32
     list.count_ones()
 }
 
-#[tactic(auto, using(crate::proofs::Lists::from_lowest, crate::proofs::Lists::at_listed, crate::proofs::Lists::at_unlisted, crate::proofs::Lists::at_end, crate::proofs::Lists::first_is, crate::proofs::Lists::later_is))]
 /// The register of this number in a list, counted from the lowest.
+#[tactic(auto, using(crate::proofs::Lists::from_lowest, crate::proofs::Lists::at_listed, crate::proofs::Lists::at_unlisted, crate::proofs::Lists::at_end, crate::proofs::Lists::first_is, crate::proofs::Lists::later_is))]
 pub fn listed(list: u16, number: usize) -> Reg
     requires { number < count_of list }
     ensures { result ≡ slice_index (registers_of list) number }

@@ -1,12 +1,10 @@
 //! The numbers that stand at the signs of a form as it is shown.
 ghost use Rattle.std.specs.Prelude.{◌≡◌, ◌<◌, ◌≤◌, ◌++◌, ◌∷◌, [], length};
 
+use a32_forms::MOST_NUMBERS;
 use a32_instr::Reg;
 use arrayvec::ArrayVec;
 use std::marker::Model;
-
-/// How many numbers the signs of a form have at most.
-const MOST_NUMBERS: usize = 8;
 
 /// The numbers at the signs of a form, at most 8, held in place.
 #[derive(Drop)]

@@ -8,12 +8,10 @@ use crate::faults::ElfFault;
 use crate::fields::{entry_field, file_type, machine, table_count, table_entry_size, table_offset};
 use crate::headers::ProgramHeader;
 use crate::table::{ENTRY_SIZE, MOST_HEADERS};
+use llsc_base::ELF_MAGIC;
 
 /// The bytes of a file's header.
 pub(crate) const HEADER_SIZE: usize = 52;
-
-/// The four bytes with which an ELF file begins.
-const ELF_MAGIC: [u8; 4] = [0x7f, b'E', b'L', b'F'];
 
 /// A file of 32 bits (ELFCLASS32).
 const BITS_32: u8 = 1;

@@ -67,9 +67,10 @@ mod tests {
     use llsc_base::{Bar, Place, Size};
     use std::test::Fail;
 
-    /// The bytes of the file below, and where its program headers end.
+    /// How many bytes the file below has.
     const LEN: usize = 212;
 
+    /// Where its program headers end.
     const TABLE_END: usize = 180;
 
     /// A file as the GNU linker lays it out: an exception table, code, data with eight bytes behind it that

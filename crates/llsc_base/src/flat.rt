@@ -10,7 +10,7 @@ use std::alloc::{AllocError, Global};
 use thiserror::Error;
 
 /// The four bytes with which an ELF file begins (System V gABI, ELF identification).
-const ELF_MAGIC: [u8; 4] = [0x7f, b'E', b'L', b'F'];
+pub const ELF_MAGIC: [u8; 4] = [0x7f, b'E', b'L', b'F'];
 
 /// Why a flat file gives no image.
 #[derive(Clone, Copy, Debug, PartialEq, Eq, Error)]

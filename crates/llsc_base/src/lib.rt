@@ -15,7 +15,7 @@ mod memory;
 mod sizes;
 
 pub use access::{Bar, BarredWord, Place, Size};
-pub use flat::FlatFault;
+pub use flat::{ELF_MAGIC, FlatFault};
 pub use images::{Image, Span};
 pub use limits::{CODE_START, MOST_STEPS};
 pub use lines::Line;

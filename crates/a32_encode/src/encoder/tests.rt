@@ -31,6 +31,7 @@ fn gives_back_words_of_each_class(rt: HostRuntime) {
     }
 }
 
+/// The answer for an instruction that no word means.
 const NONE: Result<u32, EncodeFault> = Err(EncodeFault::NoEncoding);
 
 fn r(num: u8) -> Reg

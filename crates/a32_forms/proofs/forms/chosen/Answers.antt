@@ -30,28 +30,28 @@ returns-in-Some-clause-within c =
     ∙ ap (λ form. are_within form c.in-Some.fields.numbers) (place_here c.args.forms.now c.loop-fields.left.now c.loop-fields.form c.loop-fields.invariant.2 ∙ sym c.before_code.ensures)
     ∙ c.in-Some.ensures.within
 
-pub returns-in_default-split_first-clause-form : goal.returns-in_default-split_first-clause-form
-returns-in_default-split_first-clause-form c =
+pub returns-in_err-after-clause-form : goal.returns-in_err-after-clause-form
+returns-in_err-after-clause-form c =
     let none : None ≡ takes (before_code 124 c.loop-fields.left.now) (parts c.args.text.now) =
     c.in_default.ensures.fields ∙ ap (λ form. takes form (parts c.args.text.now)) c.before_code.ensures in
-    let end : from_code 124 c.loop-fields.left.now ≡ [] = sym c.from_code.ensures ∙ nil_from_length c.from_code.result.now c.in_default-split_first.ensures.cases in
-    sym (form_end c.loop-fields.form c.loop-fields.left.now (parts c.args.text.now) none end) ∙ c.loop-fields.invariant.0
+    let end : from_code 124 c.loop-fields.left.now ≡ [] = sym c.from_code.ensures ∙ nil_from_length c.from_code.result.now c.in_err-after.ensures.cases in
+    c.from_residual.ensures ∙ sym (form_end c.loop-fields.form c.loop-fields.left.now (parts c.args.text.now) none end) ∙ c.loop-fields.invariant.0
 
 pub loop-fields-smaller : goal.loop-fields-smaller
 loop-fields-smaller c =
     let shorter = before_from 124 c.loop-fields.left.now in
-    let is : length (from_code 124 c.loop-fields.left.now) ≡ 1 + length c.in-Some-split_first.after.now = ap length (sym c.from_code.ensures ∙ c.in-Some-split_first.ensures.cases.0) ∙ omega arith in
+    let is : length (from_code 124 c.loop-fields.left.now) ≡ 1 + length c.in_ok-after.after.now = ap length (sym c.from_code.ensures ∙ c.in_ok-after.ensures.cases.0) ∙ omega arith in
     omega arith
 
 pub loop-fields-preserved : goal.loop-fields-preserved
 loop-fields-preserved c =
     let none : None ≡ takes (before_code 124 c.loop-fields.left.now) (parts c.args.text.now) =
     c.in_default.ensures.fields ∙ ap (λ form. takes form (parts c.args.text.now)) c.before_code.ensures in
-    let next : from_code 124 c.loop-fields.left.now ≡ c.in-Some-split_first.field-0-0.now ∷ c.in-Some-split_first.after.now = sym c.from_code.ensures ∙ c.in-Some-split_first.ensures.cases.0 in
+    let next : from_code 124 c.loop-fields.left.now ≡ c.in_ok-after.field-0-0.now ∷ c.in_ok-after.after.now = sym c.from_code.ensures ∙ c.in_ok-after.ensures.cases.0 in
     let shorter = before_from 124 c.loop-fields.left.now in
-    let is : length (from_code 124 c.loop-fields.left.now) ≡ 1 + length c.in-Some-split_first.after.now = ap length next ∙ omega arith in (
-      sym (form_next c.loop-fields.form c.in-Some-split_first.field-0-0.now c.loop-fields.left.now c.in-Some-split_first.after.now (parts c.args.text.now) none next) ∙ c.loop-fields.invariant.0,
-      room_next c.loop-fields.left.now c.in-Some-split_first.after.now c.in-Some-split_first.field-0-0.now c.loop-fields.invariant.1 next,
-      place_next c.args.forms.now c.loop-fields.left.now c.in-Some-split_first.after.now c.loop-fields.form c.in-Some-split_first.field-0-0.now c.loop-fields.invariant.2 next,
+    let is : length (from_code 124 c.loop-fields.left.now) ≡ 1 + length c.in_ok-after.after.now = ap length next ∙ omega arith in (
+      sym (form_next c.loop-fields.form c.in_ok-after.field-0-0.now c.loop-fields.left.now c.in_ok-after.after.now (parts c.args.text.now) none next) ∙ c.loop-fields.invariant.0,
+      room_next c.loop-fields.left.now c.in_ok-after.after.now c.in_ok-after.field-0-0.now c.loop-fields.invariant.1 next,
+      place_next c.args.forms.now c.loop-fields.left.now c.in_ok-after.after.now c.loop-fields.form c.in_ok-after.field-0-0.now c.loop-fields.invariant.2 next,
       omega arith,
     )

@@ -4,6 +4,7 @@
 use super::transcripts::check;
 use super::*;
 
+/// The rows of every index form and offset.
 const ACCESSES: &str = "\
 ; LDR
 e591000c 0 r1=2000 : 89abcdef : load 4 200c, done 1004 r0=89abcdef

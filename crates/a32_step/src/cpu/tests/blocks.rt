@@ -5,6 +5,7 @@
 use super::transcripts::check;
 use super::*;
 
+/// The rows of blocks.
 const BLOCKS: &str = "\
 ; LDM
 e8920008 6 r2=2040 : 800000a3 : load 4 2040, done 1004 r3=800000a3

@@ -5,6 +5,7 @@
 use super::transcripts::check;
 use super::*;
 
+/// The rows at the edges.
 const EDGES: &str = "\
 ; The first place of memory, the last one, one past it, and the last of all addresses
 e5910000 0 r1=0 : 89abcdef : load 4 0, done 1004 r0=89abcdef

@@ -2,6 +2,7 @@
 
 use super::*;
 
+/// The rows of data processing, wide moves, CLZ, REV and extends.
 const OPERATIONS: &str = "\
 ; word    r0       r1       r2       r3  flags   r0       r1  flags
 ; Sums

@@ -2,6 +2,7 @@
 
 use super::*;
 
+/// The rows of multiplications.
 const PRODUCTS: &str = "\
 ; word    r0       r1       r2       r3  flags   r0       r1  flags
 ; muls r0, r1, r2

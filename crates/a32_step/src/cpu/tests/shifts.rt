@@ -2,6 +2,7 @@
 
 use super::*;
 
+/// The rows of shifted operands.
 const SHIFTS: &str = "\
 ; word    r0       r1       r2       r3  flags   r0       r1  flags
 ; Shifts by a register
