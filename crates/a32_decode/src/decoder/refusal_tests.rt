@@ -122,8 +122,8 @@ const TAKEN: &[u32] = &[
     0xe16fef1e, 0xe6bfef3e, 0xe6ffe07e,
     // ldr and str of the PC, plain and with write-back; ldr, str and ldrb at the PC
     0xe591f000, 0xe581f000, 0xe491f004, 0xe7b1f002, 0xe59f0004, 0xe58f0004, 0xe79f0002, 0xe5df0000,
-    // ldr r1, [r1, #4]; ldr r0, [r1, r1]!; strb r1, [r1]
-    0xe5911004, 0xe7b10001, 0xe5c11000,
+    // ldr r1, [r1, #4]; ldr r1, [r1, r2]; ldr r0, [r1, r1]!; strb r1, [r1]
+    0xe5911004, 0xe7911002, 0xe7b10001, 0xe5c11000,
     // ldrh and strh at the PC; ldrh r1, [r1, #2]; ldrsh r0, [r1, r1]!
     0xe1df00b2, 0xe1cf00b2, 0xe1d110b2, 0xe1b100f1,
     // ldmia r1, {r1, pc}; ldmia r1!, {r2}; stmia r1, {r0, r1}; stmia r1!, {r1, r2}

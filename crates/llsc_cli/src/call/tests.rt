@@ -8,9 +8,13 @@ mod assembles;
 mod checks;
 mod disassembles;
 mod elf_files;
+mod limits;
+mod mnemonics;
+mod names;
 mod prints;
 mod runs;
 mod traces;
+mod whole_calls;
 mod words;
 
 /// A program that leaves with code 0 in three steps, and its report.

@@ -1,4 +1,6 @@
 //! ELF files that are run, and files that are none.
+ghost use Rattle.std.specs.Prelude.{◌<◌};
+
 use super::*;
 
 /// A program as the GNU linker lays it out: it loads a word of its data and the zero behind it, and leaves with their sum.
@@ -24,26 +26,106 @@ fn runs_elf_files(rt: HostRuntime) -> Result<(), Fail> {
     Ok(())
 }
 
+/// A change of the linked program: the words that are others, with their values, and how many bytes are left.
+type Change = (&'static [(usize, u32)], usize);
+
+/// The linked program, changed.
+fn changed(alloc: Global, change: Change) -> Result<Vec<u8>, AllocError> {
+    let (words, length) = change;
+    let mut program = LINKED;
+    for (at, word) in words {
+        if let Some(old) = program.get_mut(*at) {
+            *old = *word;
+        }
+    }
+    let mut file = bytes_of(alloc, &program)?;
+    file.truncate(length);
+    Ok(file)
+}
+
+/// One change for each fault, or more.
+const FAULTS: &[(Change, &str)] = &[
+    ((&[], 51), "llsc: Short\n"),
+    ((&[(0, 0x464c457e)], 212), "llsc: Magic\n"),
+    ((&[(1, 0x00010102)], 212), "llsc: Class\n"),
+    ((&[(1, 0x00010201)], 212), "llsc: DataOrder\n"),
+    ((&[(4, 0x00280003)], 212), "llsc: FileType\n"),
+    ((&[(4, 0x003e0002)], 212), "llsc: Machine\n"),
+    // program headers of 40 bytes, none, and a table that ends a byte behind the file
+    ((&[(10, 0x00280034)], 212), "llsc: Headers\n"),
+    ((&[(11, 0)], 212), "llsc: Headers\n"),
+    ((&[(7, 85)], 212), "llsc: Headers\n"),
+    ((&[(13, 3)], 212), "llsc: Dynamic\n"),
+    ((&[(37, 2)], 212), "llsc: Dynamic\n"),
+    ((&[(27, 7)], 212), "llsc: WritableCode\n"),
+    ((&[(27, 4)], 212), "llsc: NoCode\n"),
+    // data that ends behind 2 to the 32, and data that begins in the last word of the room
+    (
+        (&[(31, 0xfffff000), (34, 0x2000)], 212),
+        "llsc: SegmentBounds\n",
+    ),
+    ((&[(31, 0xfeffc)], 212), "llsc: SegmentBounds\n"),
+    // the last byte is cut off; data of more bytes than it has memory
+    ((&[], 211), "llsc: FileBounds\n"),
+    ((&[(34, 3)], 212), "llsc: FileBounds\n"),
+    ((&[(31, 0x100c0)], 212), "llsc: Overlap\n"),
+    // an entry that is no word's, one in the data, which is Thumb's too, and one at the last byte of the code
+    ((&[(6, 0x100b6)], 212), "llsc: Entry\n"),
+    ((&[(6, 0x200d1)], 212), "llsc: Entry\n"),
+    ((&[(6, 0x100d0), (26, 0xd1)], 212), "llsc: Entry\n"),
+    ((&[(6, 0x100b5)], 212), "llsc: ThumbEntry\n"),
+];
+
 #[test]
 fn refuses_elf_files(rt: HostRuntime) -> Result<(), Fail> {
-    // the word that is another, and its value
-    let cases: [(usize, u32, &str); 3] = [
-        (4, 0x003e_0002, "llsc: Machine\n"),
-        (31, 0x100c0, "llsc: Overlap\n"),
-        (6, 0x100b5, "llsc: ThumbEntry\n"),
-    ];
-    for (at, word, refusal) in cases {
-        let mut program = LINKED;
-        program[at] = word;
-        let file = bytes_of(rt.alloc(), &program)?;
+    for (change, refusal) in FAULTS {
+        let file = changed(rt.alloc(), *change)?;
         let (status, host) = called(rt.alloc(), "solo p", file, &[], 100)?;
-        assert_eq!(rt; status, 4, "for {refusal}");
         assert_eq!(rt; host.written(), refusal.as_bytes());
+        assert_eq!(rt; status, 4, "for {refusal}");
     }
+    Ok(())
+}
 
-    // an empty file
-    let (status, host) = called(rt.alloc(), "dis p", Vec::new(rt.alloc()), &[], 100)?;
-    assert_eq!(rt; status, 4);
-    assert_eq!(rt; host.written(), b"llsc: Short\n".as_slice());
+#[test]
+fn enters_at_the_last_word_of_the_code(rt: HostRuntime) -> Result<(), Fail> {
+    let text = "thread 0 stop outside 000100d0 steps 1 out 0\n\nreads 0 writes 0 fails 0\n";
+    let file = changed(rt.alloc(), (&[(6, 0x100cc)], 212))?;
+    let (status, host) = called(rt.alloc(), "solo p", file, &[], 100)?;
+    assert_eq!(rt; host.written(), text.as_bytes());
+    assert_eq!(rt; status, 1);
+    Ok(())
+}
+
+/// A program whose file has so many program headers, the last of which is that of the code.
+fn with_headers(alloc: Global, count: u32) -> Result<Vec<u8>, AllocError>
+    requires { count < 100 }
+{
+    let mut words = Vec::new(alloc);
+    words.extend_from_slice(&LEAVE_FILE[..11])?;
+    words.extend_from_slice(&[count, 0])?;
+    for _ in 1..count {
+        words.extend_from_slice(&[0; 8])?;
+    }
+    let start = 52 + 32 * count;
+    words.extend_from_slice(&[1, start, 0x1000, 0x1000, 12, 12, 5, 4])?;
+    words.extend_from_slice(LEAVE)?;
+    bytes_of(alloc, words.as_slice())
+}
+
+#[test]
+fn reads_64_program_headers(rt: HostRuntime) -> Result<(), Fail> {
+    let cases: [(u32, u8, &str); 4] = [
+        (0, 4, "llsc: Headers\n"),
+        (1, 0, LEFT),
+        (64, 0, LEFT),
+        (65, 4, "llsc: Headers\n"),
+    ];
+    for (count, status, text) in cases {
+        let file = with_headers(rt.alloc(), count)?;
+        let (ended, host) = called(rt.alloc(), "solo p", file, &[], 100)?;
+        assert_eq!(rt; host.written(), text.as_bytes(), "for {count}");
+        assert_eq!(rt; ended, status, "for {count}");
+    }
     Ok(())
 }

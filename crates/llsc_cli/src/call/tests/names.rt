@@ -1,0 +1,122 @@
+//! The names of the faults and of the reasons, as reports print them.
+use super::*;
+use crate::host::ReadFault;
+use crate::programs::ProgramFault;
+use a32_asm::AsmFault;
+use a32_instr::DecodeFault;
+use a32_syntax::AsmKind;
+use elf32::ElfFault;
+use guest_machine::TraceFault;
+use llsc_base::{FlatFault, SizeFault};
+use run_checker::Reason;
+use run_record::RecordFault;
+
+const ELF: &[(ElfFault, &str)] = &[
+    (ElfFault::Short, "Short"),
+    (ElfFault::Magic, "Magic"),
+    (ElfFault::Class, "Class"),
+    (ElfFault::DataOrder, "DataOrder"),
+    (ElfFault::FileType, "FileType"),
+    (ElfFault::Machine, "Machine"),
+    (ElfFault::Headers, "Headers"),
+    (ElfFault::Dynamic, "Dynamic"),
+    (ElfFault::WritableCode, "WritableCode"),
+    (ElfFault::NoCode, "NoCode"),
+    (ElfFault::SegmentBounds, "SegmentBounds"),
+    (ElfFault::FileBounds, "FileBounds"),
+    (ElfFault::Overlap, "Overlap"),
+    (ElfFault::Entry, "Entry"),
+    (ElfFault::ThumbEntry, "ThumbEntry"),
+    (ElfFault::Memory, "Memory"),
+];
+
+const FLAT: &[(FlatFault, &str)] = &[
+    (FlatFault::Elf, "Elf"),
+    (FlatFault::Length, "Length"),
+    (FlatFault::TooLong, "TooLong"),
+    (FlatFault::Memory, "Memory"),
+];
+
+const SIZES: &[(SizeFault, &str)] = &[
+    (SizeFault::Mem, "Mem"),
+    (SizeFault::Threads, "Threads"),
+    (SizeFault::Classes, "Classes"),
+    (SizeFault::Limit, "Limit"),
+];
+
+const KINDS: &[(AsmKind, &str)] = &[
+    (AsmKind::Syntax, "Syntax"),
+    (AsmKind::Mnemonic, "Mnemonic"),
+    (AsmKind::Operand, "Operand"),
+    (AsmKind::Label, "Label"),
+    (AsmKind::Repeated, "Repeated"),
+    (AsmKind::Range, "Range"),
+    (AsmKind::TooLong, "TooLong"),
+    (AsmKind::Memory, "Memory"),
+];
+
+const RECORDS: &[(RecordFault, &str)] = &[
+    (RecordFault::Header, "Header"),
+    (RecordFault::TooLong, "TooLong"),
+    (RecordFault::Line(3), "Line"),
+    (RecordFault::Thread(3), "Thread"),
+    (RecordFault::Memory, "Memory"),
+];
+
+const REASONS: &[(Reason, &str)] = &[
+    (Reason::AfterStop, "AfterStop"),
+    (Reason::NotAsked, "NotAsked"),
+    (Reason::WrongValue, "WrongValue"),
+    (Reason::NoReservation, "NoReservation"),
+    (Reason::Unfinished, "Unfinished"),
+];
+
+const READS: &[(ReadFault, &str)] = &[
+    (ReadFault::Failed, "Failed"),
+    (ReadFault::FileTooLong, "FileTooLong"),
+    (ReadFault::Memory, "Memory"),
+];
+
+#[test]
+fn names_faults_of_programs(rt: HostRuntime) {
+    for (fault, name) in ELF {
+        assert_eq!(rt; fault.name(), *name);
+        assert_eq!(rt; ProgramFault::Elf(*fault).name(), *name);
+    }
+    for (fault, name) in FLAT {
+        assert_eq!(rt; fault.name(), *name);
+        assert_eq!(rt; ProgramFault::Flat(*fault).name(), *name);
+    }
+    for (fault, name) in SIZES {
+        assert_eq!(rt; fault.name(), *name);
+    }
+}
+
+#[test]
+fn names_faults_of_texts(rt: HostRuntime) {
+    for (kind, name) in KINDS {
+        assert_eq!(rt; kind.name(), *name);
+        let fault = AsmFault {
+            line: 3,
+            kind: *kind,
+        };
+        assert_eq!(rt; fault.name(), *name);
+    }
+    assert_eq!(rt; DecodeFault::Undefined.name(), "Undefined");
+    assert_eq!(rt; DecodeFault::Unpredictable.name(), "Unpredictable");
+}
+
+#[test]
+fn names_faults_of_records(rt: HostRuntime) {
+    for (fault, name) in RECORDS {
+        assert_eq!(rt; fault.name(), *name);
+    }
+    for (reason, name) in REASONS {
+        assert_eq!(rt; reason.name(), *name);
+    }
+    for (fault, name) in READS {
+        assert_eq!(rt; fault.name(), *name);
+    }
+    assert_eq!(rt; TraceFault::TooLong.name(), "TooLong");
+    assert_eq!(rt; TraceFault::Memory.name(), "Memory");
+}
