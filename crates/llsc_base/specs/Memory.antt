@@ -1,5 +1,5 @@
 -- Memory as a list of bytes, and the numbers that stand in it (DDI 0406C A3.1, A3.3: little-endian).
-use Rattle.std.specs.Prelude.{ℕ, ◌+◌, ◌*◌, ◌/◌, ◌%◌, ◌==◌, Bool, List, [], ◌∷◌, ◌++◌, take, drop, zero, suc}
+use Rattle.std.specs.Prelude.{ℕ, ◌+◌, ◌*◌, ◌/◌, ◌%◌, ◌^◌, ◌==◌, Bool, List, [], ◌∷◌, ◌++◌, take, drop, zero, suc}
 use Rattle.llsc_base.specs.declared.access.Size.{Size}
 use Rattle.llsc_base.specs.declared.access.Size.TheVariants.{B1, B2, B4, B8}
 use Rattle.llsc_base.specs.declared.access.Place.{Place}
@@ -19,9 +19,9 @@ is_aligned place = place.addr % size_bytes place.size == 0
 unfoldable pub cell_of : Place → ℕ
 cell_of place = place.addr / 8
 
--- the row of a place: the granule of memory on which a monitor marks it (DDI 0406C A3.4.3), here as large as a cell
-unfoldable pub row_of : Place → ℕ
-row_of place = place.addr / 8
+-- the row of a place: the granule of memory on which a monitor marks it (DDI 0406C A3.4.3), which has 8 * 2 ^ granule bytes
+unfoldable pub row_of : (granule : ℕ) → Place → ℕ
+row_of granule place = place.addr / 2 ^ (3 + granule)
 
 -- the class of a row, where rows are dealt out to so many classes
 unfoldable pub class_of : ℕ → ℕ → ℕ

@@ -1,4 +1,4 @@
-ghost use Rattle.std.specs.Prelude.{◌≡◌, ◌==◌, ◌%◌};
+ghost use Rattle.std.specs.Prelude.{◌≡◌, ◌==◌, ◌%◌, ◌≤◌};
 ghost use Rattle.llsc_base.specs.Memory.{cell_of, is_aligned, row_of, size_bytes};
 
 /// How many bytes an access has.
@@ -55,13 +55,15 @@ impl Place {
         self.addr / 8
     }
 
-    /// The number of its row, the granule on which a monitor marks it (DDI 0406C A3.4.3).
+    /// The number of its row, the granule on which a monitor marks it (DDI 0406C A3.4.3), which has `8 * 2^granule` bytes.
+    /// The number of the granule is 0 to 8.
     #[inline]
     #[tactic(auto, unfolding(crate::specs::Memory::row_of))]
-    pub fn row(self) -> u32
-        ensures { result ≡ row_of self }
+    pub fn row(self, granule: u32) -> u32
+        requires { granule ≤ 8 }
+        ensures { result ≡ row_of granule self }
     {
-        self.addr / 8
+        self.addr >> (3 + granule)
     }
 }
 

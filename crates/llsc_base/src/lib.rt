@@ -9,6 +9,7 @@
 mod access;
 mod flat;
 mod images;
+pub mod laws;
 mod limits;
 mod lines;
 mod memory;

@@ -1,4 +1,4 @@
-ghost use Rattle.std.specs.Prelude.{◌≡◌, ◌+◌, ◌*◌, ◌%◌, ◌^◌, ◌≤◌, MatchResult, Some, None, IsTrue};
+ghost use Rattle.std.specs.Prelude.{◌≡◌, ◌+◌, ◌*◌, ◌%◌, ◌^◌, ◌≤◌, ◌<◌, MatchResult, IfOk, IfErr, Some, None, IsTrue};
 ghost use Rattle.std.specs.Int.{is_power_of_two};
 ghost use Rattle.llsc_base.specs.Sizes.{AreInRange, numbers, room_of, size_fault, size_fault_name};
 
@@ -20,6 +20,9 @@ pub enum SizeFault {
     /// The writes of a class.
     #[error("the limit is not 1 to 4611686018427387904")]
     Limit,
+    /// The number of the granule.
+    #[error("the granule is not 0 to 8")]
+    Granule,
 }
 
 impl SizeFault {
@@ -32,6 +35,7 @@ impl SizeFault {
             SizeFault::Threads => "Threads",
             SizeFault::Classes => "Classes",
             SizeFault::Limit => "Limit",
+            SizeFault::Granule => "Granule",
         }
     }
 }
@@ -43,6 +47,7 @@ pub struct MachineSize {
     threads: u32,
     classes: u32,
     limit: u64,
+    granule: u32,
 }
 
 impl Model for MachineSize {
@@ -50,11 +55,11 @@ impl Model for MachineSize {
 
     ghost Value = { Numbers };
 
-    ghost view = { λ s. record { mem = s.mem; threads = s.threads; classes = s.classes; limit = s.limit } };
+    ghost view = { λ s. record { mem = s.mem; threads = s.threads; classes = s.classes; limit = s.limit; granule = s.granule } };
 
-    ghost invariant = { λ s. AreInRange (record { mem = s.mem; threads = s.threads; classes = s.classes; limit = s.limit }) };
+    ghost invariant = { λ s. AreInRange (record { mem = s.mem; threads = s.threads; classes = s.classes; limit = s.limit; granule = s.granule }) };
 
-    ghost inverse = { λ n. record { mem = n.mem; threads = n.threads; classes = n.classes; limit = n.limit } };
+    ghost inverse = { λ n. record { mem = n.mem; threads = n.threads; classes = n.classes; limit = n.limit; granule = n.granule } };
 }
 
 impl MachineSize {
@@ -86,6 +91,27 @@ impl MachineSize {
             threads: threads as u32,
             classes: classes as u32,
             limit,
+            granule: 0,
+        })
+    }
+
+    /// The machine with rows of `8 * 2^granule` bytes, and every other number as it was.
+    ///
+    /// # Errors
+    ///
+    /// [`SizeFault::Granule`] where the number of the granule is above 8.
+    pub fn with_granule(self, granule: u64) -> Result<MachineSize, SizeFault>
+        ensures machine { IfOk result (λ size. (granule ≤ 8) × (size ≡ record self { granule = granule })) }
+        ensures fault { IfErr result (λ fault. (8 < granule) × (fault ≡ SizeFault.Granule)) }
+        ensures kinds { let n = record self { granule = granule } in
+            MatchResult result (λ size. size_fault n ≡ None) (λ fault. size_fault n ≡ Some fault) }
+    {
+        if granule > 8 {
+            return Err(SizeFault::Granule);
+        }
+        Ok(MachineSize {
+            granule: granule as u32,
+            ..self
         })
     }
 
@@ -125,6 +151,15 @@ impl MachineSize {
         ensures most { result ≤ 2 ^ 62 }
     {
         self.limit
+    }
+
+    /// The number of the granule: 0 to 8. A row, on which a monitor marks a thread, has `8 * 2^granule` bytes; it is 0 where
+    /// [`MachineSize::with_granule`] gave no other.
+    pub fn granule(&self) -> u32
+        ensures number { result ≡ self.now.granule }
+        ensures most { result ≤ 8 }
+    {
+        self.granule
     }
 
     /// The bytes below the stacks, which are the last 4096 bytes of memory for each thread: a multiple of 4096 from 0
