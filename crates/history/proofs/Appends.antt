@@ -87,36 +87,36 @@ IsArmLegal-from_accesses_of m (End t p ∷ es) h = (tt, IsArmLegal-from_accesses
 
 -- ---- how things stand
 
-pub standing_after-append : (classes : ℕ) (s : Standing) (front back : List Entry)
-    → standing_after classes s (front ++ back) ≡ standing_after classes (standing_after classes s front) back
-standing_after-append classes s [] back = refl
-standing_after-append classes s (entry ∷ front) back = standing_after-append classes (joined classes s entry) front back
+pub standing_after-append : (size : Numbers) (s : Standing) (front back : List Entry)
+    → standing_after size s (front ++ back) ≡ standing_after size (standing_after size s front) back
+standing_after-append size s [] back = refl
+standing_after-append size s (entry ∷ front) back = standing_after-append size (joined size s entry) front back
 
 -- one more entry
-pub standing_after-push : (classes : ℕ) (s : Standing) (front : List Entry) (entry : Entry)
-    → standing_after classes s (front ++ entry ∷ []) ≡ joined classes (standing_after classes s front) entry
-standing_after-push classes s front entry = standing_after-append classes s front (entry ∷ [])
+pub standing_after-push : (size : Numbers) (s : Standing) (front : List Entry) (entry : Entry)
+    → standing_after size s (front ++ entry ∷ []) ≡ joined size (standing_after size s front) entry
+standing_after-push size s front entry = standing_after-append size s front (entry ∷ [])
 
 pub MayFollow-append : (size : Numbers) (s : Standing) (front back : List Entry) → MayFollow size s front
-    → MayFollow size (standing_after size.classes s front) back → MayFollow size s (front ++ back)
+    → MayFollow size (standing_after size s front) back → MayFollow size s (front ++ back)
 MayFollow-append size s [] back h rest = rest
-MayFollow-append size s (entry ∷ front) back h rest = (h.0, MayFollow-append size (joined size.classes s entry) front back h.1 rest)
+MayFollow-append size s (entry ∷ front) back h rest = (h.0, MayFollow-append size (joined size s entry) front back h.1 rest)
 
 pub MayFollow-front : (size : Numbers) (s : Standing) (front back : List Entry) → MayFollow size s (front ++ back) → MayFollow size s front
 MayFollow-front size s [] back h = tt
-MayFollow-front size s (entry ∷ front) back h = (h.0, MayFollow-front size (joined size.classes s entry) front back h.1)
+MayFollow-front size s (entry ∷ front) back h = (h.0, MayFollow-front size (joined size s entry) front back h.1)
 
 pub MayFollow-back : (size : Numbers) (s : Standing) (front back : List Entry) → MayFollow size s (front ++ back)
-    → MayFollow size (standing_after size.classes s front) back
+    → MayFollow size (standing_after size s front) back
 MayFollow-back size s [] back h = h
-MayFollow-back size s (entry ∷ front) back h = MayFollow-back size (joined size.classes s entry) front back h.1
+MayFollow-back size s (entry ∷ front) back h = MayFollow-back size (joined size s entry) front back h.1
 
 -- one more entry, where it may come next
 pub MayFollow-push : (size : Numbers) (s : Standing) (front : List Entry) (entry : Entry) → MayFollow size s front
-    → MayJoin size (standing_after size.classes s front) entry → MayFollow size s (front ++ entry ∷ [])
+    → MayJoin size (standing_after size s front) entry → MayFollow size s (front ++ entry ∷ [])
 MayFollow-push size s front entry h next = MayFollow-append size s front (entry ∷ []) h (next, tt)
 
 -- the last entry may stand where it does
 pub MayFollow-last : (size : Numbers) (s : Standing) (front : List Entry) (entry : Entry) → MayFollow size s (front ++ entry ∷ [])
-    → MayJoin size (standing_after size.classes s front) entry
+    → MayJoin size (standing_after size s front) entry
 MayFollow-last size s front entry h = (MayFollow-back size s front (entry ∷ []) h).0

@@ -1,12 +1,13 @@
 -- The memory that accesses leave is how things stand of its cells.
 use Rattle.std.proofs.Common.{◌≡◌, ℕ, ◌+◌, ◌*◌, ◌<◌, ◌≤◌, true, List, [], ◌∷◌, length, slice_index, refl, sym, ap, subst, ◌∙◌, inl, inr, arith}
 use Rattle.std.proofs.lemmas.Bool.{cases_eq}
+use Rattle.llsc_base.specs.Sizes.{Numbers}
 use Rattle.llsc_base.specs.Memory.{cell_of, is_aligned, size_bytes, stored, value_at}
 use Rattle.llsc_base.specs.declared.access.Place.{Place}
 use Rattle.llsc_base.proofs.Stores.{stored-byte}
 use Rattle.row_bytes.specs.Cell.{cell_at, cell_with, value_in_cell}
 use Rattle.row_bytes.proofs.Memories.{cell_at-stored_same, cell_at-stored_other, cell_of-inside, value_at-cell_at}
-use Rattle.history.specs.Monitor.{Monitor, accessed, at_rest, monitor_after}
+use Rattle.history.specs.Monitor.{Monitor, accessed, at_rest_by, monitor_after}
 use Rattle.history.specs.ArmLegal.{IsArmLegal, IsSound, MayAccess}
 use Rattle.history.specs.Standing.{Standing, joined, standing_after, standing_of, updated}
 use Rattle.history.specs.declared.entry.Entry.{Entry}
@@ -35,32 +36,32 @@ stored_cells m s place value thread threads sound are i inside = elim (cases_eq 
 ]
 
 -- one more entry
-pub CellsAre-step : (classes : ℕ) (m : Monitor) (s : Standing) (e : Entry) → MayAccess m e → CellsAre m s → CellsAre (accessed m e) (joined classes s e)
-CellsAre-step classes m s (Read thread place value ex) may are = record { bytes = are.bytes; cells = are.cells }
-CellsAre-step classes m s (Write thread place value ex) may are =
+pub CellsAre-step : (size : Numbers) (m : Monitor) (s : Standing) (e : Entry) → MayAccess m e → CellsAre m s → CellsAre (accessed m e) (joined size s e)
+CellsAre-step size m s (Read thread place value ex) may are = record { bytes = are.bytes; cells = are.cells }
+CellsAre-step size m s (Write thread place value ex) may are =
     let kept = IsAsLarge-accessed m (Write thread place value ex) may in
     record {
       bytes = stored-byte m.memory place value may.0.inside are.bytes;
       cells = λ i inside. stored_cells m s place value thread (length m.marks) may.0 are i (omega (arith, kept.bytes));
     }
-CellsAre-step classes m s (Fail thread place value cause) may are = record { bytes = are.bytes; cells = are.cells }
-CellsAre-step classes m s (Clear thread) may are = record { bytes = are.bytes; cells = are.cells }
-CellsAre-step classes m s (Watch thread place) may are = record { bytes = are.bytes; cells = are.cells }
-CellsAre-step classes m s (Miss thread place) may are = record { bytes = are.bytes; cells = are.cells }
-CellsAre-step classes m s (Begin thread place) may are = record { bytes = are.bytes; cells = are.cells }
-CellsAre-step classes m s (End thread place) may are = record { bytes = are.bytes; cells = are.cells }
+CellsAre-step size m s (Fail thread place value cause) may are = record { bytes = are.bytes; cells = are.cells }
+CellsAre-step size m s (Clear thread) may are = record { bytes = are.bytes; cells = are.cells }
+CellsAre-step size m s (Watch thread place) may are = record { bytes = are.bytes; cells = are.cells }
+CellsAre-step size m s (Miss thread place) may are = record { bytes = are.bytes; cells = are.cells }
+CellsAre-step size m s (Begin thread place) may are = record { bytes = are.bytes; cells = are.cells }
+CellsAre-step size m s (End thread place) may are = record { bytes = are.bytes; cells = are.cells }
 
-CellsAre-after : (classes : ℕ) (m : Monitor) (s : Standing) (entries : List Entry) → IsArmLegal m entries → CellsAre m s
-    → CellsAre (monitor_after m entries) (standing_after classes s entries)
-CellsAre-after classes m s [] legal are = are
-CellsAre-after classes m s (e ∷ es) legal are = CellsAre-after classes (accessed m e) (joined classes s e) es legal.1 (CellsAre-step classes m s e legal.0 are)
+CellsAre-after : (size : Numbers) (m : Monitor) (s : Standing) (entries : List Entry) → IsArmLegal m entries → CellsAre m s
+    → CellsAre (monitor_after m entries) (standing_after size s entries)
+CellsAre-after size m s [] legal are = are
+CellsAre-after size m s (e ∷ es) legal are = CellsAre-after size (accessed m e) (joined size s e) es legal.1 (CellsAre-step size m s e legal.0 are)
 
 -- from the start on
-pub CellsAre-standing : (classes : ℕ) (bytes : List ℕ) (threads : ℕ) (history : List Entry) → ((k : ℕ) → slice_index bytes k < 256)
-    → IsArmLegal (at_rest bytes threads) history
-    → CellsAre (monitor_after (at_rest bytes threads) history) (standing_after classes (standing_of bytes) history)
-CellsAre-standing classes bytes threads history small legal =
-    CellsAre-after classes (at_rest bytes threads) (standing_of bytes) history legal (record { bytes = small; cells = λ i inside. refl })
+pub CellsAre-standing : (size : Numbers) (bytes : List ℕ) (threads : ℕ) (history : List Entry) → ((k : ℕ) → slice_index bytes k < 256)
+    → IsArmLegal (at_rest_by size.granule bytes threads) history
+    → CellsAre (monitor_after (at_rest_by size.granule bytes threads) history) (standing_after size (standing_of bytes) history)
+CellsAre-standing size bytes threads history small legal =
+    CellsAre-after size (at_rest_by size.granule bytes threads) (standing_of bytes) history legal (record { bytes = small; cells = λ i inside. refl })
 
 -- the value of a place is that of its cell
 pub value_at-CellsAre : (m : Monitor) (s : Standing) (place : Place) (count : ℕ) → CellsAre m s → length m.memory ≡ 8 * count

@@ -6,7 +6,7 @@ use Rattle.llsc_base.specs.Memory.{row_of, size_bytes, stored}
 use Rattle.llsc_base.specs.declared.access.Place.{Place}
 use Rattle.llsc_base.proofs.Cells.{row_of-byte}
 use Rattle.llsc_base.proofs.Stores.{stored-before, stored-past}
-use Rattle.history.specs.Monitor.{Monitor, accessed, at_rest, marked_row, monitor_after, unless_on}
+use Rattle.history.specs.Monitor.{Monitor, accessed, at_rest_by, marked_row, monitor_after, unless_on}
 use Rattle.history.specs.ArmLegal.{IsArmLegal, IsSound, MayAccess}
 use Rattle.history.specs.Marked.{IsUnwrittenSince, KeepsRow, is_load_ex, is_write_in}
 use Rattle.history.specs.Standing.{mark_after}
@@ -14,7 +14,7 @@ use Rattle.history.specs.declared.entry.Entry.{Entry}
 use Rattle.history.specs.declared.entry.Entry.TheVariants.{Read, Write, Fail, Clear, Watch, Miss, Begin, End}
 use Rattle.history.proofs.Ends.{by_ends}
 use Rattle.history.proofs.Appends.{IsArmLegal-front, IsArmLegal-last, monitor_after-push}
-use Rattle.history.proofs.Marks.{mark_step, marked_row-accessed, get_or-replicate_none}
+use Rattle.history.proofs.Marks.{granule-monitor_after, mark_step, marked_row-accessed, get_or-replicate_none}
 
 -- ---- a mark that is left was there before, and a write was elsewhere
 
@@ -34,30 +34,30 @@ kept_after true at mark row h = absurd (let f : ⊥ = cc in f)
 kept_after false at mark row h = kept_on at mark row h
 
 -- a store of another row keeps the row
-pub stored-keeps : (memory : List ℕ) (place : Place) (value row thread threads : ℕ) → IsSound threads (length memory) thread place value
-    → row_of place ≢ row → KeepsRow row memory (stored memory place value)
-stored-keeps memory place value row thread threads sound elsewhere k here = elim (cases_lt k place.addr) [
+pub stored-keeps : (granule : ℕ) (memory : List ℕ) (place : Place) (value row thread threads : ℕ) → IsSound threads (length memory) thread place value
+    → row_of granule place ≢ row → KeepsRow granule row memory (stored memory place value)
+stored-keeps granule memory place value row thread threads sound elsewhere k here = elim (cases_lt k place.addr) [
   | inl low ↦ stored-before memory place value k sound.inside low
   | inr from ↦ elim (cases_lt k (place.addr + size_bytes place.size)) [
-    | inl below ↦ absurd (elsewhere (sym (row_of-byte place k sound.aligned from below) ∙ here))
+    | inl below ↦ absurd (elsewhere (sym (row_of-byte granule place k sound.aligned from below) ∙ here))
     | inr past ↦ stored-past memory place value k sound.inside past
   ]
 ]
 
 -- what an entry that isn't the thread's load-exclusive leaves of its mark, and that it is no write in the row
-left : (m : Monitor) (e : Entry) (t row : ℕ) → MayAccess m e → is_load_ex t e ≡ false → mark_step t (marked_row m t) e ≡ Some row
-    → (marked_row m t ≡ Some row) × KeepsRow row m.memory (accessed m e).memory × (is_write_in row e ≡ false)
+left : (m : Monitor) (e : Entry) (t row : ℕ) → MayAccess m e → is_load_ex t e ≡ false → mark_step m.granule t (marked_row m t) e ≡ Some row
+    → (marked_row m t ≡ Some row) × KeepsRow m.granule row m.memory (accessed m e).memory × (is_write_in m.granule row e ≡ false)
 left m (Read thread place value true) t row may other h = elim (cases_Bool (nat_eq thread t)) [
   | inl own ↦ absurd (let f : ⊥ = (let e : true ≡ false = rw own at other in cc) in f)
   | inr another ↦ (rw another at h, (λ k here. refl), refl)
 ]
 left m (Read thread place value false) t row may other h = (h, (λ k here. refl), refl)
 left m (Write thread place value true) t row may other h =
-    let was = kept_after (nat_eq thread t && true) (row_of place) (marked_row m t) row h in
-    (was.0, stored-keeps m.memory place value row thread (length m.marks) may.0 was.1, ne_eqb (row_of place) row was.1)
+    let was = kept_after (nat_eq thread t && true) (row_of m.granule place) (marked_row m t) row h in
+    (was.0, stored-keeps m.granule m.memory place value row thread (length m.marks) may.0 was.1, ne_eqb (row_of m.granule place) row was.1)
 left m (Write thread place value false) t row may other h =
-    let was = kept_after (nat_eq thread t && false) (row_of place) (marked_row m t) row h in
-    (was.0, stored-keeps m.memory place value row thread (length m.marks) may.0 was.1, ne_eqb (row_of place) row was.1)
+    let was = kept_after (nat_eq thread t && false) (row_of m.granule place) (marked_row m t) row h in
+    (was.0, stored-keeps m.granule m.memory place value row thread (length m.marks) may.0 was.1, ne_eqb (row_of m.granule place) row was.1)
 left m (Fail thread place value cause) t row may other h = (kept_if (nat_eq thread t) (marked_row m t) row h, (λ k here. refl), refl)
 left m (Clear thread) t row may other h = (kept_if (nat_eq thread t) (marked_row m t) row h, (λ k here. refl), refl)
 left m (Watch thread place) t row may other h = (h, (λ k here. refl), refl)
@@ -79,6 +79,9 @@ later start t row entries e before other legal marked =
     let after : accessed m e ≡ monitor_after start (entries ++ e ∷ []) = sym (monitor_after-push start entries e) in
     let here : marked_row (accessed m e) t ≡ Some row = let P : Monitor → Type 0 = λ x. marked_row x t ≡ Some row in subst P (sym after) marked in
     let was = left m e t row next other (sym (marked_row-accessed m e t next) ∙ here) in
+    let width : m.granule ≡ start.granule = granule-monitor_after start entries in
+    let keeps : KeepsRow start.granule row m.memory (accessed m e).memory = subst (λ (g : ℕ). KeepsRow g row m.memory (accessed m e).memory) width was.1 in
+    let no_write : is_write_in start.granule row e ≡ false = subst (λ (g : ℕ). is_write_in g row e ≡ false) width was.2 in
     let since = before (IsArmLegal-front start entries (e ∷ []) legal) was.0 in
     record {
       before = since.before;
@@ -88,8 +91,8 @@ later start t row entries e before other legal marked =
       are = ap (λ (xs : List Entry). xs ++ e ∷ []) since.are ∙ append_assoc since.before (Read t since.place since.value true ∷ since.later) (e ∷ []);
       last = list_any-append (is_load_ex t) since.later (e ∷ []) ∙ or_from _ _ since.last (or_from _ _ other refl);
       of_row = since.of_row;
-      unwritten = list_any-append (is_write_in row) since.later (e ∷ []) ∙ or_from _ _ since.unwritten (or_from _ _ was.2 refl);
-      kept = λ k at. ap (λ (x : Monitor). slice_index x.memory k) (sym after) ∙ was.1 k at ∙ since.kept k at;
+      unwritten = list_any-append (is_write_in start.granule row) since.later (e ∷ []) ∙ or_from _ _ since.unwritten (or_from _ _ no_write refl);
+      kept = λ k at. ap (λ (x : Monitor). slice_index x.memory k) (sym after) ∙ keeps k at ∙ since.kept k at;
     }
 
 record LoadEx (t : ℕ) (e : Entry) : Type 0 where
@@ -121,8 +124,9 @@ just_now start t row entries place value legal marked =
     let next = IsArmLegal-last start entries e legal in
     let after : accessed m e ≡ monitor_after start (entries ++ e ∷ []) = sym (monitor_after-push start entries e) in
     let here : marked_row (accessed m e) t ≡ Some row = let P : Monitor → Type 0 = λ x. marked_row x t ≡ Some row in subst P (sym after) marked in
-    let set : mark_step t (marked_row m t) e ≡ Some row = sym (marked_row-accessed m e t next) ∙ here in
-    let own : Some (row_of place) ≡ Some row = rw (eq-eqb t t refl) at set in
+    let set : mark_step m.granule t (marked_row m t) e ≡ Some row = sym (marked_row-accessed m e t next) ∙ here in
+    let own : Some (row_of m.granule place) ≡ Some row = rw (eq-eqb t t refl) at set in
+    let of : row_of m.granule place ≡ row = cc in
     record {
       before = entries;
       place = place;
@@ -130,7 +134,7 @@ just_now start t row entries place value legal marked =
       later = [];
       are = refl;
       last = refl;
-      of_row = cc;
+      of_row = ap (λ (g : ℕ). row_of g place) (sym (granule-monitor_after start entries)) ∙ of;
       unwritten = refl;
       kept = λ k at. ap (λ (x : Monitor). slice_index x.memory k) (sym after);
     }
@@ -146,21 +150,21 @@ more start t row entries e before = elim (cases_Bool (is_load_ex t e)) [
 
 -- where a thread is marked on a row after accesses that Arm allows, its last load-exclusive read the row, in which nobody
 -- has written since
-pub marks_keep : (bytes : List ℕ) (threads t row : ℕ) (accesses : List Entry) → IsArmLegal (at_rest bytes threads) accesses
-    → marked_row (monitor_after (at_rest bytes threads) accesses) t ≡ Some row → IsUnwrittenSince (at_rest bytes threads) accesses t row
-marks_keep bytes threads t row accesses = by_ends (MarksKeep (at_rest bytes threads) t row)
+pub marks_keep : (granule : ℕ) (bytes : List ℕ) (threads t row : ℕ) (accesses : List Entry) → IsArmLegal (at_rest_by granule bytes threads) accesses
+    → marked_row (monitor_after (at_rest_by granule bytes threads) accesses) t ≡ Some row → IsUnwrittenSince (at_rest_by granule bytes threads) accesses t row
+marks_keep granule bytes threads t row accesses = by_ends (MarksKeep (at_rest_by granule bytes threads) t row)
     (λ legal marked. absurd (let none : None ≡ Some row = sym (get_or-replicate_none threads t) ∙ marked in let f : ⊥ = cc in f))
-    (more (at_rest bytes threads) t row)
+    (more (at_rest_by granule bytes threads) t row)
     accesses
 
 -- where a store-exclusive succeeds its thread is marked on its row
-pub store_keeps : (bytes : List ℕ) (threads thread : ℕ) (place : Place) (value : ℕ) (front back : List Entry)
-    → IsArmLegal (at_rest bytes threads) (front ++ (Write thread place value true ∷ back))
-    → IsUnwrittenSince (at_rest bytes threads) front thread (row_of place)
-store_keeps bytes threads thread place value front back legal =
-    let start = at_rest bytes threads in
+pub store_keeps : (granule : ℕ) (bytes : List ℕ) (threads thread : ℕ) (place : Place) (value : ℕ) (front back : List Entry)
+    → IsArmLegal (at_rest_by granule bytes threads) (front ++ (Write thread place value true ∷ back))
+    → IsUnwrittenSince (at_rest_by granule bytes threads) front thread (row_of granule place)
+store_keeps granule bytes threads thread place value front back legal =
+    let start = at_rest_by granule bytes threads in
     let e = Write thread place value true in
     let whole : IsArmLegal start ((front ++ e ∷ []) ++ back) = subst (IsArmLegal start) (sym (append_assoc front (e ∷ []) back)) legal in
     let with_it = IsArmLegal-front start (front ++ e ∷ []) back whole in
-    marks_keep bytes threads thread (row_of place) front (IsArmLegal-front start front (e ∷ []) with_it)
-    ((IsArmLegal-last start front e with_it).1 refl)
+    marks_keep granule bytes threads thread (row_of granule place) front (IsArmLegal-front start front (e ∷ []) with_it)
+    ((IsArmLegal-last start front e with_it).1 refl ∙ ap (λ (g : ℕ). Some (row_of g place)) (granule-monitor_after start front))

@@ -1,5 +1,5 @@
 -- A history is legal exactly where each of its entries may come as things stand.
-use Rattle.std.proofs.Common.{◌≡◌, ◌≢◌, ℕ, ◌*◌, ◌/◌, ◌%◌, ◌<◌, true, false, List, [], ◌∷◌, ◌++◌, Option, None, length, nat_eq, slice_index, refl, sym, ap, subst, ◌∙◌, inl, inr, arith}
+use Rattle.std.proofs.Common.{Some, ◌≡◌, ◌≢◌, ℕ, ◌*◌, ◌/◌, ◌%◌, ◌<◌, true, false, List, [], ◌∷◌, ◌++◌, Option, None, length, nat_eq, slice_index, refl, sym, ap, subst, ◌∙◌, inl, inr, arith}
 use Rattle.std.proofs.lemmas.List.{length-replicate}
 use Rattle.std.proofs.lemmas.Bool.{cases_Bool, eq-eqb, eqb-true, eqb-false}
 use Rattle.llsc_base.specs.Memory.{cell_of, row_of, value_at}
@@ -8,7 +8,7 @@ use Rattle.llsc_base.specs.declared.access.Place.{Place}
 use Rattle.row_bytes.specs.Cell.{value_in_cell}
 use Rattle.history.specs.Entry.{thread_of}
 use Rattle.history.specs.Parts.{entries_of}
-use Rattle.history.specs.Monitor.{Monitor, at_rest, marked_row, monitor_after}
+use Rattle.history.specs.Monitor.{Monitor, at_rest_by, marked_row, monitor_after}
 use Rattle.history.specs.ArmLegal.{IsArmLegal, IsSound, MayAccess}
 use Rattle.history.specs.Cause.{HasCause, MayFail, flight_of}
 use Rattle.history.specs.Legal.{IsComplete, IsLegal}
@@ -41,19 +41,21 @@ record Ties (size : Numbers) (m : Monitor) (s : Standing) : Type 0 where
   threads : length m.marks ≡ size.threads
   whole : size.mem ≡ 8 * (size.mem / 8)
   cells : CellsAre m s
+  granule : m.granule ≡ size.granule
   marks : (t : ℕ) → marked_row m t ≡ s.mark t
 
-ties : (size : Numbers) (bytes : List ℕ) (history : List Entry) → IsMemory size bytes → IsArmLegal (at_rest bytes size.threads) history
-    → Ties size (monitor_after (at_rest bytes size.threads) history) (standing_after size.classes (standing_of bytes) history)
+ties : (size : Numbers) (bytes : List ℕ) (history : List Entry) → IsMemory size bytes → IsArmLegal (at_rest_by size.granule bytes size.threads) history
+    → Ties size (monitor_after (at_rest_by size.granule bytes size.threads) history) (standing_after size (standing_of bytes) history)
 ties size bytes history memory legal =
-    let large = IsAsLarge-monitor_after (at_rest bytes size.threads) history legal in
+    let large = IsAsLarge-monitor_after (at_rest_by size.granule bytes size.threads) history legal in
     let whole = memory.whole in
     record {
       bytes = large.bytes ∙ memory.sized;
       threads = large.threads ∙ length-replicate size.threads None;
       whole = omega arith;
-      cells = CellsAre-standing size.classes bytes size.threads history memory.small legal;
-      marks = λ t. marked_row-standing size.classes bytes size.threads t history legal;
+      cells = CellsAre-standing size bytes size.threads history memory.small legal;
+      granule = large.granule;
+      marks = λ t. marked_row-standing size bytes size.threads t history legal;
     }
 
 sound_here : (size : Numbers) (m : Monitor) (s : Standing) (t : ℕ) (place : Place) (value : ℕ) → Ties size m s
@@ -72,7 +74,7 @@ value_is size m s t place value tie sound =
 may_access : (size : Numbers) (m : Monitor) (s : Standing) (e : Entry) → Ties size m s → MayJoin size s e → MayAccess m e
 may_access size m s (Read t place value true) tie may = (sound_here size m s t place value tie may.1, may.2 ∙ sym (value_is size m s t place value tie may.1))
 may_access size m s (Read t place value false) tie may = (sound_here size m s t place value tie may.1, may.2 ∙ sym (value_is size m s t place value tie may.1))
-may_access size m s (Write t place value ex) tie may = (sound_here size m s t place value tie may.1, λ x. tie.marks t ∙ may.2 x)
+may_access size m s (Write t place value ex) tie may = (sound_here size m s t place value tie may.1, λ x. tie.marks t ∙ may.2 x ∙ ap (λ (g : ℕ). Some (row_of g place)) (sym tie.granule))
 may_access size m s (Fail t place value cause) tie may = sound_here size m s t place value tie may.1
 may_access size m s (Clear t) tie may = rw tie.threads may.1
 may_access size m s (Watch t place) tie may = tt
@@ -105,7 +107,7 @@ flight_other t flight (End thread place) other = rw other refl
 
 abbrev FlightIs : Numbers → List ℕ → ℕ → List Entry → Type 0
 FlightIs size bytes t history = MayFollow size (standing_of bytes) history
-    → flight_of t history ≡ flight_at ((standing_after size.classes (standing_of bytes) history).stage t)
+    → flight_of t history ≡ flight_at ((standing_after size (standing_of bytes) history).stage t)
 
 -- the write of a thread that is in flight is that of its stage
 pub flight_of-standing : (size : Numbers) (bytes : List ℕ) (t : ℕ) (history : List Entry) → FlightIs size bytes t history
@@ -113,12 +115,12 @@ flight_of-standing size bytes t history = by_ends (FlightIs size bytes t) (λ _.
   where
     more : (entries : List Entry) (e : Entry) → FlightIs size bytes t entries → FlightIs size bytes t (entries ++ e ∷ [])
     more entries e before follows =
-        let s = standing_after size.classes (standing_of bytes) entries in
+        let s = standing_after size (standing_of bytes) entries in
         let was = before (MayFollow-front size (standing_of bytes) entries (e ∷ []) follows) in
         let may = MayFollow-last size (standing_of bytes) entries e follows in
-        let new : (standing_after size.classes (standing_of bytes) (entries ++ e ∷ [])).stage t ≡ updated s.stage (thread_of e) (stage_after e) t =
-        ap (λ (x : Standing). x.stage t) (standing_after-push size.classes (standing_of bytes) entries e)
-        ∙ ap (λ (f : ℕ → Stage). f t) (joined-stage size.classes s e) in
+        let new : (standing_after size (standing_of bytes) (entries ++ e ∷ [])).stage t ≡ updated s.stage (thread_of e) (stage_after e) t =
+        ap (λ (x : Standing). x.stage t) (standing_after-push size (standing_of bytes) entries e)
+        ∙ ap (λ (f : ℕ → Stage). f t) (joined-stage size s e) in
         flight_of-push t entries e ∙ ap (λ (f : Option Place). flight_step t f e) was ∙ elim (cases_Bool (nat_eq (thread_of e) t)) [
           | inl own ↦
               let same : thread_of e ≡ t = eqb-true (thread_of e) t own in
@@ -135,32 +137,32 @@ flight_of-standing size bytes t history = by_ends (FlightIs size bytes t) (λ _.
 -- ---- causes
 
 fails_here : (size : Numbers) (bytes : List ℕ) (past : List Entry) (t : ℕ) (place : Place) (cause : Cause)
-    → MayFailAt size (standing_after size.classes (standing_of bytes) past) t (row_of place) cause → MayFail size past t place cause
-fails_here size bytes past t place Absent may = λ reserved. may (sym (reservation_of-standing size.classes t bytes past) ∙ reserved)
+    → MayFailAt size (standing_after size (standing_of bytes) past) t (row_of size.granule place) cause → MayFail size past t place cause
+fails_here size bytes past t place Absent may = λ reserved. may (sym (reservation_of-standing size t bytes past) ∙ reserved)
 fails_here size bytes past t place Lost may =
-    let reserved = reservation_of-standing size.classes t bytes past ∙ may.0 in
-    (reserved, passed-standing size.classes t (row_of place) bytes past reserved ∙ may.1)
+    let reserved = reservation_of-standing size t bytes past ∙ may.0 in
+    (reserved, passed-standing size t (row_of size.granule place) bytes past reserved ∙ may.1)
 fails_here size bytes past t place Limit may =
-    let reserved = reservation_of-standing size.classes t bytes past ∙ may.0 in (
+    let reserved = reservation_of-standing size t bytes past ∙ may.0 in (
       reserved,
-      overtaken-standing size.classes t (row_of place) bytes past reserved ∙ may.1,
-      rw (writes_in_class-standing size.classes (row_of place) bytes past) at may.2,
+      overtaken-standing size t (row_of size.granule place) bytes past reserved ∙ may.1,
+      rw (writes_in_class-standing size (row_of size.granule place) bytes past) at may.2,
     )
 
 fails_there : (size : Numbers) (bytes : List ℕ) (past : List Entry) (t : ℕ) (place : Place) (cause : Cause)
-    → MayFail size past t place cause → MayFailAt size (standing_after size.classes (standing_of bytes) past) t (row_of place) cause
-fails_there size bytes past t place Absent may = λ reserved. may (reservation_of-standing size.classes t bytes past ∙ reserved)
+    → MayFail size past t place cause → MayFailAt size (standing_after size (standing_of bytes) past) t (row_of size.granule place) cause
+fails_there size bytes past t place Absent may = λ reserved. may (reservation_of-standing size t bytes past ∙ reserved)
 fails_there size bytes past t place Lost may =
-    (sym (reservation_of-standing size.classes t bytes past) ∙ may.0, sym (passed-standing size.classes t (row_of place) bytes past may.0) ∙ may.1)
+    (sym (reservation_of-standing size t bytes past) ∙ may.0, sym (passed-standing size t (row_of size.granule place) bytes past may.0) ∙ may.1)
 fails_there size bytes past t place Limit may = (
-  sym (reservation_of-standing size.classes t bytes past) ∙ may.0,
-  sym (overtaken-standing size.classes t (row_of place) bytes past may.0) ∙ may.1,
-  rw (writes_in_class-standing size.classes (row_of place) bytes past) may.2,
+  sym (reservation_of-standing size t bytes past) ∙ may.0,
+  sym (overtaken-standing size t (row_of size.granule place) bytes past may.0) ∙ may.1,
+  rw (writes_in_class-standing size (row_of size.granule place) bytes past) may.2,
 )
 
 -- an entry that may come has its cause
 cause_here : (size : Numbers) (bytes : List ℕ) (past : List Entry) (e : Entry) → MayFollow size (standing_of bytes) past
-    → MayJoin size (standing_after size.classes (standing_of bytes) past) e → HasCause size past e
+    → MayJoin size (standing_after size (standing_of bytes) past) e → HasCause size past e
 cause_here size bytes past (Fail t place value cause) follows may = fails_here size bytes past t place cause may.2
 cause_here size bytes past (Miss t place) follows may = record {
   other = may.1.other;
@@ -178,20 +180,20 @@ cause_here size bytes past (End t place) follows may = tt
 
 -- an entry that is at its stage, that Arm allows and that has its cause may come
 may_join : (size : Numbers) (bytes : List ℕ) (past : List Entry) (e : Entry) (m : Monitor)
-    → Ties size m (standing_after size.classes (standing_of bytes) past) → MayFollow size (standing_of bytes) past
-    → (standing_after size.classes (standing_of bytes) past).stage (thread_of e) ≡ stage_before e → MayAccess m e → HasCause size past e
-    → MayJoin size (standing_after size.classes (standing_of bytes) past) e
+    → Ties size m (standing_after size (standing_of bytes) past) → MayFollow size (standing_of bytes) past
+    → (standing_after size (standing_of bytes) past).stage (thread_of e) ≡ stage_before e → MayAccess m e → HasCause size past e
+    → MayJoin size (standing_after size (standing_of bytes) past) e
 may_join size bytes past (Read t place value true) m tie follows stage may cause =
-    let s = standing_after size.classes (standing_of bytes) past in
+    let s = standing_after size (standing_of bytes) past in
     let sound = sound_there size m s t place value tie may.0 in (stage, sound, may.1 ∙ value_is size m s t place value tie sound)
 may_join size bytes past (Read t place value false) m tie follows stage may cause =
-    let s = standing_after size.classes (standing_of bytes) past in
+    let s = standing_after size (standing_of bytes) past in
     let sound = sound_there size m s t place value tie may.0 in (stage, sound, may.1 ∙ value_is size m s t place value tie sound)
 may_join size bytes past (Write t place value ex) m tie follows stage may cause =
-    let s = standing_after size.classes (standing_of bytes) past in
-    (stage, sound_there size m s t place value tie may.0, λ x. sym (tie.marks t) ∙ may.1 x)
+    let s = standing_after size (standing_of bytes) past in
+    (stage, sound_there size m s t place value tie may.0, λ x. sym (tie.marks t) ∙ may.1 x ∙ ap (λ (g : ℕ). Some (row_of g place)) tie.granule)
 may_join size bytes past (Fail t place value c) m tie follows stage may cause =
-    let s = standing_after size.classes (standing_of bytes) past in
+    let s = standing_after size (standing_of bytes) past in
     (stage, sound_there size m s t place value tie may, fails_there size bytes past t place c cause)
 may_join size bytes past (Clear t) m tie follows stage may cause = (stage, rw tie.threads at may)
 may_join size bytes past (Watch t place) m tie follows stage may cause = stage
@@ -211,22 +213,22 @@ may_join size bytes past (End t place) m tie follows stage may cause = stage
 -- ---- a history whose entries follow is legal
 
 abbrev Allowed : Numbers → List ℕ → List Entry → Type 0
-Allowed size bytes history = MayFollow size (standing_of bytes) history → IsArmLegal (at_rest bytes size.threads) history
+Allowed size bytes history = MayFollow size (standing_of bytes) history → IsArmLegal (at_rest_by size.granule bytes size.threads) history
 
 pub IsArmLegal-MayFollow : (size : Numbers) (bytes : List ℕ) → IsMemory size bytes → (history : List Entry)
-    → MayFollow size (standing_of bytes) history → IsArmLegal (at_rest bytes size.threads) history
+    → MayFollow size (standing_of bytes) history → IsArmLegal (at_rest_by size.granule bytes size.threads) history
 IsArmLegal-MayFollow size bytes memory history = by_ends (Allowed size bytes) (λ _. tt) more history
   where
     more : (entries : List Entry) (e : Entry) → Allowed size bytes entries → Allowed size bytes (entries ++ e ∷ [])
     more entries e before follows =
         let legal = before (MayFollow-front size (standing_of bytes) entries (e ∷ []) follows) in
-        IsArmLegal-push (at_rest bytes size.threads) entries e legal
+        IsArmLegal-push (at_rest_by size.granule bytes size.threads) entries e legal
         (may_access size _ _ e (ties size bytes entries memory legal) (MayFollow-last size (standing_of bytes) entries e follows))
 
 pub IsLegal-MayFollow : (size : Numbers) (bytes : List ℕ) (history : List Entry) → IsMemory size bytes
     → MayFollow size (standing_of bytes) history → IsLegal size bytes history
 IsLegal-MayFollow size bytes history memory follows = record {
-  accesses = IsArmLegal-to_accesses_of (at_rest bytes size.threads) history (IsArmLegal-MayFollow size bytes memory history follows);
+  accesses = IsArmLegal-to_accesses_of (at_rest_by size.granule bytes size.threads) history (IsArmLegal-MayFollow size bytes memory history follows);
   operations = λ t. AreOperations-AreStaged t history (AreStaged-MayFollow size (standing_of bytes) t history follows);
   causes = λ past entry rest are.
       let P : List Entry → Type 0 = λ xs. MayFollow size (standing_of bytes) xs in
@@ -251,7 +253,7 @@ MayFollow-IsLegal size bytes memory history = by_ends (Followed size bytes) (λ 
   where
     more : (entries : List Entry) (e : Entry) → Followed size bytes entries → Followed size bytes (entries ++ e ∷ [])
     more entries e before legal =
-        let start = at_rest bytes size.threads in
+        let start = at_rest_by size.granule bytes size.threads in
         let t = thread_of e in
         let follows = before (IsLegal-front size bytes entries (e ∷ []) legal) in
         let accesses = IsArmLegal-from_accesses_of start (entries ++ e ∷ []) legal.accesses in
@@ -260,7 +262,7 @@ MayFollow-IsLegal size bytes memory history = by_ends (Followed size bytes) (λ 
         let P : List Entry → Type 0 = λ xs. AreStaged rests xs in
         let parts : entries_of t (entries ++ e ∷ []) ≡ entries_of t entries ++ e ∷ [] =
         entries_of-append t entries (e ∷ []) ∙ ap (λ (xs : List Entry). entries_of t entries ++ xs) own in
-        let stage = last_stage-standing size.classes (standing_of bytes) t entries ∙ last_staged rests (entries_of t entries) e (subst P parts staged) in
+        let stage = last_stage-standing size (standing_of bytes) t entries ∙ last_staged rests (entries_of t entries) e (subst P parts staged) in
         MayFollow-push size (standing_of bytes) entries e follows
         (may_join size bytes entries e (monitor_after start entries)
         (ties size bytes entries memory (IsArmLegal-front start entries (e ∷ []) accesses)) follows stage
@@ -270,12 +272,12 @@ MayFollow-IsLegal size bytes memory history = by_ends (Followed size bytes) (λ 
 -- ---- complete histories
 
 pub IsComplete-rests : (size : Numbers) (bytes : List ℕ) (history : List Entry) → MayFollow size (standing_of bytes) history
-    → ((t : ℕ) → (standing_after size.classes (standing_of bytes) history).stage t ≡ rests) → IsComplete history
+    → ((t : ℕ) → (standing_after size (standing_of bytes) history).stage t ≡ rests) → IsComplete history
 IsComplete-rests size bytes history follows at t =
     AreFinished-AreStaged t history (AreStaged-MayFollow size (standing_of bytes) t history follows)
-    (sym (last_stage-standing size.classes (standing_of bytes) t history) ∙ at t)
+    (sym (last_stage-standing size (standing_of bytes) t history) ∙ at t)
 
-pub rests-IsComplete : (classes : ℕ) (bytes : List ℕ) (history : List Entry) → IsComplete history
-    → (t : ℕ) → (standing_after classes (standing_of bytes) history).stage t ≡ rests
-rests-IsComplete classes bytes history complete t =
-    last_stage-standing classes (standing_of bytes) t history ∙ last_stage-AreFinished t (entries_of t history) (complete t)
+pub rests-IsComplete : (size : Numbers) (bytes : List ℕ) (history : List Entry) → IsComplete history
+    → (t : ℕ) → (standing_after size (standing_of bytes) history).stage t ≡ rests
+rests-IsComplete size bytes history complete t =
+    last_stage-standing size (standing_of bytes) t history ∙ last_stage-AreFinished t (entries_of t history) (complete t)

@@ -2,7 +2,7 @@
 use Rattle.std.proofs.Common.{ℕ, List, ◌∷◌, ◌++◌, ap, subst, ◌∙◌, append_assoc}
 use Rattle.llsc_base.specs.Sizes.{Numbers}
 use Rattle.history.specs.Parts.{accesses_of, entries_of}
-use Rattle.history.specs.Monitor.{at_rest}
+use Rattle.history.specs.Monitor.{at_rest_by}
 use Rattle.history.specs.ArmLegal.{IsArmLegal}
 use Rattle.history.specs.Operation.{AreFinished, AreOperations}
 use Rattle.history.specs.Legal.{IsLegal}
@@ -17,8 +17,8 @@ AreOperations-front thread front back h =
 pub IsLegal-front : (size : Numbers) (bytes : List ℕ) (front back : List Entry) → IsLegal size bytes (front ++ back) → IsLegal size bytes front
 IsLegal-front size bytes front back h = record {
   accesses =
-      IsArmLegal-front (at_rest bytes size.threads) (accesses_of front) (accesses_of back)
-      (subst (IsArmLegal (at_rest bytes size.threads)) (accesses_of-append front back) h.accesses);
+      IsArmLegal-front (at_rest_by size.granule bytes size.threads) (accesses_of front) (accesses_of back)
+      (subst (IsArmLegal (at_rest_by size.granule bytes size.threads)) (accesses_of-append front back) h.accesses);
   operations = λ thread.
       AreOperations-front thread (entries_of thread front) (entries_of thread back)
       (subst (AreOperations thread) (entries_of-append thread front back) (h.operations thread));

@@ -37,13 +37,13 @@ entries_of-other t history e other =
 
 -- a legal history with one more entry that may come next is legal
 pub IsLegal-push : (size : Numbers) (bytes : List ℕ) (history : List Entry) (e : Entry) → IsMemory size bytes → IsLegal size bytes history
-    → MayJoin size (standing_after size.classes (standing_of bytes) history) e → IsLegal size bytes (history ++ e ∷ [])
+    → MayJoin size (standing_after size (standing_of bytes) history) e → IsLegal size bytes (history ++ e ∷ [])
 IsLegal-push size bytes history e memory legal may =
     IsLegal-MayFollow size bytes (history ++ e ∷ []) memory
     (MayFollow-push size (standing_of bytes) history e (MayFollow-IsLegal size bytes memory history legal) may)
 
 -- the last entry of a legal history may come where it does
 pub IsLegal-last : (size : Numbers) (bytes : List ℕ) (history : List Entry) (e : Entry) → IsMemory size bytes
-    → IsLegal size bytes (history ++ e ∷ []) → MayJoin size (standing_after size.classes (standing_of bytes) history) e
+    → IsLegal size bytes (history ++ e ∷ []) → MayJoin size (standing_after size (standing_of bytes) history) e
 IsLegal-last size bytes history e memory legal =
     MayFollow-last size (standing_of bytes) history e (MayFollow-IsLegal size bytes memory (history ++ e ∷ []) legal)

@@ -46,15 +46,15 @@ last_stage stage [] = stage
 last_stage stage (e ∷ es) = last_stage (stage_after e) es
 
 -- how things stand of the stages
-pub joined-stage : (classes : ℕ) (s : Standing) (e : Entry) → (joined classes s e).stage ≡ updated s.stage (thread_of e) (stage_after e)
-joined-stage classes s (Read thread place value ex) = refl
-joined-stage classes s (Write thread place value ex) = refl
-joined-stage classes s (Fail thread place value cause) = refl
-joined-stage classes s (Clear thread) = refl
-joined-stage classes s (Watch thread place) = refl
-joined-stage classes s (Miss thread place) = refl
-joined-stage classes s (Begin thread place) = refl
-joined-stage classes s (End thread place) = refl
+pub joined-stage : (size : Numbers) (s : Standing) (e : Entry) → (joined size s e).stage ≡ updated s.stage (thread_of e) (stage_after e)
+joined-stage size s (Read thread place value ex) = refl
+joined-stage size s (Write thread place value ex) = refl
+joined-stage size s (Fail thread place value cause) = refl
+joined-stage size s (Clear thread) = refl
+joined-stage size s (Watch thread place) = refl
+joined-stage size s (Miss thread place) = refl
+joined-stage size s (Begin thread place) = refl
+joined-stage size s (End thread place) = refl
 
 pub MayJoin-stage : (size : Numbers) (s : Standing) (e : Entry) → MayJoin size s e → s.stage (thread_of e) ≡ stage_before e
 MayJoin-stage size s (Read thread place value true) may = may.0
@@ -80,40 +80,40 @@ AreStaged-MayFollow size s t [] follows = tt
 AreStaged-MayFollow size s t (e ∷ es) follows = elim (cases_Bool (nat_eq (thread_of e) t)) [
   | inl own ↦
       let same : thread_of e ≡ t = eqb-true (thread_of e) t own in
-      let new : (joined size.classes s e).stage t ≡ stage_after e =
-      ap (λ (f : ℕ → Stage). f t) (joined-stage size.classes s e)
+      let new : (joined size s e).stage t ≡ stage_after e =
+      ap (λ (f : ℕ → Stage). f t) (joined-stage size s e)
       ∙ ap (updated s.stage (thread_of e) (stage_after e)) (sym same)
       ∙ updated-same s.stage (thread_of e) (stage_after e) in
-      let rest : AreStaged (stage_after e) (entries_of t es) = subst (λ (x : Stage). AreStaged x (entries_of t es)) new (AreStaged-MayFollow size (joined size.classes s e) t es follows.1) in
+      let rest : AreStaged (stage_after e) (entries_of t es) = subst (λ (x : Stage). AreStaged x (entries_of t es)) new (AreStaged-MayFollow size (joined size s e) t es follows.1) in
       let first : s.stage t ≡ stage_before e = ap s.stage (sym same) ∙ MayJoin-stage size s e follows.0 in
       subst (AreStaged (s.stage t)) (sym (entries_of-own t e es own)) (first, rest)
   | inr other ↦
       let ne : t ≢ thread_of e = λ same. eqb-false (thread_of e) t other (sym same) in
-      let new : (joined size.classes s e).stage t ≡ s.stage t =
-      ap (λ (f : ℕ → Stage). f t) (joined-stage size.classes s e) ∙ updated-other s.stage (thread_of e) (stage_after e) t ne in
-      let rest : AreStaged (s.stage t) (entries_of t es) = subst (λ (x : Stage). AreStaged x (entries_of t es)) new (AreStaged-MayFollow size (joined size.classes s e) t es follows.1) in
+      let new : (joined size s e).stage t ≡ s.stage t =
+      ap (λ (f : ℕ → Stage). f t) (joined-stage size s e) ∙ updated-other s.stage (thread_of e) (stage_after e) t ne in
+      let rest : AreStaged (s.stage t) (entries_of t es) = subst (λ (x : Stage). AreStaged x (entries_of t es)) new (AreStaged-MayFollow size (joined size s e) t es follows.1) in
       subst (AreStaged (s.stage t)) (sym (entries_of-other t e es other)) rest
 ]
 
 -- the stage of a thread is that after its entries
-pub last_stage-standing : (classes : ℕ) (s : Standing) (t : ℕ) (history : List Entry)
-    → (standing_after classes s history).stage t ≡ last_stage (s.stage t) (entries_of t history)
-last_stage-standing classes s t [] = refl
-last_stage-standing classes s t (e ∷ es) = elim (cases_Bool (nat_eq (thread_of e) t)) [
+pub last_stage-standing : (size : Numbers) (s : Standing) (t : ℕ) (history : List Entry)
+    → (standing_after size s history).stage t ≡ last_stage (s.stage t) (entries_of t history)
+last_stage-standing size s t [] = refl
+last_stage-standing size s t (e ∷ es) = elim (cases_Bool (nat_eq (thread_of e) t)) [
   | inl own ↦
       let same : thread_of e ≡ t = eqb-true (thread_of e) t own in
-      let new : (joined classes s e).stage t ≡ stage_after e =
-      ap (λ (f : ℕ → Stage). f t) (joined-stage classes s e)
+      let new : (joined size s e).stage t ≡ stage_after e =
+      ap (λ (f : ℕ → Stage). f t) (joined-stage size s e)
       ∙ ap (updated s.stage (thread_of e) (stage_after e)) (sym same)
       ∙ updated-same s.stage (thread_of e) (stage_after e) in
-      last_stage-standing classes (joined classes s e) t es
+      last_stage-standing size (joined size s e) t es
       ∙ ap (λ (x : Stage). last_stage x (entries_of t es)) new
       ∙ sym (ap (last_stage (s.stage t)) (entries_of-own t e es own))
   | inr other ↦
       let ne : t ≢ thread_of e = λ same. eqb-false (thread_of e) t other (sym same) in
-      let new : (joined classes s e).stage t ≡ s.stage t =
-      ap (λ (f : ℕ → Stage). f t) (joined-stage classes s e) ∙ updated-other s.stage (thread_of e) (stage_after e) t ne in
-      last_stage-standing classes (joined classes s e) t es
+      let new : (joined size s e).stage t ≡ s.stage t =
+      ap (λ (f : ℕ → Stage). f t) (joined-stage size s e) ∙ updated-other s.stage (thread_of e) (stage_after e) t ne in
+      last_stage-standing size (joined size s e) t es
       ∙ ap (λ (x : Stage). last_stage x (entries_of t es)) new
       ∙ sym (ap (last_stage (s.stage t)) (entries_of-other t e es other))
 ]

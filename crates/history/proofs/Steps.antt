@@ -2,6 +2,7 @@
 use Rattle.std.proofs.Common.{◌≡◌, ℕ, ◌&&◌, ◌||◌, Bool, true, false, if◌then◌else◌, List, [], ◌∷◌, ◌++◌, Option, Some, None, nat_eq, refl, sym, ap, ◌∙◌}
 use Rattle.std.specs.List.{list_any}
 use Rattle.std.proofs.lemmas.List.Folds.{list_any-append}
+use Rattle.llsc_base.specs.Sizes.{Numbers}
 use Rattle.llsc_base.specs.Memory.{class_of, row_of}
 use Rattle.llsc_base.specs.declared.access.Place.{Place}
 use Rattle.history.specs.Since.{Since, begin_of, is_end_of, or_here, since_last, watch_of}
@@ -86,39 +87,39 @@ flight_of-push t entries entry = ap (flight_since t) (since_last-push (begin_of 
 -- ---- the reservation of a thread
 
 -- it, after one more entry
-abbrev pub reserved_step : ℕ → ℕ → Option ℕ → Entry → Option ℕ
-reserved_step classes t reserved (Write thread place value ex) = if nat_eq thread t && ex then None else reserved
-reserved_step classes t reserved (Fail thread place value cause) = if nat_eq thread t then None else reserved
-reserved_step classes t reserved (Clear thread) = if nat_eq thread t then None else reserved
-reserved_step classes t reserved (Watch thread place) = if nat_eq thread t then Some (row_of place) else reserved
-reserved_step classes t reserved (Miss thread place) = if nat_eq thread t then None else reserved
-reserved_step classes t reserved (Begin thread place) =
-    if nat_eq thread t && is_of_class classes (class_of classes (row_of place)) reserved then None else reserved
-reserved_step classes t reserved _ = reserved
+abbrev pub reserved_step : Numbers → ℕ → Option ℕ → Entry → Option ℕ
+reserved_step size t reserved (Write thread place value ex) = if nat_eq thread t && ex then None else reserved
+reserved_step size t reserved (Fail thread place value cause) = if nat_eq thread t then None else reserved
+reserved_step size t reserved (Clear thread) = if nat_eq thread t then None else reserved
+reserved_step size t reserved (Watch thread place) = if nat_eq thread t then Some (row_of size.granule place) else reserved
+reserved_step size t reserved (Miss thread place) = if nat_eq thread t then None else reserved
+reserved_step size t reserved (Begin thread place) =
+    if nat_eq thread t && is_of_class size (class_of size.classes (row_of size.granule place)) reserved then None else reserved
+reserved_step size t reserved _ = reserved
 
 -- how things stand of it
-pub joined-reserved : (classes : ℕ) (s : Standing) (e : Entry) (t : ℕ) → (joined classes s e).reserved t ≡ reserved_step classes t (s.reserved t) e
-joined-reserved classes s (Read thread place value ex) t = refl
-joined-reserved classes s (Write thread place value ex) t = refl
-joined-reserved classes s (Fail thread place value cause) t = refl
-joined-reserved classes s (Clear thread) t = refl
-joined-reserved classes s (Watch thread place) t = refl
-joined-reserved classes s (Miss thread place) t = refl
-joined-reserved classes s (Begin thread place) t = refl
-joined-reserved classes s (End thread place) t = refl
+pub joined-reserved : (size : Numbers) (s : Standing) (e : Entry) (t : ℕ) → (joined size s e).reserved t ≡ reserved_step size t (s.reserved t) e
+joined-reserved size s (Read thread place value ex) t = refl
+joined-reserved size s (Write thread place value ex) t = refl
+joined-reserved size s (Fail thread place value cause) t = refl
+joined-reserved size s (Clear thread) t = refl
+joined-reserved size s (Watch thread place) t = refl
+joined-reserved size s (Miss thread place) t = refl
+joined-reserved size s (Begin thread place) t = refl
+joined-reserved size s (End thread place) t = refl
 
 -- what an entry leaves of a reservation, where it isn't a Watch of the thread
-abbrev ended : ℕ → ℕ → Entry → Option ℕ → Option ℕ
-ended classes t entry None = None
-ended classes t entry (Some row) = if ends_reservation classes t row entry then None else Some row
+abbrev ended : Numbers → ℕ → Entry → Option ℕ → Option ℕ
+ended size t entry None = None
+ended size t entry (Some row) = if ends_reservation size t row entry then None else Some row
 
-kept : (classes t : ℕ) (old : Option Since) (entry : Entry)
-    → reserved_since classes t (since_step old None entry) ≡ ended classes t entry (reserved_since classes t old)
-kept classes t None entry = refl
-kept classes t (Some since) entry =
-    let row = row_of since.place in
-    rw (any-push (ends_reservation classes t row) since.later entry)
-    (elim (list_any (ends_reservation classes t row) since.later) as (λ a. (if a || ends_reservation classes t row entry then None else Some row) ≡ ended classes t entry (if a then None else Some row)) [
+kept : (size : Numbers) (t : ℕ) (old : Option Since) (entry : Entry)
+    → reserved_since size t (since_step old None entry) ≡ ended size t entry (reserved_since size t old)
+kept size t None entry = refl
+kept size t (Some since) entry =
+    let row = row_of size.granule since.place in
+    rw (any-push (ends_reservation size t row) since.later entry)
+    (elim (list_any (ends_reservation size t row) since.later) as (λ a. (if a || ends_reservation size t row entry then None else Some row) ≡ ended size t entry (if a then None else Some row)) [
       | true ↦ refl
       | false ↦ refl
     ])
@@ -127,71 +128,71 @@ none_left : (b : Bool) → (let n : Option ℕ = None in n) ≡ (if b then None 
 none_left true = refl
 none_left false = refl
 
-ended-own : (classes t thread : ℕ) (place : Place) (value : ℕ) (ex : Bool) (reserved : Option ℕ)
-    → ended classes t (Write thread place value ex) reserved ≡ (if nat_eq thread t && ex then None else reserved)
-ended-own classes t thread place value ex None = none_left (nat_eq thread t && ex)
-ended-own classes t thread place value ex (Some row) = refl
+ended-own : (size : Numbers) (t thread : ℕ) (place : Place) (value : ℕ) (ex : Bool) (reserved : Option ℕ)
+    → ended size t (Write thread place value ex) reserved ≡ (if nat_eq thread t && ex then None else reserved)
+ended-own size t thread place value ex None = none_left (nat_eq thread t && ex)
+ended-own size t thread place value ex (Some row) = refl
 
-ended-fail : (classes t thread : ℕ) (place : Place) (value : ℕ) (cause : Cause) (reserved : Option ℕ)
-    → ended classes t (Fail thread place value cause) reserved ≡ (if nat_eq thread t then None else reserved)
-ended-fail classes t thread place value cause None = none_left (nat_eq thread t)
-ended-fail classes t thread place value cause (Some row) = refl
+ended-fail : (size : Numbers) (t thread : ℕ) (place : Place) (value : ℕ) (cause : Cause) (reserved : Option ℕ)
+    → ended size t (Fail thread place value cause) reserved ≡ (if nat_eq thread t then None else reserved)
+ended-fail size t thread place value cause None = none_left (nat_eq thread t)
+ended-fail size t thread place value cause (Some row) = refl
 
-ended-clear : (classes t thread : ℕ) (reserved : Option ℕ) → ended classes t (Clear thread) reserved ≡ (if nat_eq thread t then None else reserved)
-ended-clear classes t thread None = none_left (nat_eq thread t)
-ended-clear classes t thread (Some row) = refl
+ended-clear : (size : Numbers) (t thread : ℕ) (reserved : Option ℕ) → ended size t (Clear thread) reserved ≡ (if nat_eq thread t then None else reserved)
+ended-clear size t thread None = none_left (nat_eq thread t)
+ended-clear size t thread (Some row) = refl
 
-ended-miss : (classes t thread : ℕ) (place : Place) (reserved : Option ℕ) → ended classes t (Miss thread place) reserved ≡ (if nat_eq thread t then None else reserved)
-ended-miss classes t thread place None = none_left (nat_eq thread t)
-ended-miss classes t thread place (Some row) = refl
+ended-miss : (size : Numbers) (t thread : ℕ) (place : Place) (reserved : Option ℕ) → ended size t (Miss thread place) reserved ≡ (if nat_eq thread t then None else reserved)
+ended-miss size t thread place None = none_left (nat_eq thread t)
+ended-miss size t thread place (Some row) = refl
 
-ended-begin : (classes t thread : ℕ) (place : Place) (reserved : Option ℕ)
-    → ended classes t (Begin thread place) reserved
-    ≡ (if nat_eq thread t && is_of_class classes (class_of classes (row_of place)) reserved then None else reserved)
-ended-begin classes t thread place None = none_left (nat_eq thread t && false)
-ended-begin classes t thread place (Some row) = refl
+ended-begin : (size : Numbers) (t thread : ℕ) (place : Place) (reserved : Option ℕ)
+    → ended size t (Begin thread place) reserved
+    ≡ (if nat_eq thread t && is_of_class size (class_of size.classes (row_of size.granule place)) reserved then None else reserved)
+ended-begin size t thread place None = none_left (nat_eq thread t && false)
+ended-begin size t thread place (Some row) = refl
 
-ended-not : (classes t : ℕ) (entry : Entry) (reserved : Option ℕ) → ((row : ℕ) → ends_reservation classes t row entry ≡ false)
-    → ended classes t entry reserved ≡ reserved
-ended-not classes t entry None not_ended = refl
-ended-not classes t entry (Some row) not_ended = rw (not_ended row) refl
+ended-not : (size : Numbers) (t : ℕ) (entry : Entry) (reserved : Option ℕ) → ((row : ℕ) → ends_reservation size t row entry ≡ false)
+    → ended size t entry reserved ≡ reserved
+ended-not size t entry None not_ended = refl
+ended-not size t entry (Some row) not_ended = rw (not_ended row) refl
 
-watches : (classes t thread : ℕ) (place : Place) (old : Option Since) (own : Bool)
-    → reserved_since classes t (since_step old (if own then Some place else None) (Watch thread place))
-    ≡ (if own then Some (row_of place) else reserved_since classes t old)
-watches classes t thread place old true = refl
-watches classes t thread place old false =
-    kept classes t old (Watch thread place) ∙ ended-not classes t (Watch thread place) (reserved_since classes t old) (λ row. refl)
+watches : (size : Numbers) (t thread : ℕ) (place : Place) (old : Option Since) (own : Bool)
+    → reserved_since size t (since_step old (if own then Some place else None) (Watch thread place))
+    ≡ (if own then Some (row_of size.granule place) else reserved_since size t old)
+watches size t thread place old true = refl
+watches size t thread place old false =
+    kept size t old (Watch thread place) ∙ ended-not size t (Watch thread place) (reserved_since size t old) (λ row. refl)
 
-reserves : (classes t : ℕ) (old : Option Since) (entry : Entry)
-    → reserved_since classes t (since_step old (watch_of t entry) entry) ≡ reserved_step classes t (reserved_since classes t old) entry
-reserves classes t old (Read thread place value ex) =
-    kept classes t old (Read thread place value ex) ∙ ended-not classes t (Read thread place value ex) (reserved_since classes t old) (λ row. refl)
-reserves classes t old (Write thread place value ex) =
-    kept classes t old (Write thread place value ex) ∙ ended-own classes t thread place value ex (reserved_since classes t old)
-reserves classes t old (Fail thread place value cause) =
-    kept classes t old (Fail thread place value cause) ∙ ended-fail classes t thread place value cause (reserved_since classes t old)
-reserves classes t old (Clear thread) = kept classes t old (Clear thread) ∙ ended-clear classes t thread (reserved_since classes t old)
-reserves classes t old (Watch thread place) = watches classes t thread place old (nat_eq thread t)
-reserves classes t old (Miss thread place) = kept classes t old (Miss thread place) ∙ ended-miss classes t thread place (reserved_since classes t old)
-reserves classes t old (Begin thread place) = kept classes t old (Begin thread place) ∙ ended-begin classes t thread place (reserved_since classes t old)
-reserves classes t old (End thread place) =
-    kept classes t old (End thread place) ∙ ended-not classes t (End thread place) (reserved_since classes t old) (λ row. refl)
+reserves : (size : Numbers) (t : ℕ) (old : Option Since) (entry : Entry)
+    → reserved_since size t (since_step old (watch_of t entry) entry) ≡ reserved_step size t (reserved_since size t old) entry
+reserves size t old (Read thread place value ex) =
+    kept size t old (Read thread place value ex) ∙ ended-not size t (Read thread place value ex) (reserved_since size t old) (λ row. refl)
+reserves size t old (Write thread place value ex) =
+    kept size t old (Write thread place value ex) ∙ ended-own size t thread place value ex (reserved_since size t old)
+reserves size t old (Fail thread place value cause) =
+    kept size t old (Fail thread place value cause) ∙ ended-fail size t thread place value cause (reserved_since size t old)
+reserves size t old (Clear thread) = kept size t old (Clear thread) ∙ ended-clear size t thread (reserved_since size t old)
+reserves size t old (Watch thread place) = watches size t thread place old (nat_eq thread t)
+reserves size t old (Miss thread place) = kept size t old (Miss thread place) ∙ ended-miss size t thread place (reserved_since size t old)
+reserves size t old (Begin thread place) = kept size t old (Begin thread place) ∙ ended-begin size t thread place (reserved_since size t old)
+reserves size t old (End thread place) =
+    kept size t old (End thread place) ∙ ended-not size t (End thread place) (reserved_since size t old) (λ row. refl)
 
-pub reservation_of-push : (classes t : ℕ) (entries : List Entry) (entry : Entry)
-    → reservation_of classes t (entries ++ entry ∷ []) ≡ reserved_step classes t (reservation_of classes t entries) entry
-reservation_of-push classes t entries entry =
-    ap (reserved_since classes t) (since_last-push (watch_of t) entries entry) ∙ reserves classes t (since_last (watch_of t) entries) entry
+pub reservation_of-push : (size : Numbers) (t : ℕ) (entries : List Entry) (entry : Entry)
+    → reservation_of size t (entries ++ entry ∷ []) ≡ reserved_step size t (reservation_of size t entries) entry
+reservation_of-push size t entries entry =
+    ap (reserved_since size t) (since_last-push (watch_of t) entries entry) ∙ reserves size t (since_last (watch_of t) entries) entry
 
 -- the reservation of a thread is how things stand of it
-pub reservation_of-standing : (classes t : ℕ) (bytes : List ℕ) (history : List Entry)
-    → reservation_of classes t history ≡ (standing_after classes (standing_of bytes) history).reserved t
-reservation_of-standing classes t bytes history = by_ends (λ entries. reservation_of classes t entries ≡ (standing_after classes (standing_of bytes) entries).reserved t) refl more history
+pub reservation_of-standing : (size : Numbers) (t : ℕ) (bytes : List ℕ) (history : List Entry)
+    → reservation_of size t history ≡ (standing_after size (standing_of bytes) history).reserved t
+reservation_of-standing size t bytes history = by_ends (λ entries. reservation_of size t entries ≡ (standing_after size (standing_of bytes) entries).reserved t) refl more history
   where
-    more : (entries : List Entry) (e : Entry) → reservation_of classes t entries ≡ (standing_after classes (standing_of bytes) entries).reserved t
-        → reservation_of classes t (entries ++ e ∷ []) ≡ (standing_after classes (standing_of bytes) (entries ++ e ∷ [])).reserved t
+    more : (entries : List Entry) (e : Entry) → reservation_of size t entries ≡ (standing_after size (standing_of bytes) entries).reserved t
+        → reservation_of size t (entries ++ e ∷ []) ≡ (standing_after size (standing_of bytes) (entries ++ e ∷ [])).reserved t
     more entries e same =
-        rw (standing_after-push classes (standing_of bytes) entries e)
-        (reservation_of-push classes t entries e
-        ∙ ap (λ (r : Option ℕ). reserved_step classes t r e) same
-        ∙ sym (joined-reserved classes (standing_after classes (standing_of bytes) entries) e t))
+        rw (standing_after-push size (standing_of bytes) entries e)
+        (reservation_of-push size t entries e
+        ∙ ap (λ (r : Option ℕ). reserved_step size t r e) same
+        ∙ sym (joined-reserved size (standing_after size (standing_of bytes) entries) e t))

@@ -21,7 +21,7 @@ MayAccess monitor (Read thread place value ex) =
     × (value ≡ value_at monitor.memory place)
 MayAccess monitor (Write thread place value ex) =
     IsSound (length monitor.marks) (length monitor.memory) thread place value
-    × (ex ≡ true → marked_row monitor thread ≡ Some (row_of place))
+    × (ex ≡ true → marked_row monitor thread ≡ Some (row_of monitor.granule place))
 MayAccess monitor (Fail thread place value cause) = IsSound (length monitor.marks) (length monitor.memory) thread place value
 MayAccess monitor (Clear thread) = thread < length monitor.marks
 MayAccess monitor _ = Unit {0}

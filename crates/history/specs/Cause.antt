@@ -23,29 +23,29 @@ abbrev pub since_watch : ℕ → List Entry → List Entry
 since_watch thread history = later_of (since_last (watch_of thread) history)
 
 -- a write of another thread has begun in the class of a row
-abbrev pub is_begin_of_another : ℕ → ℕ → ℕ → Entry → Bool
-is_begin_of_another classes thread row (Begin other place) = not (other == thread) && is_in_class classes row place
-is_begin_of_another classes thread row _ = false
+abbrev pub is_begin_of_another : Numbers → ℕ → ℕ → Entry → Bool
+is_begin_of_another size thread row (Begin other place) = not (other == thread) && is_in_class size row place
+is_begin_of_another size thread row _ = false
 
 -- a write, or a load-exclusive with a reservation, of another thread has begun in the class of a row
-abbrev pub is_start_of_another : ℕ → ℕ → ℕ → Entry → Bool
-is_start_of_another classes thread row (Begin other place) = not (other == thread) && is_in_class classes row place
-is_start_of_another classes thread row (Watch other place) = not (other == thread) && is_in_class classes row place
-is_start_of_another classes thread row _ = false
+abbrev pub is_start_of_another : Numbers → ℕ → ℕ → Entry → Bool
+is_start_of_another size thread row (Begin other place) = not (other == thread) && is_in_class size row place
+is_start_of_another size thread row (Watch other place) = not (other == thread) && is_in_class size row place
+is_start_of_another size thread row _ = false
 
 -- a write of anybody has begun in the class of a row
-abbrev pub is_begin : ℕ → ℕ → Entry → Bool
-is_begin classes row (Begin other place) = is_in_class classes row place
-is_begin classes row _ = false
+abbrev pub is_begin : Numbers → ℕ → Entry → Bool
+is_begin size row (Begin other place) = is_in_class size row place
+is_begin size row _ = false
 
 -- a Write in the class of a row
-abbrev pub is_write : ℕ → ℕ → Entry → Bool
-is_write classes row (Write other place value ex) = is_in_class classes row place
-is_write classes row _ = false
+abbrev pub is_write : Numbers → ℕ → Entry → Bool
+is_write size row (Write other place value ex) = is_in_class size row place
+is_write size row _ = false
 
 -- how many Writes the class of a row has had
-abbrev pub writes_in_class : ℕ → ℕ → List Entry → ℕ
-writes_in_class classes row history = count_by (is_write classes row) history
+abbrev pub writes_in_class : Numbers → ℕ → List Entry → ℕ
+writes_in_class size row history = count_by (is_write size row) history
 
 -- the place of a write that is in flight since a Begin: until its thread has an End
 abbrev pub flight_since : ℕ → Option Since → Option Place
@@ -60,14 +60,14 @@ flight_of thread history = flight_since thread (since_last (begin_of thread) his
 -- another in the class, or its load-exclusive with a reservation, has begun since; it holds one, no write of another in
 -- the class has begun since, and the class has had as many Writes as it may have
 abbrev pub MayFail : Numbers → List Entry → ℕ → Place → Cause → Type 0
-MayFail size past thread place Absent = reservation_of size.classes thread past ≢ Some (row_of place)
+MayFail size past thread place Absent = reservation_of size thread past ≢ Some (row_of size.granule place)
 MayFail size past thread place Lost =
-    (reservation_of size.classes thread past ≡ Some (row_of place))
-    × (list_any (is_start_of_another size.classes thread (row_of place)) (since_watch thread past) ≡ true)
+    (reservation_of size thread past ≡ Some (row_of size.granule place))
+    × (list_any (is_start_of_another size thread (row_of size.granule place)) (since_watch thread past) ≡ true)
 MayFail size past thread place Limit =
-    (reservation_of size.classes thread past ≡ Some (row_of place))
-    × (list_any (is_begin_of_another size.classes thread (row_of place)) (since_watch thread past) ≡ false)
-    × (size.limit ≤ writes_in_class size.classes (row_of place) past)
+    (reservation_of size thread past ≡ Some (row_of size.granule place))
+    × (list_any (is_begin_of_another size thread (row_of size.granule place)) (since_watch thread past) ≡ false)
+    × (size.limit ≤ writes_in_class size (row_of size.granule place) past)
 
 -- a load-exclusive of a thread may get no reservation: a write of another in the class is in flight
 pub record MayMiss (size : Numbers) (past : List Entry) (thread : ℕ) (place : Place) : Type 0 where
@@ -75,7 +75,7 @@ pub record MayMiss (size : Numbers) (past : List Entry) (thread : ℕ) (place : 
   pub another : other ≢ thread
   pub target : Place
   pub flies : flight_of other past ≡ Some target
-  pub near : is_in_class size.classes (row_of place) target ≡ true
+  pub near : is_in_class size (row_of size.granule place) target ≡ true
 
 -- an entry has its cause in what stands before it
 abbrev pub HasCause : Numbers → List Entry → Entry → Type 0

@@ -1,6 +1,7 @@
 -- Entries of a history, this project's own: whose they are, and which of them are accesses.
 use Rattle.std.specs.Prelude.{ℕ, ◌==◌, Bool, true, false}
 use Rattle.llsc_base.specs.Memory.{class_of, row_of}
+use Rattle.llsc_base.specs.Sizes.{Numbers}
 use Rattle.llsc_base.specs.declared.access.Place.{Place}
 use Rattle.history.specs.declared.entry.Entry.{Entry}
 use Rattle.history.specs.declared.entry.Entry.TheVariants.{Read, Write, Fail, Clear, Watch, Miss, Begin, End}
@@ -27,6 +28,6 @@ is_access (Miss thread place) = false
 is_access (Begin thread place) = false
 is_access (End thread place) = false
 
--- a place lies in the class of a row, where rows are dealt out to so many classes
-abbrev pub is_in_class : ℕ → ℕ → Place → Bool
-is_in_class classes row place = class_of classes (row_of place) == class_of classes row
+-- a place lies in the class of a row, of a machine of this size
+abbrev pub is_in_class : Numbers → ℕ → Place → Bool
+is_in_class size row place = class_of size.classes (row_of size.granule place) == class_of size.classes row

@@ -31,7 +31,7 @@ pub record MayMissAt (size : Numbers) (s : Standing) (thread row : ℕ) : Type 0
   pub another : other ≢ thread
   pub target : Place
   pub flies : flight_at (s.stage other) ≡ Some target
-  pub near : (class_of size.classes (row_of target) == class_of size.classes row) ≡ true
+  pub near : (class_of size.classes (row_of size.granule target) == class_of size.classes row) ≡ true
 
 -- an entry may come next
 abbrev pub MayJoin : Numbers → Standing → Entry → Type 0
@@ -46,18 +46,18 @@ MayJoin size s (Read thread place value false) =
 MayJoin size s (Write thread place value ex) =
     (s.stage thread ≡ begun place)
     × IsSound size.threads size.mem thread place value
-    × (ex ≡ true → s.mark thread ≡ Some (row_of place))
+    × (ex ≡ true → s.mark thread ≡ Some (row_of size.granule place))
 MayJoin size s (Fail thread place value cause) =
     (s.stage thread ≡ rests)
     × IsSound size.threads size.mem thread place value
-    × MayFailAt size s thread (row_of place) cause
+    × MayFailAt size s thread (row_of size.granule place) cause
 MayJoin size s (Clear thread) = (s.stage thread ≡ rests) × (thread < size.threads)
 MayJoin size s (Watch thread place) = s.stage thread ≡ rests
-MayJoin size s (Miss thread place) = (s.stage thread ≡ rests) × MayMissAt size s thread (row_of place)
+MayJoin size s (Miss thread place) = (s.stage thread ≡ rests) × MayMissAt size s thread (row_of size.granule place)
 MayJoin size s (Begin thread place) = s.stage thread ≡ rests
 MayJoin size s (End thread place) = s.stage thread ≡ written place
 
 -- each entry of a list may come where it does
 abbrev pub MayFollow : Numbers → Standing → List Entry → Type 0
 MayFollow size s [] = Unit {0}
-MayFollow size s (entry ∷ entries) = MayJoin size s entry × MayFollow size (joined size.classes s entry) entries
+MayFollow size s (entry ∷ entries) = MayJoin size s entry × MayFollow size (joined size s entry) entries

@@ -2,7 +2,7 @@
 use Rattle.std.specs.Prelude.{◌≡◌, ℕ, List, ◌∷◌, ◌++◌}
 use Rattle.llsc_base.specs.Sizes.{Numbers}
 use Rattle.history.specs.Parts.{accesses_of, entries_of}
-use Rattle.history.specs.Monitor.{at_rest}
+use Rattle.history.specs.Monitor.{at_rest_by}
 use Rattle.history.specs.ArmLegal.{IsArmLegal}
 use Rattle.history.specs.Operation.{AreFinished, AreOperations}
 use Rattle.history.specs.Cause.{HasCause}
@@ -11,7 +11,7 @@ use Rattle.history.specs.declared.entry.Entry.{Entry}
 -- a history of a machine of this size, whose memory begins as these bytes: Arm allows its accesses, each thread's entries
 -- are operations, and each store-exclusive that fails and each load-exclusive without a reservation has its cause
 pub record IsLegal (size : Numbers) (bytes : List ℕ) (history : List Entry) : Type 0 where
-  pub accesses : IsArmLegal (at_rest bytes size.threads) (accesses_of history)
+  pub accesses : IsArmLegal (at_rest_by size.granule bytes size.threads) (accesses_of history)
   pub operations : (thread : ℕ) → AreOperations thread (entries_of thread history)
   pub causes : (past : List Entry) (entry : Entry) (rest : List Entry)
       → history ≡ past ++ (entry ∷ rest) → HasCause size past entry

@@ -10,7 +10,7 @@ use Rattle.history.specs.declared.entry.Deed.TheVariants as deed
 -- a store-exclusive stores just where its thread is marked on the row; one that is to fail fails, and any other access is
 -- what it is
 abbrev pub made_deed : Monitor → Deed → ℕ → Place → Deed
-made_deed monitor deed.StoreEx thread place = if is_on (row_of place) (marked_row monitor thread) then deed.StoreEx else deed.StoreFail
+made_deed monitor deed.StoreEx thread place = if is_on (row_of monitor.granule place) (marked_row monitor thread) then deed.StoreEx else deed.StoreFail
 made_deed monitor tried thread place = tried
 
 -- a load has the value of its place, and any other access its own

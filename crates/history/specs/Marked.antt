@@ -14,8 +14,8 @@ abbrev pub byte_place : ℕ → Place
 byte_place addr = record { addr = addr; size = B1 }
 
 -- each byte of a row is in one memory what it is in another
-abbrev pub KeepsRow : ℕ → List ℕ → List ℕ → Type 0
-KeepsRow row old new = (k : ℕ) → row_of (byte_place k) ≡ row → slice_index new k ≡ slice_index old k
+abbrev pub KeepsRow : (granule row : ℕ) → List ℕ → List ℕ → Type 0
+KeepsRow granule row old new = (k : ℕ) → row_of granule (byte_place k) ≡ row → slice_index new k ≡ slice_index old k
 
 -- a load-exclusive of a thread
 abbrev pub is_load_ex : ℕ → Entry → Bool
@@ -23,9 +23,9 @@ is_load_ex thread (Read other place value ex) = (other == thread) && ex
 is_load_ex thread _ = false
 
 -- a write in a row, whosever it is and whatever its value
-abbrev pub is_write_in : ℕ → Entry → Bool
-is_write_in row (Write thread place value ex) = row_of place == row
-is_write_in row _ = false
+abbrev pub is_write_in : (granule row : ℕ) → Entry → Bool
+is_write_in granule row (Write thread place value ex) = row_of granule place == row
+is_write_in granule row _ = false
 
 -- the last load-exclusive of a thread read this row; nobody has written in the row since, so each byte of it is what it was
 pub record IsUnwrittenSince (start : Monitor) (accesses : List Entry) (thread row : ℕ) : Type 0 where
@@ -35,6 +35,6 @@ pub record IsUnwrittenSince (start : Monitor) (accesses : List Entry) (thread ro
   pub later : List Entry
   pub are : accesses ≡ before ++ (Read thread place value true ∷ later)
   pub last : list_any (is_load_ex thread) later ≡ false
-  pub of_row : row_of place ≡ row
-  pub unwritten : list_any (is_write_in row) later ≡ false
-  pub kept : KeepsRow row (monitor_after start before).memory (monitor_after start accesses).memory
+  pub of_row : row_of start.granule place ≡ row
+  pub unwritten : list_any (is_write_in start.granule row) later ≡ false
+  pub kept : KeepsRow start.granule row (monitor_after start before).memory (monitor_after start accesses).memory

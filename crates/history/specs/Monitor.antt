@@ -4,19 +4,26 @@ use Rattle.llsc_base.specs.Memory.{row_of, stored}
 use Rattle.history.specs.declared.entry.Entry.{Entry}
 use Rattle.history.specs.declared.entry.Entry.TheVariants.{Read, Write, Fail, Clear}
 
--- the bytes of memory, and for each thread, in order of number, the row on which it is marked, if it is
+-- the bytes of memory, for each thread, in order of number, the row on which it is marked, if it is, and the granule
+-- number, by which rows have their width
 pub record Monitor : Type 0 where
   pub memory : List ℕ
   pub marks : List (Option ℕ)
+  pub granule : ℕ
 
--- memory as it is given, and none of so many threads marked
+-- memory as it is given, and none of so many threads marked on its rows
+abbrev pub at_rest_by : (granule : ℕ) → List ℕ → ℕ → Monitor
+at_rest_by granule bytes threads = record { memory = bytes; marks = replicate threads None; granule = granule }
+
+-- the same where rows have eight bytes
 abbrev pub at_rest : List ℕ → ℕ → Monitor
-at_rest bytes threads = record { memory = bytes; marks = replicate threads None }
+at_rest bytes threads = at_rest_by 0 bytes threads
 
--- as many bytes and as many threads
+-- as many bytes, as many threads, and rows as wide
 pub record IsAsLarge (old new : Monitor) : Type 0 where
   pub bytes : length new.memory ≡ length old.memory
   pub threads : length new.marks ≡ length old.marks
+  pub granule : new.granule ≡ old.granule
 
 -- the row on which a thread is marked, if it is
 abbrev pub marked_row : Monitor → ℕ → Option ℕ
@@ -40,19 +47,20 @@ memory_after memory _ = memory
 -- ends each mark on its row, whosever it is and whatever its value, and an exclusive one also its thread's mark. A
 -- store-exclusive that fails, and CLREX, end their thread's mark. (That a thread's own plain store in its marked row ends the
 -- mark is this project's choice, which DDI 0406C A3.4.1 leaves open.)
-abbrev pub marks_after : List (Option ℕ) → Entry → List (Option ℕ)
-marks_after marks (Read thread place value true) = slice_set marks thread (Some (row_of place))
-marks_after marks (Write thread place value true) = slice_set (map (unless_on (row_of place)) marks) thread None
-marks_after marks (Write thread place value false) = map (unless_on (row_of place)) marks
-marks_after marks (Fail thread place value cause) = slice_set marks thread None
-marks_after marks (Clear thread) = slice_set marks thread None
-marks_after marks _ = marks
+abbrev pub marks_after : (granule : ℕ) → List (Option ℕ) → Entry → List (Option ℕ)
+marks_after granule marks (Read thread place value true) = slice_set marks thread (Some (row_of granule place))
+marks_after granule marks (Write thread place value true) = slice_set (map (unless_on (row_of granule place)) marks) thread None
+marks_after granule marks (Write thread place value false) = map (unless_on (row_of granule place)) marks
+marks_after granule marks (Fail thread place value cause) = slice_set marks thread None
+marks_after granule marks (Clear thread) = slice_set marks thread None
+marks_after granule marks _ = marks
 
 -- memory and marks after one more access
 abbrev pub accessed : Monitor → Entry → Monitor
 accessed monitor entry = record {
   memory = memory_after monitor.memory entry;
-  marks = marks_after monitor.marks entry;
+  marks = marks_after monitor.granule monitor.marks entry;
+  granule = monitor.granule;
 }
 
 -- memory and marks after a list of accesses

@@ -2,6 +2,7 @@
 -- a definition of this crate says is tied to it by a law (`src/laws.rt`).
 use Rattle.std.specs.Prelude.{ℕ, ◌+◌, ◌==◌, ◌&&◌, ◌||◌, if◌then◌else◌, Bool, false, Option, Some, None, List, [], ◌∷◌}
 use Rattle.llsc_base.specs.Memory.{cell_of, class_of, row_of}
+use Rattle.llsc_base.specs.Sizes.{Numbers}
 use Rattle.llsc_base.specs.declared.access.Place.{Place}
 use Rattle.row_bytes.specs.Cell.{cell_at, cell_with}
 use Rattle.history.specs.Monitor.{unless_on}
@@ -45,68 +46,68 @@ abbrev pub updated : {A : Type 0} → (ℕ → A) → ℕ → A → ℕ → A
 updated f at value k = if at == k then value else f k
 
 -- a row, if there is one, lies in a class
-abbrev pub is_of_class : ℕ → ℕ → Option ℕ → Bool
-is_of_class classes class (Some row) = class == class_of classes row
-is_of_class classes class None = false
+abbrev pub is_of_class : Numbers → ℕ → Option ℕ → Bool
+is_of_class size class (Some row) = class == class_of size.classes row
+is_of_class size class None = false
 
 -- a thread's mark after a write of a row, where an exclusive write of its own ends it in any case
 abbrev pub mark_after : Option ℕ → Bool → ℕ → Option ℕ
 mark_after mark ends row = if ends then None else unless_on row mark
 
 -- how things stand after one more entry
-abbrev pub joined : ℕ → Standing → Entry → Standing
-joined classes s (Read thread place value ex) = record s {
+abbrev pub joined : Numbers → Standing → Entry → Standing
+joined size s (Read thread place value ex) = record s {
   stage = updated s.stage thread rests;
-  mark = if ex then updated s.mark thread (Some (row_of place)) else s.mark;
+  mark = if ex then updated s.mark thread (Some (row_of size.granule place)) else s.mark;
 }
-joined classes s (Write thread place value ex) = let class = class_of classes (row_of place) in record s {
+joined size s (Write thread place value ex) = let class = class_of size.classes (row_of size.granule place) in record s {
   cells = updated s.cells (cell_of place) (cell_with (s.cells (cell_of place)) place value);
   stage = updated s.stage thread (written place);
-  mark = λ t. mark_after (s.mark t) ((thread == t) && ex) (row_of place);
+  mark = λ t. mark_after (s.mark t) ((thread == t) && ex) (row_of size.granule place);
   reserved = λ t. if (thread == t) && ex then None else s.reserved t;
   writes = updated s.writes class (s.writes class + 1);
 }
-joined classes s (Fail thread place value cause) = record s {
+joined size s (Fail thread place value cause) = record s {
   stage = updated s.stage thread rests;
   mark = updated s.mark thread None;
   reserved = updated s.reserved thread None;
 }
-joined classes s (Clear thread) = record s {
+joined size s (Clear thread) = record s {
   stage = updated s.stage thread rests;
   mark = updated s.mark thread None;
   reserved = updated s.reserved thread None;
 }
-joined classes s (Watch thread place) = let class = class_of classes (row_of place) in record s {
+joined size s (Watch thread place) = let class = class_of size.classes (row_of size.granule place) in record s {
   stage = updated s.stage thread (looked place);
-  reserved = updated s.reserved thread (Some (row_of place));
-  passed = updated (λ t. s.passed t || is_of_class classes class (s.reserved t)) thread false;
+  reserved = updated s.reserved thread (Some (row_of size.granule place));
+  passed = updated (λ t. s.passed t || is_of_class size class (s.reserved t)) thread false;
   overtaken = updated s.overtaken thread false;
   stirred = updated s.stirred thread false;
   name = updated s.name class (thread + 1);
 }
-joined classes s (Miss thread place) = record s {
+joined size s (Miss thread place) = record s {
   stage = updated s.stage thread (looked place);
   reserved = updated s.reserved thread None;
 }
-joined classes s (Begin thread place) = let class = class_of classes (row_of place) in record s {
+joined size s (Begin thread place) = let class = class_of size.classes (row_of size.granule place) in record s {
   stage = updated s.stage thread (begun place);
-  reserved = λ t. if (thread == t) && is_of_class classes class (s.reserved t) then None else s.reserved t;
-  passed = updated (λ t. s.passed t || is_of_class classes class (s.reserved t)) thread (s.passed thread);
-  overtaken = updated (λ t. s.overtaken t || is_of_class classes class (s.reserved t)) thread (s.overtaken thread);
-  stirred = λ t. s.stirred t || is_of_class classes class (s.reserved t);
+  reserved = λ t. if (thread == t) && is_of_class size class (s.reserved t) then None else s.reserved t;
+  passed = updated (λ t. s.passed t || is_of_class size class (s.reserved t)) thread (s.passed thread);
+  overtaken = updated (λ t. s.overtaken t || is_of_class size class (s.reserved t)) thread (s.overtaken thread);
+  stirred = λ t. s.stirred t || is_of_class size class (s.reserved t);
   edges = updated s.edges class (s.edges class + 1);
   holder = updated s.holder class thread;
   name = updated s.name class (thread + 1);
 }
-joined classes s (End thread place) = let class = class_of classes (row_of place) in record s {
+joined size s (End thread place) = let class = class_of size.classes (row_of size.granule place) in record s {
   stage = updated s.stage thread rests;
   edges = updated s.edges class (s.edges class + 1);
 }
 
 -- how things stand after a list of entries
-abbrev pub standing_after : ℕ → Standing → List Entry → Standing
-standing_after classes s [] = s
-standing_after classes s (entry ∷ entries) = standing_after classes (joined classes s entry) entries
+abbrev pub standing_after : Numbers → Standing → List Entry → Standing
+standing_after size s [] = s
+standing_after size s (entry ∷ entries) = standing_after size (joined size s entry) entries
 
 -- how things stand before the first entry, where memory begins as these bytes
 abbrev pub standing_of : List ℕ → Standing

@@ -24,7 +24,7 @@ next_row = record { addr = 16; size = B8 }
 
 -- a small machine of two threads with so many classes, each of which takes one write
 abbrev pub small_machine : ℕ → Numbers
-small_machine classes = record { mem = 65536; threads = 2; classes = classes; limit = 1 }
+small_machine classes = record { mem = 65536; threads = 2; classes = classes; limit = 1; granule = 0 }
 
 -- the memory of the worked accesses: 32 bytes that are 0, and two threads, none of them marked
 abbrev pub small_memory : Monitor

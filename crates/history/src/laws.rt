@@ -7,7 +7,7 @@ ghost use Rattle.std.specs.List.{list_any};
 ghost use Rattle.llsc_base.specs.Memory.{cell_of, class_of, is_aligned, row_of, size_bytes, value_at};
 ghost use Rattle.row_bytes.specs.Cell.{cell_at, value_in_cell};
 ghost use Rattle.history.specs.Parts.{accesses_of};
-ghost use Rattle.history.specs.Monitor.{at_rest, marked_row, monitor_after};
+ghost use Rattle.history.specs.Monitor.{at_rest_by, marked_row, monitor_after};
 ghost use Rattle.history.specs.ArmLegal.{IsArmLegal};
 ghost use Rattle.history.specs.Marked.{IsUnwrittenSince};
 ghost use Rattle.history.specs.Reservation.{reservation_of};
@@ -27,8 +27,9 @@ pub fn prefixes_are_legal(size: &MachineSize, bytes: &[u8], front: &[Entry], bac
 {}
 
 /// A store-exclusive that succeeds, among accesses that Arm allows, stands behind a load-exclusive of its thread from the
-/// same row, and between the two nobody has written in the row, whatever value.
+/// same row, and between the two nobody has written in the row, whatever value and however wide rows are.
 pub fn successful_stores_are_undisturbed(
+    granule: u32,
     bytes: &[u8],
     threads: u32,
     front: &[Entry],
@@ -37,66 +38,66 @@ pub fn successful_stores_are_undisturbed(
     place: Place,
     value: u64,
 )
-    requires { IsArmLegal (at_rest bytes.now threads) (front.now ++ Entry.Write thread place value true ∷ back.now) }
-    ensures { IsUnwrittenSince (at_rest bytes.now threads) front.now thread (row_of place) }
+    requires { IsArmLegal (at_rest_by granule bytes.now threads) (front.now ++ Entry.Write thread place value true ∷ back.now) }
+    ensures { IsUnwrittenSince (at_rest_by granule bytes.now threads) front.now thread (row_of granule place) }
 {}
 
 /// Where a thread is marked on a row after accesses that Arm allows, its last load-exclusive read that row, and nobody has
 /// written in the row since, so each byte of it is what it was.
-pub fn marks_keep_their_rows(bytes: &[u8], threads: u32, accesses: &[Entry], thread: u32, row: u32)
-    requires legal { IsArmLegal (at_rest bytes.now threads) accesses.now }
-    requires marked { marked_row (monitor_after (at_rest bytes.now threads) accesses.now) thread ≡ Some row }
-    ensures { IsUnwrittenSince (at_rest bytes.now threads) accesses.now thread row }
+pub fn marks_keep_their_rows(granule: u32, bytes: &[u8], threads: u32, accesses: &[Entry], thread: u32, row: u32)
+    requires legal { IsArmLegal (at_rest_by granule bytes.now threads) accesses.now }
+    requires marked { marked_row (monitor_after (at_rest_by granule bytes.now threads) accesses.now) thread ≡ Some row }
+    ensures { IsUnwrittenSince (at_rest_by granule bytes.now threads) accesses.now thread row }
 {}
 
 /// The memory that a history leaves is the cells that stand after it.
-pub fn memory_is_the_fold(bytes: &[u8], threads: u32, classes: u32, history: &[Entry], place: Place)
+pub fn memory_is_the_fold(bytes: &[u8], threads: u32, size: &MachineSize, history: &[Entry], place: Place)
     requires whole { length bytes.now % 8 ≡ 0 }
-    requires legal { IsArmLegal (at_rest bytes.now threads) (accesses_of history.now) }
-    ensures cells { let memory = (monitor_after (at_rest bytes.now threads) (accesses_of history.now)).memory in
-        let cells = (standing_after classes (standing_of bytes.now) history.now).cells in
+    requires legal { IsArmLegal (at_rest_by size.now.granule bytes.now threads) (accesses_of history.now) }
+    ensures cells { let memory = (monitor_after (at_rest_by size.now.granule bytes.now threads) (accesses_of history.now)).memory in
+        let cells = (standing_after size.now (standing_of bytes.now) history.now).cells in
         (i : ℕ) → 8 * i + 8 ≤ length bytes.now → cells i ≡ cell_at memory i }
-    ensures values { let memory = (monitor_after (at_rest bytes.now threads) (accesses_of history.now)).memory in
-        let cells = (standing_after classes (standing_of bytes.now) history.now).cells in
+    ensures values { let memory = (monitor_after (at_rest_by size.now.granule bytes.now threads) (accesses_of history.now)).memory in
+        let cells = (standing_after size.now (standing_of bytes.now) history.now).cells in
         IsTrue (is_aligned place) → place.addr + size_bytes place.size ≤ length bytes.now
         → value_at memory place ≡ value_in_cell (cells (cell_of place)) place }
 {}
 
 /// The row on which a thread is marked after a history is the mark that stands.
-pub fn mark_is_the_fold(bytes: &[u8], threads: u32, classes: u32, history: &[Entry], thread: u32)
-    requires { IsArmLegal (at_rest bytes.now threads) (accesses_of history.now) }
-    ensures { marked_row (monitor_after (at_rest bytes.now threads) (accesses_of history.now)) thread
-        ≡ (standing_after classes (standing_of bytes.now) history.now).mark thread }
+pub fn mark_is_the_fold(bytes: &[u8], threads: u32, size: &MachineSize, history: &[Entry], thread: u32)
+    requires { IsArmLegal (at_rest_by size.now.granule bytes.now threads) (accesses_of history.now) }
+    ensures { marked_row (monitor_after (at_rest_by size.now.granule bytes.now threads) (accesses_of history.now)) thread
+        ≡ (standing_after size.now (standing_of bytes.now) history.now).mark thread }
 {}
 
 /// The reservation of a thread after a history is the one that stands.
-pub fn reservation_is_the_fold(bytes: &[u8], classes: u32, history: &[Entry], thread: u32)
-    ensures { reservation_of classes thread history.now
-        ≡ (standing_after classes (standing_of bytes.now) history.now).reserved thread }
+pub fn reservation_is_the_fold(bytes: &[u8], size: &MachineSize, history: &[Entry], thread: u32)
+    ensures { reservation_of size.now thread history.now
+        ≡ (standing_after size.now (standing_of bytes.now) history.now).reserved thread }
 {}
 
 /// Where a thread holds a reservation on a row, what has passed in its class since its Watch is what stands.
-pub fn causes_are_the_fold(bytes: &[u8], classes: u32, history: &[Entry], thread: u32, row: u32)
-    requires { reservation_of classes thread history.now ≡ Some row }
-    ensures passed { list_any (is_start_of_another classes thread row) (since_watch thread history.now)
-        ≡ (standing_after classes (standing_of bytes.now) history.now).passed thread }
-    ensures overtaken { list_any (is_begin_of_another classes thread row) (since_watch thread history.now)
-        ≡ (standing_after classes (standing_of bytes.now) history.now).overtaken thread }
-    ensures stirred { list_any (is_begin classes row) (since_watch thread history.now)
-        ≡ (standing_after classes (standing_of bytes.now) history.now).stirred thread }
+pub fn causes_are_the_fold(bytes: &[u8], size: &MachineSize, history: &[Entry], thread: u32, row: u32)
+    requires { reservation_of size.now thread history.now ≡ Some row }
+    ensures passed { list_any (is_start_of_another size.now thread row) (since_watch thread history.now)
+        ≡ (standing_after size.now (standing_of bytes.now) history.now).passed thread }
+    ensures overtaken { list_any (is_begin_of_another size.now thread row) (since_watch thread history.now)
+        ≡ (standing_after size.now (standing_of bytes.now) history.now).overtaken thread }
+    ensures stirred { list_any (is_begin size.now row) (since_watch thread history.now)
+        ≡ (standing_after size.now (standing_of bytes.now) history.now).stirred thread }
 {}
 
 /// What a history says of the class of a row is what stands: how many Writes it has had, how many Begins and Ends, and
 /// the threads of its last Begin and of its last Watch or Begin.
-pub fn classes_are_the_fold(bytes: &[u8], classes: u32, history: &[Entry], row: u32)
-    ensures writes { writes_in_class classes row history.now
-        ≡ (standing_after classes (standing_of bytes.now) history.now).writes (class_of classes row) }
-    ensures edges { edges_of classes row history.now
-        ≡ (standing_after classes (standing_of bytes.now) history.now).edges (class_of classes row) }
-    ensures holder { unwrap_or (last_of (writer_in classes row) history.now) 0
-        ≡ (standing_after classes (standing_of bytes.now) history.now).holder (class_of classes row) }
-    ensures name { name_of (last_of (comer_in classes row) history.now)
-        ≡ (standing_after classes (standing_of bytes.now) history.now).name (class_of classes row) }
+pub fn classes_are_the_fold(bytes: &[u8], size: &MachineSize, history: &[Entry], row: u32)
+    ensures writes { writes_in_class size.now row history.now
+        ≡ (standing_after size.now (standing_of bytes.now) history.now).writes (class_of size.now.classes row) }
+    ensures edges { edges_of size.now row history.now
+        ≡ (standing_after size.now (standing_of bytes.now) history.now).edges (class_of size.now.classes row) }
+    ensures holder { unwrap_or (last_of (writer_in size.now row) history.now) 0
+        ≡ (standing_after size.now (standing_of bytes.now) history.now).holder (class_of size.now.classes row) }
+    ensures name { name_of (last_of (comer_in size.now row) history.now)
+        ≡ (standing_after size.now (standing_of bytes.now) history.now).name (class_of size.now.classes row) }
 {}
 
 /// The write of a thread that is in flight after a legal history is the one that stands.
@@ -105,7 +106,7 @@ pub fn flight_is_the_fold(size: &MachineSize, bytes: &[u8], history: &[Entry], t
     requires whole { size.now.mem % 8 ≡ 0 }
     requires legal { IsLegal size.now bytes.now history.now }
     ensures { flight_of thread history.now
-        ≡ flight_at ((standing_after size.now.classes (standing_of bytes.now) history.now).stage thread) }
+        ≡ flight_at ((standing_after size.now (standing_of bytes.now) history.now).stage thread) }
 {}
 
 /// A history is legal exactly where each of its entries may come as things stand before it.
@@ -121,5 +122,5 @@ pub fn complete_histories_rest(size: &MachineSize, bytes: &[u8], history: &[Entr
     requires whole { size.now.mem % 8 ≡ 0 }
     requires legal { IsLegal size.now bytes.now history.now }
     ensures { IsComplete history.now
-        ↔ ((t : ℕ) → (standing_after size.now.classes (standing_of bytes.now) history.now).stage t ≡ rests) }
+        ↔ ((t : ℕ) → (standing_after size.now (standing_of bytes.now) history.now).stage t ≡ rests) }
 {}

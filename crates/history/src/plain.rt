@@ -6,16 +6,17 @@ ghost use Rattle.row_bytes.specs.Cell.{bytes_of_cells};
 ghost use Rattle.history.specs.Accesses.{entry_of};
 ghost use Rattle.history.specs.ArmLegal.{MayAccess};
 ghost use Rattle.history.specs.Made.{made};
-ghost use Rattle.history.specs.Monitor.{IsAsLarge, accessed, at_rest, is_on, marked_row, unless_on};
+ghost use Rattle.history.specs.Monitor.{IsAsLarge, accessed, at_rest, at_rest_by, is_on, marked_row, unless_on};
 ghost use Rattle.history.specs.declared.entry.Cause.{Cause};
 
 use crate::entry::{Access, Deed, Entry};
-use llsc_base::{Place, Size};
+use llsc_base::{MachineSize, Place, Size};
 use row_bytes::{put, take};
 use std::alloc::{AllocError, Global};
 use std::marker::Model;
 
-/// Memory as cells, and for each thread the row on which it is marked (DDI 0406C A3.4.1, A3.4.2).
+/// Memory as cells, and for each thread the row on which it is marked (DDI 0406C A3.4.1, A3.4.2), a row of `8 * 2^granule`
+/// bytes.
 ///
 /// Each call is one access. It has no classes and no limit, and a store-exclusive fails only where its thread
 /// isn't marked on the row.
@@ -23,19 +24,23 @@ use std::marker::Model;
 pub struct PlainMemory {
     cells: Vec<u64>,
     marks: Vec<Option<u32>>,
+    granule: u32,
 }
 
 impl Model for PlainMemory {
+    ghost use Rattle.std.specs.Prelude.{◌≤◌};
     ghost use Rattle.row_bytes.specs.Cell.{bytes_of_cells};
     ghost use Rattle.history.specs.Monitor.{Monitor};
 
     ghost Value = { Monitor };
 
-    ghost view = { λ m. record { memory = bytes_of_cells m.cells.items; marks = m.marks.items } };
+    ghost view = { λ m. record { memory = bytes_of_cells m.cells.items; marks = m.marks.items; granule = m.granule } };
+
+    ghost invariant = { λ m. m.granule ≤ 8 };
 }
 
 impl PlainMemory {
-    /// Memory of these bytes, a multiple of 8 of them, for 1 to 16 threads, none of them marked.
+    /// Memory of these bytes, a multiple of 8 of them, for 1 to 16 threads, none of them marked, with rows of eight bytes.
     ///
     /// # Errors
     ///
@@ -46,9 +51,28 @@ impl PlainMemory {
         requires most { threads ≤ 16 }
         ensures { IfOk result (λ memory. memory ≡ at_rest bytes.now threads) }
     {
-        let cells = cells_of(alloc, bytes)?;
-        let marks = vec![in alloc; None; threads as usize]?;
-        Ok(PlainMemory { cells, marks })
+        Ok(PlainMemory {
+            cells: cells_of(alloc, bytes)?,
+            marks: vec![in alloc; None; threads as usize]?,
+            granule: 0,
+        })
+    }
+
+    /// Memory of these bytes, as many as the machine has, for its threads and with rows of its granule, no thread marked.
+    ///
+    /// # Errors
+    ///
+    /// `AllocError` is want of memory.
+    pub fn sized(alloc: Global, bytes: &[u8], size: &MachineSize) -> Result<PlainMemory, AllocError>
+        requires { length bytes.now ≡ size.now.mem }
+        ensures { IfOk result (λ memory. memory ≡ at_rest_by size.now.granule bytes.now size.now.threads) }
+    {
+        let mem = size.mem();
+        prove!(mem % 8 == 0);
+        Ok(PlainMemory {
+            granule: size.granule(),
+            ..PlainMemory::new(alloc, bytes, size.threads())?
+        })
     }
 
     /// A load: the value of the place, which is aligned and lies in memory, here as below.
@@ -74,7 +98,7 @@ impl PlainMemory {
         ensures size { IsAsLarge self.old self.new }
     {
         set(&mut self.cells, place, value);
-        unmark(&mut self.marks, place.row());
+        unmark(&mut self.marks, place.row(self.granule));
     }
 
     /// A load-exclusive of a thread: the value of the place, on whose row the thread is marked from now on.
@@ -88,7 +112,7 @@ impl PlainMemory {
         ensures marked { self.new ≡ accessed self.old (Entry.Read t place result true) }
         ensures size { IsAsLarge self.old self.new }
     {
-        self.marks[t as usize] = Some(place.row());
+        self.marks[t as usize] = Some(place.row(self.granule));
         value_of(&self.cells, place)
     }
 
@@ -101,12 +125,12 @@ impl PlainMemory {
         requires aligned { IsTrue (is_aligned place) }
         requires inside { place.addr + size_bytes place.size ≤ length self.old.memory }
         requires fits { value < 256 ^ size_bytes place.size }
-        ensures marked { IsTrue result ↔ (marked_row self.old t ≡ Some (row_of place)) }
+        ensures marked { IsTrue result ↔ (marked_row self.old t ≡ Some (row_of self.old.granule place)) }
         ensures stored { OnTrue result (self.new ≡ accessed self.old (Entry.Write t place value true)) }
         ensures failed { OnFalse result ((cause : Cause) → self.new ≡ accessed self.old (Entry.Fail t place value cause)) }
         ensures size { IsAsLarge self.old self.new }
     {
-        let row = place.row();
+        let row = place.row(self.granule);
         let mark = self.marks[t as usize].take();
         if !is_marked_on(mark, row) {
             return false;

@@ -46,8 +46,8 @@ pub fn neighbours_store()
 
 /// A thread's own write to the next row ends its reservation where there is one class, and not where there are more.
 pub fn own_write_in_the_class()
-    ensures in_the_class { reservation_of 1 0 (Entry.Watch 0 word ∷ Entry.Read 0 word 0 true ∷ Entry.Begin 0 next_row ∷ []) ≡ None }
-    ensures in_another_class { reservation_of 4096 0 (Entry.Watch 0 word ∷ Entry.Read 0 word 0 true ∷ Entry.Begin 0 next_row ∷ []) ≡ Some 1 }
+    ensures in_the_class { reservation_of (small_machine 1) 0 (Entry.Watch 0 word ∷ Entry.Read 0 word 0 true ∷ Entry.Begin 0 next_row ∷ []) ≡ None }
+    ensures in_another_class { reservation_of (small_machine 4096) 0 (Entry.Watch 0 word ∷ Entry.Read 0 word 0 true ∷ Entry.Begin 0 next_row ∷ []) ≡ Some 1 }
 {}
 
 /// A store-exclusive may fail as lost where another thread has begun a write in the class since, and not where the

@@ -37,11 +37,11 @@ pub fn marks_that_stay()
 
 /// A write in a row is anybody's, of any value, and exclusive or not; no other access is one, nor a write of another row.
 pub fn writes_in_a_row()
-    ensures plain { is_write_in 1 (Entry.Write 1 last_byte 0 false) ≡ true }
-    ensures exclusive { is_write_in 1 (Entry.Write 0 word 9 true) ≡ true }
-    ensures of_another_row { is_write_in 1 (Entry.Write 1 next_row 1 false) ≡ false }
-    ensures read { is_write_in 1 (Entry.Read 0 word 0 true) ≡ false }
-    ensures failed { is_write_in 1 (Entry.Fail 0 word 9 Cause.Lost) ≡ false }
+    ensures plain { is_write_in 0 1 (Entry.Write 1 last_byte 0 false) ≡ true }
+    ensures exclusive { is_write_in 0 1 (Entry.Write 0 word 9 true) ≡ true }
+    ensures of_another_row { is_write_in 0 1 (Entry.Write 1 next_row 1 false) ≡ false }
+    ensures read { is_write_in 0 1 (Entry.Read 0 word 0 true) ≡ false }
+    ensures failed { is_write_in 0 1 (Entry.Fail 0 word 9 Cause.Lost) ≡ false }
 {}
 
 /// A load-exclusive of a thread is its own, and exclusive.
@@ -54,9 +54,9 @@ pub fn load_exclusives_of_a_thread()
 
 /// A memory keeps a row where it keeps each byte of it, the first and the last one too, whatever becomes of other rows.
 pub fn kept_rows()
-    ensures kept { KeepsRow 1 small_memory.memory (stored small_memory.memory next_row 1) }
-    ensures first_byte { ¬ KeepsRow 1 small_memory.memory (stored small_memory.memory word 1) }
-    ensures last_byte { ¬ KeepsRow 1 small_memory.memory (stored small_memory.memory last_byte 1) }
+    ensures kept { KeepsRow 0 1 small_memory.memory (stored small_memory.memory next_row 1) }
+    ensures first_byte { ¬ KeepsRow 0 1 small_memory.memory (stored small_memory.memory word 1) }
+    ensures last_byte { ¬ KeepsRow 0 1 small_memory.memory (stored small_memory.memory last_byte 1) }
 {}
 
 /// A row is undisturbed from the thread's last load-exclusive on, where that was of this row and nobody has written in the
@@ -72,5 +72,5 @@ pub fn undisturbed_rows()
 
 /// An undisturbed row has the bytes that it had when it was read.
 pub fn undisturbed_rows_are_kept(accesses: &[Entry], thread: u32, row: u32)
-    ensures { (since : IsUnwrittenSince small_memory accesses.now thread row) → KeepsRow row (bytes_after_these since.before) (bytes_after_these accesses.now) }
+    ensures { (since : IsUnwrittenSince small_memory accesses.now thread row) → KeepsRow 0 row (bytes_after_these since.before) (bytes_after_these accesses.now) }
 {}

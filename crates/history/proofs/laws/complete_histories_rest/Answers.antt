@@ -6,4 +6,4 @@ pub returns : goal.returns
 returns c =
     let memory : IsMemory c.args.size.now c.args.bytes.now = record { sized = c.requires.sized; whole = c.requires.whole; small = λ k. Fits-lt-pow (c.type_inv.bytes k) } in
     let follows = MayFollow-IsLegal c.args.size.now c.args.bytes.now memory c.args.history.now c.requires.legal in
-    (rests-IsComplete c.args.size.now.classes c.args.bytes.now c.args.history.now, IsComplete-rests c.args.size.now c.args.bytes.now c.args.history.now follows)
+    (rests-IsComplete c.args.size.now c.args.bytes.now c.args.history.now, IsComplete-rests c.args.size.now c.args.bytes.now c.args.history.now follows)

@@ -28,4 +28,4 @@ returns-clause-not_begun c = λ legal.
 pub returns-clause-causeless : goal.returns-clause-causeless
 returns-clause-causeless c = λ legal.
     let lost = legal.causes [] (Fail 0 word 9 Lost) [] refl in
-    let none : None ≡ Some (row_of word) = lost.0 in cc
+    let none : None ≡ Some (row_of 0 word) = lost.0 in cc

@@ -9,7 +9,7 @@ use Rattle.history.proofs.worked_marks.kept_rows.Goals as goal
 pub returns-clause-kept : goal.returns-clause-kept
 unfolding row_of
 returns-clause-kept c =
-    stored-keeps small_memory.memory next_row 1 1 0 2 (sound_next_row 0 (lit< tt)) (apart 2 1 refl)
+    stored-keeps 0 small_memory.memory next_row 1 1 0 2 (sound_next_row 0 (lit< tt)) (apart 2 1 refl)
 
 pub returns-clause-first_byte : goal.returns-clause-first_byte
 unfolding row_of bytes_of

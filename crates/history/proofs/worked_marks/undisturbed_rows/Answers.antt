@@ -21,13 +21,13 @@ returns-clause-undisturbed c = record {
   last = refl;
   of_row = refl;
   unwritten = refl;
-  kept = stored-keeps small_memory.memory next_row 1 1 0 2 (sound_next_row 0 (lit< tt)) (apart 2 1 refl);
+  kept = stored-keeps 0 small_memory.memory next_row 1 1 0 2 (sound_next_row 0 (lit< tt)) (apart 2 1 refl);
 }
 
 pub returns-clause-written : goal.returns-clause-written
 unfolding row_of
 returns-clause-written c = λ since. elim (is_of_two _ _ _ _ _ since.are) [
-  | inl at ↦ let wrong : true ≡ false = subst (λ later. list_any (is_write_in 1) later ≡ false) at.1 since.unwritten in cc
+  | inl at ↦ let wrong : true ≡ false = subst (λ later. list_any (is_write_in 0 1) later ≡ false) at.1 since.unwritten in cc
   | inr at ↦ cc
 ]
 
@@ -35,7 +35,7 @@ pub returns-clause-of_another_row : goal.returns-clause-of_another_row
 unfolding row_of
 returns-clause-of_another_row c = λ since.
     let there : since.place ≡ next_row = let at = (is_of_one _ _ _ _ since.are).0 in cc in
-    apart 2 1 refl (subst (λ place. row_of place ≡ 1) there since.of_row)
+    apart 2 1 refl (subst (λ place. row_of 0 place ≡ 1) there since.of_row)
 
 pub returns-clause-of_another_thread : goal.returns-clause-of_another_thread
 returns-clause-of_another_thread c = λ since. let at = (is_of_one _ _ _ _ since.are).0 in apart 0 1 refl cc
@@ -49,5 +49,5 @@ returns-clause-not_the_last c = λ since. elim (is_of_two _ _ _ _ _ since.are) [
   | inl at ↦ let wrong : true ≡ false = subst (λ later. list_any (is_load_ex 0) later ≡ false) at.1 since.last in cc
   | inr at ↦
       let there : since.place ≡ next_row = cc in
-      apart 2 1 refl (subst (λ place. row_of place ≡ 1) there since.of_row)
+      apart 2 1 refl (subst (λ place. row_of 0 place ≡ 1) there since.of_row)
 ]

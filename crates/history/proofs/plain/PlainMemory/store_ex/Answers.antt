@@ -10,7 +10,7 @@ use Rattle.history.proofs.plain.PlainMemory.store_ex.Goals as goal
 
 pub returns-clause-stored : goal.returns-clause-stored
 returns-clause-stored c =
-    let row = row_of c.args.place in
+    let row = row_of c.self.inside.granule c.args.place in
     let cells : (with_items c.self.inside.cells c.set.new.cells).items ≡ c.set.new.cells =
     with_items_is c.self.inside.cells c.set.new.cells (c.set.auto.cells ∙ c.deref_mut.ensures.len) in
     let marks : (with_items (with_item c.self.inside.marks c.args.t c.take-mark.new.self) c.unmark.new.marks).items ≡ c.unmark.new.marks =
@@ -27,4 +27,5 @@ returns-clause-size c =
     rw (← c.self.view_is) (record {
       bytes = simp length-bytes_of_cells (simp (length-take, length-append, length-drop) (omega (arith, c.self.inside.cells.ok.0)));
       threads = simp (length-set, length-take, length-append, length-drop) (omega (arith, c.self.inside.marks.ok.0));
+      granule = refl;
     })
