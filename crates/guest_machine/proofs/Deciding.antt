@@ -4,7 +4,7 @@ use Rattle.llsc_base.specs.Memory.{row_of, value_at}
 use Rattle.llsc_base.specs.declared.access.Place.{Place}
 use Rattle.history.specs.Entry.{is_access, thread_of}
 use Rattle.history.specs.Parts.{accesses_of, entries_of}
-use Rattle.history.specs.Monitor.{Monitor, accessed, at_rest, is_on, marked_row}
+use Rattle.history.specs.Monitor.{Monitor, accessed, at_rest_by, is_on, marked_row}
 use Rattle.history.specs.ArmLegal.{IsArmLegal, MayAccess}
 use Rattle.history.specs.declared.entry.Deed.TheVariants as deed
 use Rattle.history.specs.declared.entry.Entry.{Entry}
@@ -35,8 +35,8 @@ served monitor [] = monitor
 served monitor (pair ∷ pairs) = served (accessed monitor (made monitor pair.0)) pairs
 
 -- what a memory that began as these bytes replies
-abbrev pub by_memory : List ℕ → Replies
-by_memory first front ask = Some (reply_to (served (at_rest first 1) front) ask)
+abbrev pub by_memory : (granule : ℕ) → List ℕ → Replies
+by_memory granule first front ask = Some (reply_to (served (at_rest_by granule first 1) front) ask)
 
 -- each reply is that of memory where it stands
 abbrev pub AreServed : Monitor → List Pair → Type 0
@@ -78,11 +78,11 @@ load_served m thread place value true own is = record {
 
 -- a store
 store_served : (m : Monitor) (thread : ℕ) (place : Place) (value : ℕ) (ex : Bool) → thread ≡ 0
-    → (ex ≡ true → marked_row m thread ≡ Some (row_of place))
+    → (ex ≡ true → marked_row m thread ≡ Some (row_of m.granule place))
     → IsServed m (entry.Write thread place value ex)
 store_served m thread place value false own marked = record { own = own; reply = refl; after = refl }
 store_served m thread place value true own marked =
-    let on : is_on (row_of place) (marked_row m 0) ≡ true = on_marked (row_of place) (marked_row m 0) (ap (marked_row m) (sym own) ∙ marked refl) in
+    let on : is_on (row_of m.granule place) (marked_row m 0) ≡ true = on_marked (row_of m.granule place) (marked_row m 0) (ap (marked_row m) (sym own) ∙ marked refl) in
     let is : made m (StoreEx place value) ≡ entry.Write 0 place value true =
     ap (λ b. entry_by (if b then deed.StoreEx else deed.StoreFail) 0 place value) on in
     record {
@@ -93,9 +93,9 @@ store_served m thread place value true own marked =
 
 -- a store-exclusive that failed
 fail_served : (m : Monitor) (thread : ℕ) (place : Place) (value : ℕ) (cause : Cause) → thread ≡ 0
-    → is_on (row_of place) (marked_row m thread) ≡ false → IsServed m (entry.Fail thread place value cause)
+    → is_on (row_of m.granule place) (marked_row m thread) ≡ false → IsServed m (entry.Fail thread place value cause)
 fail_served m thread place value cause own unmarked =
-    let off : is_on (row_of place) (marked_row m 0) ≡ false = ap (λ t. is_on (row_of place) (marked_row m t)) (sym own) ∙ unmarked in
+    let off : is_on (row_of m.granule place) (marked_row m 0) ≡ false = ap (λ t. is_on (row_of m.granule place) (marked_row m t)) (sym own) ∙ unmarked in
     let is : made m (StoreEx place value) ≡ entry.Fail 0 place value Absent =
     ap (λ b. entry_by (if b then deed.StoreEx else deed.StoreFail) 0 place value) off in
     record {
@@ -167,7 +167,7 @@ history_served m (e ∷ history) one legal decided =
     (history_served (accessed m e) history (one_still m e one legal.0) legal.1 decided.1)
 
 -- memory decides the replies of a thread alone
-pub alone_decided : (first : List ℕ) (history : List Entry) → IsAlone first history
-    → AreDecided (by_memory first) (pairs_of 0 history)
-alone_decided first history alone =
-    served_decides (at_rest first 1) (pairs_of 0 history) (history_served (at_rest first 1) history refl alone.legal alone.decided)
+pub alone_decided : (granule : ℕ) (first : List ℕ) (history : List Entry) → IsAlone granule first history
+    → AreDecided (by_memory granule first) (pairs_of 0 history)
+alone_decided granule first history alone =
+    served_decides (at_rest_by granule first 1) (pairs_of 0 history) (history_served (at_rest_by granule first 1) history refl alone.legal alone.decided)

@@ -23,18 +23,18 @@ use Rattle.guest_machine.proofs.SameCounts.{read_by, write_by, fail_by, reads_co
 use Rattle.guest_machine.proofs.TracedAlone.{trace_decided}
 
 -- two ends of thread 0, whose replies memory decided, are the same
-same_by_memory : (program : Program) (budget : ℕ) (start : Machine) (bytes : List ℕ) (history others : List Entry) (end other : GuestEnd)
-    → end.thread ≡ 0 → IsEndIn program budget start history end → AreDecided (by_memory bytes) (pairs_of 0 history)
-    → other.thread ≡ 0 → IsEndIn program budget start others other → AreDecided (by_memory bytes) (pairs_of 0 others)
+same_by_memory : (program : Program) (budget : ℕ) (start : Machine) (granule : ℕ) (bytes : List ℕ) (history others : List Entry) (end other : GuestEnd)
+    → end.thread ≡ 0 → IsEndIn program budget start history end → AreDecided (by_memory granule bytes) (pairs_of 0 history)
+    → other.thread ≡ 0 → IsEndIn program budget start others other → AreDecided (by_memory granule bytes) (pairs_of 0 others)
     → end ≡ other
-same_by_memory program budget start bytes history others end other number is decided number_too is_too decided_too =
+same_by_memory program budget start granule bytes history others end other number is decided number_too is_too decided_too =
     let ends : Ends program budget start (pairs_of 0 history) end.stop end.steps end.out =
     subst (λ t. Ends program budget start (pairs_of t history) end.stop end.steps end.out) number is.ends in
     let ends_too : Ends program budget start (pairs_of 0 others) other.stop other.steps other.out =
     subst (λ t. Ends program budget start (pairs_of t others) other.stop other.steps other.out) number_too is_too.ends in
     let counts : AreCounts 0 history (counts_in end) = subst (λ t. AreCounts t history (counts_in end)) number is.counts in
     let counts_too : AreCounts 0 others (counts_in other) = subst (λ t. AreCounts t others (counts_in other)) number_too is_too.counts in
-    let same = one_end (by_memory bytes) program budget start (pairs_of 0 history) (pairs_of 0 others)
+    let same = one_end (by_memory granule bytes) program budget start (pairs_of 0 history) (pairs_of 0 others)
     end.stop other.stop end.steps other.steps end.out other.out ends decided ends_too decided_too in
     same_end end other (number ∙ sym number_too) same.1 same.2
     (counts.reads ∙ same_count reads_in (λ pair. read_by pair.0 pair.1) reads_counted 0 history others same.0 ∙ sym counts_too.reads)
@@ -43,18 +43,18 @@ same_by_memory program budget start bytes history others end other number is dec
     same.3
 
 -- two ends of a thread alone are the same
-pub one_end_alone : (program : Program) (budget : ℕ) (start : Machine) (bytes : List ℕ) (end other : GuestEnd)
-    → IsEndAlone program budget start bytes end → IsEndAlone program budget start bytes other → end ≡ other
-one_end_alone program budget start bytes end other one two =
-    same_by_memory program budget start bytes one.history two.history end other
-    one.number one.end_in (alone_decided bytes one.history one.alone)
-    two.number two.end_in (alone_decided bytes two.history two.alone)
+pub one_end_alone : (program : Program) (budget : ℕ) (start : Machine) (granule : ℕ) (bytes : List ℕ) (end other : GuestEnd)
+    → IsEndAlone program budget start granule bytes end → IsEndAlone program budget start granule bytes other → end ≡ other
+one_end_alone program budget start granule bytes end other one two =
+    same_by_memory program budget start granule bytes one.history two.history end other
+    one.number one.end_in (alone_decided granule bytes one.history one.alone)
+    two.number two.end_in (alone_decided granule bytes two.history two.alone)
 
 -- the end of a trace of one thread is that of the thread alone
 pub end_as_traced : (program : Program) (size : Numbers) (seed budget : ℕ) (accesses : List Access) (end alone : GuestEnd)
     → IsTrace program size seed budget accesses → AreEnds program size budget (history_of accesses) (end ∷ []) → IsSoloEnd program size budget alone
     → end ≡ alone
 end_as_traced program size seed budget accesses end alone trace are is =
-    same_by_memory program budget (thread_start program size size.threads 0) program.bytes (history_of accesses) is.1.history end alone
+    same_by_memory program budget (thread_start program size size.threads 0) size.granule program.bytes (history_of accesses) is.1.history end alone
     (are.numbers 0 end refl) (are.each 0 end refl) (trace_decided program size seed budget accesses is.0 trace)
-    is.1.number is.1.end_in (alone_decided program.bytes is.1.history is.1.alone)
+    is.1.number is.1.end_in (alone_decided size.granule program.bytes is.1.history is.1.alone)

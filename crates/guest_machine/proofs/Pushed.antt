@@ -25,7 +25,7 @@ asked_is : (m : Monitor) (t : ℕ) (ask : Ask) → pair_of (entry_of (access_by 
 asked_is m t (Load place) = refl
 asked_is m t (LoadEx place) = refl
 asked_is m t (Store place value) = refl
-asked_is m t (StoreEx place value) = exclusive (is_on (row_of place) (marked_row m t))
+asked_is m t (StoreEx place value) = exclusive (is_on (row_of m.granule place) (marked_row m t))
   where
     exclusive : (b : Bool) → pair_of (entry_by (if b then deed.StoreEx else deed.StoreFail) t place value)
         ≡ (StoreEx place value, (pair_of (entry_by (if b then deed.StoreEx else deed.StoreFail) t place value)).1)

@@ -2,7 +2,7 @@
 use Rattle.std.proofs.Common.{◌≡◌, ℕ, List, [], ◌∷◌, ◌++◌, Some, refl, sym, ◌∙◌, ap, subst}
 use Rattle.llsc_base.specs.Images.{Program}
 use Rattle.llsc_base.specs.Sizes.{Numbers}
-use Rattle.history.specs.Monitor.{Monitor, accessed, at_rest}
+use Rattle.history.specs.Monitor.{Monitor, accessed, at_rest_by}
 use Rattle.history.specs.declared.entry.Access.{Access}
 use Rattle.a32_instr.specs.declared.outside.Ask.{Ask}
 use Rattle.guest_calls.proofs.Decided.{AreDecided}
@@ -28,14 +28,14 @@ replied_push m (first ∷ pairs) pair all here = (all.0, replied_push (accessed 
 
 -- the replies so far are memory's, and memory is as the accesses have left it
 record IsServedSo (program : Program) (size : Numbers) (accesses : List Access) : Type 0 where
-  replies : AreServed (at_rest program.bytes size.threads) (pairs_in 0 accesses)
-  left : served (at_rest program.bytes size.threads) (pairs_in 0 accesses) ≡ monitor_of program size accesses
+  replies : AreServed (at_rest_by size.granule program.bytes size.threads) (pairs_in 0 accesses)
+  left : served (at_rest_by size.granule program.bytes size.threads) (pairs_in 0 accesses) ≡ monitor_of program size accesses
 
 -- after an access of thread 0
 access_more : (program : Program) (size : Numbers) (accesses : List Access) (ask : Ask) → IsServedSo program size accesses
     → IsServedSo program size (accesses ++ access_by (monitor_of program size accesses) 0 ask ∷ [])
 access_more program size accesses ask so =
-    let first : Monitor = at_rest program.bytes size.threads in
+    let first : Monitor = at_rest_by size.granule program.bytes size.threads in
     let monitor : Monitor = monitor_of program size accesses in
     let access : Access = access_by monitor 0 ask in
     let pairs : List Pair = pairs_in 0 accesses in
@@ -63,8 +63,8 @@ turns_served program size seed budget _ _ _ one (stops x live accesses t stop st
 
 -- memory decides the replies of the trace of one thread
 pub trace_decided : (program : Program) (size : Numbers) (seed budget : ℕ) (accesses : List Access) → size.threads ≡ 1
-    → IsTrace program size seed budget accesses → AreDecided (by_memory program.bytes) (pairs_in 0 accesses)
+    → IsTrace program size seed budget accesses → AreDecided (by_memory size.granule program.bytes) (pairs_in 0 accesses)
 trace_decided program size seed budget accesses one trace =
-    subst (λ n. AreDecided (λ front ask. Some (reply_to (served (at_rest program.bytes n) front) ask)) (pairs_in 0 accesses)) one
-    (served_decides (at_rest program.bytes size.threads) (pairs_in 0 accesses)
+    subst (λ n. AreDecided (λ front ask. Some (reply_to (served (at_rest_by size.granule program.bytes n) front) ask)) (pairs_in 0 accesses)) one
+    (served_decides (at_rest_by size.granule program.bytes size.threads) (pairs_in 0 accesses)
     (turns_served program size seed budget trace.0 [] accesses one trace.1).replies)

@@ -9,7 +9,7 @@ use Rattle.std.proofs.lemmas.List.FromFn.{get_or-map-range_with_len, length-map-
 use Rattle.llsc_base.specs.Images.{Program}
 use Rattle.llsc_base.specs.Sizes.{Numbers}
 use Rattle.history.specs.ArmLegal.{IsArmLegal, MayAccess}
-use Rattle.history.specs.Monitor.{Monitor, IsAsLarge, accessed, at_rest}
+use Rattle.history.specs.Monitor.{Monitor, IsAsLarge, accessed, at_rest_by}
 use Rattle.history.specs.declared.entry.Access.{Access}
 use Rattle.history.proofs.Appends.{IsArmLegal-push}
 use Rattle.a32_instr.specs.declared.outside.Ask.{Ask}
@@ -127,8 +127,8 @@ after_access program size seed budget x live seats memory accesses t ask seat as
       memory = ap (λ m. accessed m (entry_of access)) turned.memory ∙ sym (monitor_push program size accesses access);
       bytes = large.bytes ∙ turned.bytes;
       marks = large.threads ∙ turned.marks;
-      legal = subst (IsArmLegal (at_rest program.bytes size.threads)) (sym (history_push accesses access))
-          (IsArmLegal-push (at_rest program.bytes size.threads) (history_of accesses) (entry_of access) turned.legal
+      legal = subst (IsArmLegal (at_rest_by size.granule program.bytes size.threads)) (sym (history_push accesses access))
+          (IsArmLegal-push (at_rest_by size.granule program.bytes size.threads) (history_of accesses) (entry_of access) turned.legal
           (subst (λ m. MayAccess m (entry_of access)) turned.memory may));
       sound = All-push (IsAccess size.threads) accesses access turned.sound (subst (λ n. IsAccess n access) turned.marks sound);
     }
@@ -219,12 +219,12 @@ after_stop program size seed budget x live seats memory accesses t stop seat end
 
 pub at_start : (program : Program) (size : Numbers) (seed budget : ℕ) (live : List ℕ) (seats : List Seat) (memory : Monitor) (accesses : List Access)
     → live ≡ range_with_len 0 size.threads → seats ≡ map (first_seat program size) (range_with_len 0 size.threads)
-    → memory ≡ at_rest program.bytes size.threads → accesses ≡ []
+    → memory ≡ at_rest_by size.granule program.bytes size.threads → accesses ≡ []
     → HaveTurned program size seed budget seed live seats memory accesses
 at_start program size seed budget live seats memory accesses live_is seats_are memory_is none =
     subst (λ s. HaveTurned program size seed budget seed live s memory accesses) (sym seats_are)
     (turned_as program size seed budget seed seed (range_with_len 0 size.threads) live (map (first_seat program size) (range_with_len 0 size.threads))
-    (at_rest program.bytes size.threads) memory [] accesses refl live_is memory_is none (record {
+    (at_rest_by size.granule program.bytes size.threads) memory [] accesses refl live_is memory_is none (record {
       takes = begins;
       few = omega arith;
       below = subst (λ n. All (λ t. t < n) (range_with_len 0 size.threads)) (zero-add size.threads) (range_below size.threads 0);

@@ -4,7 +4,7 @@ use Rattle.llsc_base.specs.Images.{Program}
 use Rattle.llsc_base.specs.Sizes.{Numbers}
 use Rattle.llsc_base.specs.Memory.{row_of}
 use Rattle.history.specs.ArmLegal.{MayAccess}
-use Rattle.history.specs.Monitor.{Monitor, accessed, at_rest, is_on, marked_row, monitor_after}
+use Rattle.history.specs.Monitor.{Monitor, accessed, at_rest_by, is_on, marked_row, monitor_after}
 use Rattle.history.specs.declared.entry.Access.{Access}
 use Rattle.history.specs.declared.entry.Deed.TheVariants as deed
 use Rattle.history.specs.declared.entry.Entry.{Entry}
@@ -38,9 +38,9 @@ pub unmarked : (m : Monitor) (t : ℕ) (ask : Ask) → FailsUnmarked m (entry_of
 unmarked m t (Load place) = tt
 unmarked m t (LoadEx place) = tt
 unmarked m t (Store place value) = tt
-unmarked m t (StoreEx place value) = by_mark (is_on (row_of place) (marked_row m t)) refl
+unmarked m t (StoreEx place value) = by_mark (is_on (row_of m.granule place) (marked_row m t)) refl
   where
-    by_mark : (b : Bool) → is_on (row_of place) (marked_row m t) ≡ b → FailsUnmarked m (entry_by (if b then deed.StoreEx else deed.StoreFail) t place value)
+    by_mark : (b : Bool) → is_on (row_of m.granule place) (marked_row m t) ≡ b → FailsUnmarked m (entry_by (if b then deed.StoreEx else deed.StoreFail) t place value)
     by_mark true is = tt
     by_mark false is = is
 unmarked m t Clear = tt
@@ -51,8 +51,8 @@ all_fail_push m [] e all here = (here, tt)
 all_fail_push m (entry ∷ history) e all here = (all.0, all_fail_push (accessed m entry) history e all.1 here)
 
 -- one more access
-pub after_access : (program : Program) (budget : ℕ) (start : Machine) (bytes : List ℕ) (alone : Alone) (asked replied : ThreadState) (monitor : Monitor) (counts : Counts)
-    (ask : Ask) (access : Access) (reply : ℕ) (way : IsUnderWay program budget start bytes alone)
+pub after_access : (program : Program) (budget : ℕ) (start : Machine) (granule : ℕ) (bytes : List ℕ) (alone : Alone) (asked replied : ThreadState) (monitor : Monitor) (counts : Counts)
+    (ask : Ask) (access : Access) (reply : ℕ) (way : IsUnderWay program budget start granule bytes alone)
     → Awaits program budget start (pairs_of 0 way.history) ask asked
     → access ≡ access_by alone.memory 0 ask → monitor ≡ accessed alone.memory (entry_of access) → reply ≡ reply_of access
     → MayAccess alone.memory (entry_of access)
@@ -60,30 +60,30 @@ pub after_access : (program : Program) (budget : ℕ) (start : Machine) (bytes :
     → counts.writes ≡ alone.counts.writes + writes_in (entry_of access)
     → counts.fails ≡ alone.counts.fails + fails_in (entry_of access)
     → (Awaits program budget start (pairs_of 0 way.history) ask asked → HasCome program budget start (pairs_of 0 way.history ++ (ask, reply) ∷ []) replied)
-    → IsUnderWay program budget start bytes (record { guest = replied; memory = monitor; counts = counts })
-after_access program budget start bytes alone asked replied monitor counts ask access reply way awaits is monitor_is reply_is may reads writes fails comes =
+    → IsUnderWay program budget start granule bytes (record { guest = replied; memory = monitor; counts = counts })
+after_access program budget start granule bytes alone asked replied monitor counts ask access reply way awaits is monitor_is reply_is may reads writes fails comes =
     let e : Entry = entry_of access in
-    let there : Monitor = monitor_after (at_rest bytes 1) way.history in
+    let there : Monitor = monitor_after (at_rest_by granule bytes 1) way.history in
     let same : (ask, reply_of (access_by alone.memory 0 ask)) ≡ (ask, reply) = ap (λ r. (ask, r)) (ap reply_of (sym is) ∙ sym reply_is) in
     record {
       history = way.history ++ e ∷ [];
       allowed = record {
-        legal = IsArmLegal-push (at_rest bytes 1) way.history e way.allowed.legal (subst (λ m. MayAccess m e) way.memory may);
-        decided = all_fail_push (at_rest bytes 1) way.history e way.allowed.decided
+        legal = IsArmLegal-push (at_rest_by granule bytes 1) way.history e way.allowed.legal (subst (λ m. MayAccess m e) way.memory may);
+        decided = all_fail_push (at_rest_by granule bytes 1) way.history e way.allowed.decided
             (subst (λ m. FailsUnmarked m e) way.memory (subst (λ a. FailsUnmarked alone.memory (entry_of a)) (sym is) (unmarked alone.memory 0 ask)));
       };
       come = subst (λ p. HasCome program budget start p replied)
           (ap (λ p. pairs_of 0 way.history ++ p ∷ []) (sym same) ∙ sym (own_asked_push 0 way.history alone.memory ask)
           ∙ ap (λ a. pairs_of 0 (way.history ++ entry_of a ∷ [])) (sym is))
           (comes awaits);
-      memory = monitor_is ∙ ap (λ m. accessed m e) way.memory ∙ sym (monitor_after-push (at_rest bytes 1) way.history e);
+      memory = monitor_is ∙ ap (λ m. accessed m e) way.memory ∙ sym (monitor_after-push (at_rest_by granule bytes 1) way.history e);
       counts = own_counted 0 way.history e alone.counts counts (thread_is access ∙ ap (λ a. a.thread) is ∙ made_by alone.memory 0 ask) way.counts reads writes fails;
     }
 
 -- at the start
 pub at_start : (program : Program) (size : Numbers) (budget : ℕ) (alone : Alone) → alone.guest ≡ first_state program size size.threads 0
-    → alone.memory ≡ at_rest program.bytes 1 → alone.counts ≡ record { reads = 0; writes = 0; fails = 0 }
-    → IsUnderWay program budget (thread_start program size size.threads 0) program.bytes alone
+    → alone.memory ≡ at_rest_by size.granule program.bytes 1 → alone.counts ≡ record { reads = 0; writes = 0; fails = 0 }
+    → IsUnderWay program budget (thread_start program size size.threads 0) size.granule program.bytes alone
 at_start program size budget alone guest memory counts = record {
   history = [];
   allowed = record { legal = tt; decided = tt };
@@ -93,11 +93,11 @@ at_start program size budget alone guest memory counts = record {
 }
 
 -- at the end
-pub end_of : (program : Program) (budget : ℕ) (start : Machine) (bytes : List ℕ) (stop : Stop) (alone : Alone) (steps : ℕ) (out : List ℕ)
-    → steps ≡ alone.guest.steps → out ≡ alone.guest.output → IsOver program budget start bytes stop alone
-    → IsEndAlone program budget start bytes
+pub end_of : (program : Program) (budget : ℕ) (start : Machine) (granule : ℕ) (bytes : List ℕ) (stop : Stop) (alone : Alone) (steps : ℕ) (out : List ℕ)
+    → steps ≡ alone.guest.steps → out ≡ alone.guest.output → IsOver program budget start granule bytes stop alone
+    → IsEndAlone program budget start granule bytes
     (record { thread = 0; stop = stop; steps = steps; reads = alone.counts.reads; writes = alone.counts.writes; fails = alone.counts.fails; out = out })
-end_of program budget start bytes stop alone steps out steps_are out_is over = record {
+end_of program budget start granule bytes stop alone steps out steps_are out_is over = record {
   number = refl;
   history = over.history;
   alone = over.allowed;

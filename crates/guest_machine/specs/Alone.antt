@@ -3,7 +3,7 @@ use Rattle.std.specs.Prelude.{◌≡◌, ℕ, false, List, [], ◌∷◌}
 use Rattle.llsc_base.specs.Memory.{row_of}
 use Rattle.llsc_base.specs.Sizes.{Numbers}
 use Rattle.llsc_base.specs.Images.{Program}
-use Rattle.history.specs.Monitor.{Monitor, accessed, at_rest, is_on, marked_row}
+use Rattle.history.specs.Monitor.{Monitor, accessed, at_rest_by, is_on, marked_row}
 use Rattle.history.specs.ArmLegal.{IsArmLegal}
 use Rattle.history.specs.declared.entry.Entry.{Entry}
 use Rattle.history.specs.declared.entry.Entry.TheVariants as entry
@@ -14,26 +14,26 @@ use Rattle.guest_thread.specs.declared.ends.GuestEnd.{GuestEnd}
 
 -- a store-exclusive fails only where its thread isn't marked on the row
 abbrev pub FailsUnmarked : Monitor → Entry → Type 0
-FailsUnmarked monitor (entry.Fail thread place value cause) = is_on (row_of place) (marked_row monitor thread) ≡ false
+FailsUnmarked monitor (entry.Fail thread place value cause) = is_on (row_of monitor.granule place) (marked_row monitor thread) ≡ false
 FailsUnmarked monitor _ = Unit {0}
 
 abbrev pub AllFailUnmarked : Monitor → List Entry → Type 0
 AllFailUnmarked monitor [] = Unit {0}
 AllFailUnmarked monitor (entry ∷ entries) = FailsUnmarked monitor entry × AllFailUnmarked (accessed monitor entry) entries
 
--- A history of a thread alone, where memory began as these bytes: Arm allows its accesses, all of them the thread's, and
+-- A history of a thread alone, where memory began as these bytes, with rows of this granule: Arm allows its accesses, all of them the thread's, and
 -- each store-exclusive succeeds just where its thread is marked on its row.
-pub record IsAlone (bytes : List ℕ) (history : List Entry) : Type 0 where
-  pub legal : IsArmLegal (at_rest bytes 1) history
-  pub decided : AllFailUnmarked (at_rest bytes 1) history
+pub record IsAlone (granule : ℕ) (bytes : List ℕ) (history : List Entry) : Type 0 where
+  pub legal : IsArmLegal (at_rest_by granule bytes 1) history
+  pub decided : AllFailUnmarked (at_rest_by granule bytes 1) history
 
 -- the end of a thread alone: that of thread 0 in such a history
-pub record IsEndAlone (program : Program) (budget : ℕ) (start : Machine) (bytes : List ℕ) (end : GuestEnd) : Type 0 where
+pub record IsEndAlone (program : Program) (budget : ℕ) (start : Machine) (granule : ℕ) (bytes : List ℕ) (end : GuestEnd) : Type 0 where
   pub number : end.thread ≡ 0
   pub history : List Entry
-  pub alone : IsAlone bytes history
+  pub alone : IsAlone granule bytes history
   pub end_in : IsEndIn program budget start history end
 
 -- the machine has one thread, and the end is that of the program's, on a memory that begins as the program's bytes
 abbrev pub IsSoloEnd : Program → Numbers → ℕ → GuestEnd → Type 0
-IsSoloEnd program size budget end = (size.threads ≡ 1) × IsEndAlone program budget (thread_start program size size.threads 0) program.bytes end
+IsSoloEnd program size budget end = (size.threads ≡ 1) × IsEndAlone program budget (thread_start program size size.threads 0) size.granule program.bytes end

@@ -5,7 +5,7 @@ use Rattle.std.specs.Option.{is_none, IsSome}
 use Rattle.llsc_base.specs.Images.{Program}
 use Rattle.llsc_base.specs.Sizes.{Numbers}
 use Rattle.history.specs.ArmLegal.{IsArmLegal}
-use Rattle.history.specs.Monitor.{Monitor, at_rest}
+use Rattle.history.specs.Monitor.{Monitor, at_rest_by}
 use Rattle.history.specs.declared.entry.Access.{Access}
 use Rattle.a32_instr.specs.declared.outside.Stop.{Stop}
 use Rattle.guest_calls.specs.Run.{Pair, Ends}
@@ -56,7 +56,7 @@ pub record HaveTurned (program : Program) (size : Numbers) (seed budget : ℕ)
   pub memory : monitor ≡ monitor_of program size accesses
   pub bytes : length monitor.memory ≡ length program.bytes
   pub marks : length monitor.marks ≡ size.threads
-  pub legal : IsArmLegal (at_rest program.bytes size.threads) (history_of accesses)
+  pub legal : IsArmLegal (at_rest_by size.granule program.bytes size.threads) (history_of accesses)
   pub sound : All (IsAccess size.threads) accesses
 
 abbrev pub AreUnderWay : Program → Numbers → ℕ → ℕ → Turns → Type 0

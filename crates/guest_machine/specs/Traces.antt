@@ -3,7 +3,7 @@ use Rattle.std.specs.Prelude.{◌≡◌, ℕ, List, codes}
 use Rattle.llsc_base.specs.Images.{Program}
 use Rattle.llsc_base.specs.Sizes.{Numbers}
 use Rattle.history.specs.ArmLegal.{IsArmLegal}
-use Rattle.history.specs.Monitor.{at_rest}
+use Rattle.history.specs.Monitor.{at_rest_by}
 use Rattle.history.specs.declared.entry.Access.{Access}
 use Rattle.history.specs.Accesses.{history_of}
 use Rattle.run_record.specs.Limits.{IsRecord}
@@ -21,7 +21,7 @@ pub record IsTraceRecord (program : Program) (size : Numbers) (seed budget : ℕ
 
 -- Arm allows these accesses to the program's memory
 abbrev pub IsLegalTrace : Program → Numbers → List Access → Type 0
-IsLegalTrace program size accesses = IsArmLegal (at_rest program.bytes size.threads) (history_of accesses)
+IsLegalTrace program size accesses = IsArmLegal (at_rest_by size.granule program.bytes size.threads) (history_of accesses)
 
 -- a fault's name
 abbrev pub trace_fault_name : TraceFault → List ℕ

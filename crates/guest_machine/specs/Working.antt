@@ -1,7 +1,7 @@
 -- How a thread alone stands between two of its accesses.
 use Rattle.std.specs.Prelude.{◌≡◌, ℕ, ◌≤◌, List, length}
 use Rattle.llsc_base.specs.Images.{Program}
-use Rattle.history.specs.Monitor.{at_rest, monitor_after}
+use Rattle.history.specs.Monitor.{at_rest_by, monitor_after}
 use Rattle.history.specs.declared.entry.Entry.{Entry}
 use Rattle.a32_instr.specs.declared.outside.Stop.{Stop}
 use Rattle.a32_step.specs.Machine.{Machine}
@@ -25,16 +25,16 @@ pub record IsWorking (program : Program) (budget : ℕ) (alone : Alone) : Type 0
   pub counted : accesses_counted alone.counts ≤ progress_of alone.guest
 
 -- the history that brought it here, where memory began as these bytes, its memory and its counts
-pub record IsUnderWay (program : Program) (budget : ℕ) (start : Machine) (bytes : List ℕ) (alone : Alone) : Type 0 where
+pub record IsUnderWay (program : Program) (budget : ℕ) (start : Machine) (granule : ℕ) (bytes : List ℕ) (alone : Alone) : Type 0 where
   pub history : List Entry
-  pub allowed : IsAlone bytes history
+  pub allowed : IsAlone granule bytes history
   pub come : HasCome program budget start (pairs_of 0 history) alone.guest
-  pub memory : alone.memory ≡ monitor_after (at_rest bytes 1) history
+  pub memory : alone.memory ≡ monitor_after (at_rest_by granule bytes 1) history
   pub counts : AreCounts 0 history alone.counts
 
 -- it has ended by such a history
-pub record IsOver (program : Program) (budget : ℕ) (start : Machine) (bytes : List ℕ) (stop : Stop) (alone : Alone) : Type 0 where
+pub record IsOver (program : Program) (budget : ℕ) (start : Machine) (granule : ℕ) (bytes : List ℕ) (stop : Stop) (alone : Alone) : Type 0 where
   pub history : List Entry
-  pub allowed : IsAlone bytes history
+  pub allowed : IsAlone granule bytes history
   pub ends : Ends program budget start (pairs_of 0 history) stop alone.guest.steps alone.guest.output
   pub counts : AreCounts 0 history alone.counts

@@ -31,8 +31,8 @@ impl Alone {
         requires budget { budget ≤ most_budget }
         ensures goes_on { IfNone result (IsWorking image.now budget self.new) }
         ensures later { IfNone result (progress_of self.old.guest < progress_of self.new.guest) }
-        ensures under_way { (start : Machine) (bytes : List ℕ) → IsUnderWay image.now budget start bytes self.old
-            → MatchOption result (IsUnderWay image.now budget start bytes self.new) (λ stop. IsOver image.now budget start bytes stop self.new) }
+        ensures under_way { (start : Machine) (granule : ℕ) (bytes : List ℕ) → IsUnderWay image.now budget start granule bytes self.old
+            → MatchOption result (IsUnderWay image.now budget start granule bytes self.new) (λ stop. IsOver image.now budget start granule bytes stop self.new) }
     {
         match self.guest.next(image, budget) {
             Turn::Asks(ask) => {
@@ -50,8 +50,8 @@ impl Alone {
         requires working { IsWorking image.now budget self.old }
         requires small { length image.now.bytes ≤ 16777216 }
         requires budget { budget ≤ most_budget }
-        ensures { (start : Machine) (bytes : List ℕ) → IsUnderWay image.now budget start bytes self.old
-            → IsOver image.now budget start bytes result self.new }
+        ensures { (start : Machine) (granule : ℕ) (bytes : List ℕ) → IsUnderWay image.now budget start granule bytes self.old
+            → IsOver image.now budget start granule bytes result self.new }
     {
         loop {
             if let Some(stop) = self.turn(image, budget) {
@@ -81,10 +81,10 @@ pub fn solo(
     ensures { IfOk result (λ end. IsSoloEnd image.now size.now budget end) }
 {
     let mem = size.mem();
-    prove!(mem % 8 == 0);
+    prove!(mem <= 16_777_216);
     let mut alone = Alone {
         guest: Guest::start(alloc, image, size, 0)?,
-        memory: PlainMemory::new(alloc, image.bytes(), 1)?,
+        memory: PlainMemory::sized(alloc, image.bytes(), size)?,
         counts: Counts::none(),
     };
     let stop = alone.run(image, budget);

@@ -39,8 +39,8 @@ pub fn one_thread_needs_no_seed()
 /// A thread alone has one end at most: its stop, its steps, its output, and how many loads, stores and failed
 /// store-exclusives it made follow from its program, its budget, its start and its memory at first.
 pub fn threads_alone_have_one_end()
-    ensures any_start { (program : Program) (budget : ℕ) (start : Machine) (bytes : List ℕ) (end other : GuestEnd) →
-        IsEndAlone program budget start bytes end → IsEndAlone program budget start bytes other → end ≡ other }
+    ensures any_start { (program : Program) (budget : ℕ) (start : Machine) (granule : ℕ) (bytes : List ℕ) (end other : GuestEnd) →
+        IsEndAlone program budget start granule bytes end → IsEndAlone program budget start granule bytes other → end ≡ other }
     ensures solo { (program : Program) (size : Numbers) (budget : ℕ) (end other : GuestEnd) →
         IsSoloEnd program size budget end → IsSoloEnd program size budget other → end ≡ other }
 {}

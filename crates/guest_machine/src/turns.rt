@@ -44,12 +44,12 @@ impl Turns {
         ensures under_way { IfOk result (λ turns. AreUnderWay plan.now.image.now plan.now.size.now plan.now.seed plan.now.budget turns) }
     {
         let (threads, mem) = (plan.size.threads(), plan.size.mem());
-        prove!(mem % 8 == 0);
+        prove!(mem <= 16_777_216);
         Ok(Turns {
             number: plan.seed,
             live: numbers(alloc, threads)?,
             seats: seats(alloc, plan.image, plan.size)?,
-            memory: PlainMemory::new(alloc, plan.image.bytes(), threads)?,
+            memory: PlainMemory::sized(alloc, plan.image.bytes(), plan.size)?,
             accesses: Vec::new(alloc),
         })
     }

@@ -5,7 +5,7 @@ use Rattle.std.proofs.lemmas.List.{map-append}
 use Rattle.llsc_base.specs.Images.{Program}
 use Rattle.llsc_base.specs.Sizes.{Numbers}
 use Rattle.llsc_base.specs.declared.access.Place.{Place}
-use Rattle.history.specs.Monitor.{accessed, at_rest, monitor_after}
+use Rattle.history.specs.Monitor.{accessed, at_rest_by, monitor_after}
 use Rattle.history.specs.Entry.{is_access, thread_of}
 use Rattle.history.specs.Parts.{accesses_of, entries_of}
 use Rattle.history.specs.declared.entry.Access.{Access}
@@ -82,5 +82,5 @@ other_push thread early access other =
 pub monitor_push : (program : Program) (size : Numbers) (accesses : List Access) (access : Access)
     → monitor_of program size (accesses ++ access ∷ []) ≡ accessed (monitor_of program size accesses) (entry_of access)
 monitor_push program size accesses access =
-    ap (λ h. monitor_after (at_rest program.bytes size.threads) h) (history_push accesses access)
-    ∙ monitor_after-push (at_rest program.bytes size.threads) (history_of accesses) (entry_of access)
+    ap (λ h. monitor_after (at_rest_by size.granule program.bytes size.threads) h) (history_push accesses access)
+    ∙ monitor_after-push (at_rest_by size.granule program.bytes size.threads) (history_of accesses) (entry_of access)

@@ -4,7 +4,7 @@ use Rattle.llsc_base.specs.Images.{Program}
 use Rattle.llsc_base.specs.Sizes.{Numbers}
 use Rattle.history.specs.Accesses.{history_of, nowhere}
 use Rattle.history.specs.Made.{made}
-use Rattle.history.specs.Monitor.{Monitor, at_rest, monitor_after}
+use Rattle.history.specs.Monitor.{Monitor, at_rest_by, monitor_after}
 use Rattle.history.specs.declared.entry.Access.{Access}
 use Rattle.history.specs.declared.entry.Deed.TheVariants as deed
 use Rattle.a32_instr.specs.declared.outside.Ask.{Ask}
@@ -26,4 +26,4 @@ access_by monitor t ask = made monitor (tried_by t ask)
 
 -- memory and its monitors after these accesses of so many threads
 abbrev pub monitor_of : Program → Numbers → List Access → Monitor
-monitor_of program size accesses = monitor_after (at_rest program.bytes size.threads) (history_of accesses)
+monitor_of program size accesses = monitor_after (at_rest_by size.granule program.bytes size.threads) (history_of accesses)

@@ -17,7 +17,7 @@ use Rattle.guest_thread.specs.declared.ends.GuestEnd.{GuestEnd}
 
 -- the class of an address's row has had as many Writes in a history as it may have
 abbrev pub IsSpent : Numbers → List Entry → ℕ → Type 0
-IsSpent size history addr = size.limit ≤ writes_in_class size.classes (row_of (byte_place addr)) history
+IsSpent size history addr = size.limit ≤ writes_in_class size (row_of size.granule (byte_place addr)) history
 
 -- a thread's stop, its steps and its output are those of its run with its accesses in the history; where it was stopped at a
 -- store, the class of the store has no write left; and its counts are those of its accesses

@@ -42,7 +42,7 @@ asked_by : (monitor : Monitor) (t : ℕ) (ask : Ask) → is_asked ask (access_by
 asked_by monitor t (Load place) = same_place place
 asked_by monitor t (LoadEx place) = same_place place
 asked_by monitor t (Store place value) = same_store place value
-asked_by monitor t (StoreEx place value) = exclusive (is_on (row_of place) (marked_row monitor t))
+asked_by monitor t (StoreEx place value) = exclusive (is_on (row_of monitor.granule place) (marked_row monitor t))
   where
     exclusive : (marked : Bool) → fits (StoreEx place value) (store_or_fail marked) place value ≡ true
     exclusive true = same_store place value
@@ -54,7 +54,7 @@ value_by : (monitor : Monitor) (t : ℕ) (ask : Ask) → HasWrongValue monitor (
 value_by monitor t (Load place) wrong = wrong.1 refl
 value_by monitor t (LoadEx place) wrong = wrong.1 refl
 value_by monitor t (Store place value) wrong = let load : false ≡ true = wrong.0 in cc
-value_by monitor t (StoreEx place value) wrong = exclusive (is_on (row_of place) (marked_row monitor t)) wrong.0
+value_by monitor t (StoreEx place value) wrong = exclusive (is_on (row_of monitor.granule place) (marked_row monitor t)) wrong.0
   where
     exclusive : (marked : Bool) → is_load (store_or_fail marked) ≡ true → ⊥
     exclusive true load = cc
@@ -66,7 +66,7 @@ reserved_by : (monitor : Monitor) (t : ℕ) (ask : Ask) → LacksReservation mon
 reserved_by monitor t (Load place) lacks = let stores : deed.Load ≡ deed.StoreEx = lacks.0 in cc
 reserved_by monitor t (LoadEx place) lacks = let stores : deed.LoadEx ≡ deed.StoreEx = lacks.0 in cc
 reserved_by monitor t (Store place value) lacks = let stores : deed.Store ≡ deed.StoreEx = lacks.0 in cc
-reserved_by monitor t (StoreEx place value) lacks = exclusive (is_on (row_of place) (marked_row monitor t)) lacks.0 lacks.1
+reserved_by monitor t (StoreEx place value) lacks = exclusive (is_on (row_of monitor.granule place) (marked_row monitor t)) lacks.0 lacks.1
   where
     exclusive : (marked : Bool) → store_or_fail marked ≡ deed.StoreEx → marked ≡ false → ⊥
     exclusive true stores unmarked = cc

@@ -12,5 +12,6 @@ pub mod OptionWords
 pub mod TraceAnswers
 pub mod Asked
 pub mod Kept
+pub mod OneAnswer
 pub mod GoodTraces
 pub mod TracesAlone

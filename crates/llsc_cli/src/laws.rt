@@ -12,8 +12,16 @@ ghost use Rattle.guest_machine.specs.Alone.{IsSoloEnd};
 ghost use Rattle.guest_machine.specs.Traces.{IsTraceRecord};
 ghost use Rattle.guest_machine.specs.Turns.{IsTrace};
 ghost use Rattle.run_checker.specs.Verdict.{Judges};
+ghost use Rattle.llsc_cli.specs.Answer.{Answers};
+ghost use Rattle.llsc_cli.specs.Request.{Request};
 
 use run_checker::Verdict;
+
+/// A request has one answer for the bytes of its files: one status and one text.
+pub fn answers_are_one()
+    ensures { (asked : Request) (files : List (List ℕ)) (status other : ℕ) (text more : List ℕ) →
+        Answers asked files status text → Answers asked files other more → (status ≡ other) × (text ≡ more) }
+{}
 
 /// The record of a trace is good.
 pub fn traces_are_good()

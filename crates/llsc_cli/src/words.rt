@@ -6,6 +6,7 @@ ghost use Rattle.llsc_cli.specs.Request.{asked, assemble_for, check_for, disasse
 
 use crate::formats::Format;
 use crate::options::{Given, Options, given_of};
+use llsc_base::MOST_STEPS;
 
 /// The bytes of memory where none are given.
 const MEM: u64 = 1_048_576;
@@ -21,9 +22,6 @@ const TRACE_SEED: u64 = 0;
 
 /// The steps of a thread of a trace where no budget is given.
 const TRACE_BUDGET: u64 = 10_000;
-
-/// The greatest budget.
-const MOST_STEPS: u64 = 1_000_000_000_000;
 
 /// The numbers of a trace.
 #[derive(Clone, Copy)]

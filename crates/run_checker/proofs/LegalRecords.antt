@@ -9,7 +9,7 @@ use Rattle.llsc_base.specs.Images.{Program}
 use Rattle.llsc_base.specs.Sizes.{Numbers}
 use Rattle.llsc_base.specs.declared.access.Place.{Place}
 use Rattle.history.specs.ArmLegal.{IsArmLegal, IsSound, MayAccess}
-use Rattle.history.specs.Monitor.{Monitor, at_rest, is_on, marked_row}
+use Rattle.history.specs.Monitor.{Monitor, at_rest_by, is_on, marked_row}
 use Rattle.history.specs.declared.entry.Access.{Access}
 use Rattle.history.specs.declared.entry.Deed.{Deed}
 use Rattle.history.specs.declared.entry.Deed.TheVariants as deed
@@ -40,7 +40,7 @@ may_by : (monitor : Monitor) (made : Deed) (thread : ℕ) (place : Place) (value
     → thread < length monitor.marks
     → ((made ≡ deed.Clear → ⊥) → IsSound (length monitor.marks) (length monitor.memory) thread place value)
     → ((is_load made ≡ true) × (value ≢ value_at monitor.memory place) → ⊥)
-    → ((made ≡ deed.StoreEx) × (is_on (row_of place) (marked_row monitor thread) ≡ false) → ⊥)
+    → ((made ≡ deed.StoreEx) × (is_on (row_of monitor.granule place) (marked_row monitor thread) ≡ false) → ⊥)
     → MayAccess monitor (entry_by made thread place value)
 may_by monitor deed.Load thread place value known sound wrong lacks =
     (sound (λ e. cc), not_other value (value_at monitor.memory place) (λ apart. wrong (refl, apart)))
@@ -49,7 +49,7 @@ may_by monitor deed.LoadEx thread place value known sound wrong lacks =
 may_by monitor deed.Store thread place value known sound wrong lacks = (sound (λ e. cc), λ e. cc)
 may_by monitor deed.StoreEx thread place value known sound wrong lacks = (
   sound (λ e. cc),
-  λ e. on_row (row_of place) (marked_row monitor thread) (true_from_ne_false (is_on (row_of place) (marked_row monitor thread)) (λ off. lacks (refl, off))),
+  λ e. on_row (row_of monitor.granule place) (marked_row monitor thread) (true_from_ne_false (is_on (row_of monitor.granule place) (marked_row monitor thread)) (λ off. lacks (refl, off))),
 )
 may_by monitor deed.StoreFail thread place value known sound wrong lacks = sound (λ e. cc)
 may_by monitor deed.Clear thread place value known sound wrong lacks = known
@@ -97,7 +97,7 @@ module _ (program : Program) (size : Numbers) (budget : ℕ) where
 
   -- right accesses are allowed
   pub right_legal : (accesses : List Access) → AreRight program size budget accesses → All (IsAccess size.threads) accesses
-      → IsArmLegal (at_rest program.bytes size.threads) (history_of accesses)
+      → IsArmLegal (at_rest_by size.granule program.bytes size.threads) (history_of accesses)
   right_legal accesses right are =
       legal_from [] accesses (record { bytes = refl; threads = length-replicate size.threads None }) right are
 

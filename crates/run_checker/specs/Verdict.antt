@@ -50,7 +50,7 @@ HasWrongValue monitor access = (is_load access.deed ≡ true) × (access.value �
 
 abbrev pub LacksReservation : Monitor → Access → Type 0
 LacksReservation monitor access =
-    (access.deed ≡ deed.StoreEx) × (is_on (row_of access.place) (marked_row monitor access.thread) ≡ false)
+    (access.deed ≡ deed.StoreEx) × (is_on (row_of monitor.granule access.place) (marked_row monitor access.thread) ≡ false)
 
 -- A thread's next ask, after the accesses before.
 abbrev pub AsksNext : Program → Numbers → ℕ → List Access → ℕ → Ask → Type 0

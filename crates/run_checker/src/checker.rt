@@ -35,12 +35,12 @@ impl Checker {
         ensures threads { IfOk result (λ checker. length checker.guests.items ≡ size.now.threads) }
     {
         let (threads, mem) = (size.threads(), size.mem());
-        prove!(mem % 8 == 0);
+        prove!(mem <= 16_777_216);
         let mut guests = Vec::with_capacity(alloc, threads as usize)?;
         for t in 0..threads {
             guests.push(Guest::start(alloc, image, size, t)?)?;
         }
-        let memory = PlainMemory::new(alloc, image.bytes(), threads)?;
+        let memory = PlainMemory::sized(alloc, image.bytes(), size)?;
         Ok(Checker { guests, memory })
     }
 

@@ -3,7 +3,7 @@ ghost use Rattle.std.specs.Prelude.{◌≡◌, ◌<◌, ℕ, List};
 ghost use Rattle.llsc_base.specs.Images.{Program};
 ghost use Rattle.llsc_base.specs.Sizes.{Numbers};
 ghost use Rattle.history.specs.ArmLegal.{IsArmLegal};
-ghost use Rattle.history.specs.Monitor.{at_rest};
+ghost use Rattle.history.specs.Monitor.{at_rest_by};
 ghost use Rattle.history.specs.declared.entry.Access.{Access};
 ghost use Rattle.history.specs.Accesses.{history_of};
 ghost use Rattle.guest_thread.specs.End.{IsEndIn};
@@ -27,7 +27,7 @@ pub fn verdicts_are_one()
 pub fn good_records_are_legal()
     ensures legal { (program : Program) (size : Numbers) (run : RunRecord) →
         IsRecord run → run.threads ≡ size.threads → Judges program size run.budget run.accesses Verdict.Good →
-        IsArmLegal (at_rest program.bytes size.threads) (history_of run.accesses) }
+        IsArmLegal (at_rest_by size.granule program.bytes size.threads) (history_of run.accesses) }
     ensures stopped { (program : Program) (size : Numbers) (run : RunRecord) (t : ℕ) →
         Judges program size run.budget run.accesses Verdict.Good → t < size.threads →
         HasEnded program size run.budget run.accesses t }

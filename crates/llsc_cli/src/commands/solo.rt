@@ -1,5 +1,6 @@
 //! `solo`: a run of one thread.
 ghost use Rattle.std.specs.Prelude.{◌≡◌, ◌≢◌, ◌≤◌, ◌⊎◌, None, length};
+ghost use Rattle.llsc_base.specs.Limits.{most_budget};
 ghost use Rattle.guest_machine.specs.Alone.{IsSoloEnd};
 ghost use Rattle.guest_thread.specs.declared.ends.GuestEnd.{GuestEnd};
 ghost use Rattle.llsc_cli.specs.Host.{Adds, AddsFront, KeepsReads, Rose};
@@ -27,7 +28,7 @@ fn run<H: Host>(
     image: &Image,
 ) -> Ended
     requires one_thread { size.now.threads ≡ 1 }
-    requires budget { budget ≤ 1000000000000 }
+    requires budget { budget ≤ most_budget }
     requires whole { length image.now.bytes ≡ size.now.mem }
     ensures ended { (result.status ≡ 0) ⊎ ((result.status ≡ 1) ⊎ ((result.status ≡ 5) ⊎ (result.status ≡ 6))) }
     ensures done { (result.status ≡ 0) ⊎ (result.status ≡ 1) → (end : GuestEnd) × (IsSoloEnd image.now size.now budget end
@@ -58,7 +59,7 @@ pub fn answer<H: Host>(
     mem: u64,
     budget: u64,
 ) -> Ended
-    requires { budget ≤ 1000000000000 }
+    requires { budget ≤ most_budget }
     ensures ends { CallEnds (AnswersSolo format mem budget) (H.file host.old file.now)
         (Rose (H.read_faults host.old) (H.read_faults host.new) × (H.lost host.new ≡ file.now) × (size_refusal (solo_size mem) ≡ None))
         (H.written host.old) (H.written host.new) result.status }

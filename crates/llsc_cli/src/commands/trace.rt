@@ -1,5 +1,6 @@
 //! `trace`: a run of all threads in an order that a number fixes, as a record.
 ghost use Rattle.std.specs.Prelude.{◌≡◌, ◌≢◌, ◌⊎◌, ◌≤◌, None, codes, length};
+ghost use Rattle.llsc_base.specs.Limits.{most_budget};
 ghost use Rattle.guest_machine.specs.Traces.{IsTraceRecord};
 ghost use Rattle.guest_thread.specs.Ends.{AreEnds};
 ghost use Rattle.run_record.specs.Limits.{IsRecord};
@@ -82,7 +83,7 @@ fn run<H: Host>(
 ) -> Ended
     requires whole { length image.now.bytes ≡ size.now.mem }
     requires some { 1 ≤ budget }
-    requires budget { budget ≤ 1000000000000 }
+    requires budget { budget ≤ most_budget }
     ensures answered { Answered (Traces image.now size.now seed budget) (H.written host.old) (H.written host.new) result.status }
     ensures write { result.status ≡ 5 → Rose (H.write_faults host.old) (H.write_faults host.new) }
     ensures write_answered { result.status ≢ 5 → H.write_faults host.new ≡ H.write_faults host.old }
@@ -103,7 +104,7 @@ pub fn answer<H: Host>(
     numbers: TraceNumbers,
 ) -> Ended
     requires some { 1 ≤ numbers.budget }
-    requires budget { numbers.budget ≤ 1000000000000 }
+    requires budget { numbers.budget ≤ most_budget }
     ensures ends { CallEnds (AnswersTrace format numbers.threads numbers.mem numbers.seed numbers.budget) (H.file host.old file.now)
         (Rose (H.read_faults host.old) (H.read_faults host.new) × (H.lost host.new ≡ file.now) × (size_refusal (machine_of numbers.threads numbers.mem) ≡ None))
         (H.written host.old) (H.written host.new) result.status }

@@ -7,4 +7,4 @@ returns-clause-any_start c = one_end_alone
 
 pub returns-clause-solo : goal.returns-clause-solo
 returns-clause-solo c = λ program size budget end other one two.
-    one_end_alone program budget (thread_start program size size.threads 0) program.bytes end other one.1 two.1
+    one_end_alone program budget (thread_start program size size.threads 0) size.granule program.bytes end other one.1 two.1

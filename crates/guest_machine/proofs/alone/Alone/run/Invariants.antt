@@ -9,7 +9,7 @@ use Rattle.guest_machine.proofs.alone.Alone.run.Given as goal
 abbrev pub invariant-loop-stop : goal.invariant-loop-stop
 invariant-loop-stop l = record {
   working : IsWorking l.image l.budget l.self;
-  way : (start : Machine) (bytes : List ℕ) → IsUnderWay l.image l.budget start bytes l.fn.self → IsUnderWay l.image l.budget start bytes l.self;
+  way : (start : Machine) (granule : ℕ) (bytes : List ℕ) → IsUnderWay l.image l.budget start granule bytes l.fn.self → IsUnderWay l.image l.budget start granule bytes l.self;
 }
 
 abbrev pub decreases-loop-stop : goal.decreases-loop-stop

@@ -16,9 +16,9 @@ returns-in-Asks-clause-goes_on c =
     }
 
 pub returns-in-Asks-clause-under_way : goal.returns-in-Asks-clause-under_way
-returns-in-Asks-clause-under_way c = λ start bytes way.
+returns-in-Asks-clause-under_way c = λ start granule bytes way.
     let comes = c.in-Asks.ensures.comes start _ way.come in
-    after_access c.args.image.now c.args.budget start bytes c.args.self.now c.next.new.self c.give.new.self c.serve-access.new.memory c.count.new.self
+    after_access c.args.image.now c.args.budget start granule bytes c.args.self.now c.next.new.self c.give.new.self c.serve-access.new.memory c.count.new.self
     c.in-Asks.ask c.serve-access.result c.reply_of.result way comes.1
     c.serve-access.ensures.access c.serve-access.ensures.memory c.reply_of.ensures c.serve-access.ensures.may
     c.count.ensures.reads c.count.ensures.writes c.count.ensures.fails

@@ -1,6 +1,6 @@
 use Rattle.std.proofs.Common.{ap, ◌∙◌}
 use Rattle.std.specs.List.{range_with_len}
-use Rattle.history.specs.Monitor.{at_rest}
+use Rattle.history.specs.Monitor.{at_rest_by}
 use Rattle.guest_machine.proofs.Turning.{at_start}
 use Rattle.guest_machine.proofs.turns.Turns.new.Goals as goal
 
@@ -9,5 +9,5 @@ returns-clause-under_way c =
     at_start c.args.plan.now.image.now c.args.plan.now.size.now c.args.plan.now.seed c.args.plan.now.budget _ _ _ _
     (c.in_ok-numbers.ensures ∙ ap (range_with_len 0) c.threads-threads.ensures.number)
     c.in_ok-seats.ensures
-    (c.in_ok-new.ensures ∙ ap (λ b. at_rest b c.threads-threads.result) c.bytes.ensures.items ∙ ap (at_rest c.args.plan.now.image.now.bytes) c.threads-threads.ensures.number)
-    c.new-2.ensures.items
+    (c.in_ok-sized.ensures ∙ ap (λ b. at_rest_by c.args.plan.now.size.now.granule b c.args.plan.now.size.now.threads) c.bytes.ensures.items)
+    c.new.ensures.items

@@ -1,7 +1,7 @@
 use Rattle.std.proofs.Common.{◌≡◌, ℕ, ◌+◌, None, [], ◌∷◌, ◌++◌, All, length, sym, ap, subst, ◌∙◌, length-append, arith, rules}
 use Rattle.std.proofs.lemmas.List.{length-replicate}
 use Rattle.std.proofs.lemmas.List.Elements.{All-push}
-use Rattle.history.specs.Monitor.{at_rest}
+use Rattle.history.specs.Monitor.{at_rest_by}
 use Rattle.guest_thread.specs.ThreadState.{ThreadState, IsReadyIn}
 use Rattle.guest_thread.specs.Start.{thread_start}
 use Rattle.guest_thread.specs.Under.{HasCome}
@@ -28,19 +28,19 @@ loop-t-preserved c =
 
 pub returns-clause-ready : goal.returns-clause-ready
 returns-clause-ready c budget =
-    let memory : c.in_ok-memory.memory ≡ at_rest c.bytes.result.now c.threads-threads.result = c.in_ok-memory.ensures in
+    let memory : c.in_ok-memory.memory ≡ at_rest_by c.args.size.now.granule c.bytes.result.now c.args.size.now.threads = c.in_ok-memory.ensures in
     let count = c.loop-t.invariant.count in
     let all : c.threads-threads.result ≡ length c.loop-t.guests.items = omega (arith, count) in
     record {
       small = search rules;
       ready = c.loop-t.invariant.ready (length c.args.image.now.bytes) budget;
       bytes = ap (λ m. length m.memory) memory ∙ ap length c.bytes.ensures.items;
-      marks = ap (λ m. length m.marks) memory ∙ length-replicate c.threads-threads.result None ∙ all;
+      marks = ap (λ m. length m.marks) memory ∙ length-replicate c.args.size.now.threads None ∙ sym c.threads-threads.ensures.number ∙ all;
     }
 
 pub returns-clause-brought : goal.returns-clause-brought
 returns-clause-brought c budget =
     record {
       guests = c.loop-t.invariant.start budget;
-      memory = c.in_ok-memory.ensures ∙ ap (λ b. at_rest b c.threads-threads.result) c.bytes.ensures.items ∙ ap (at_rest c.args.image.now.bytes) c.threads-threads.ensures.number;
+      memory = c.in_ok-memory.ensures ∙ ap (λ b. at_rest_by c.args.size.now.granule b c.args.size.now.threads) c.bytes.ensures.items;
     }

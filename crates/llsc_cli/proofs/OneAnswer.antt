@@ -1,0 +1,111 @@
+-- A request has one answer for the bytes of its files.
+use Rattle.std.proofs.Common.{◌≡◌, ℕ, ◌≤◌, inl, inr, List, [], ◌∷◌, Option, Some, None, Result, Ok, Err, length, sym, ◌∙◌, ap, subst, codes}
+use Rattle.llsc_base.specs.Sizes.{Numbers}
+use Rattle.llsc_base.specs.Images.{Program}
+use Rattle.history.specs.Accesses.{history_of}
+use Rattle.guest_thread.specs.Ends.{AreEnds}
+use Rattle.guest_thread.specs.Start.{thread_start}
+use Rattle.guest_thread.proofs.OneOutcome.{one_list}
+use Rattle.guest_thread.specs.declared.ends.GuestEnd.{GuestEnd}
+use Rattle.guest_machine.specs.Traces.{IsTraceRecord}
+use Rattle.guest_machine.specs.Turns.{IsTooLong}
+use Rattle.guest_machine.proofs.OneEnd.{one_end_alone}
+use Rattle.guest_machine.proofs.OneTrace.{one_trace, not_too_long}
+use Rattle.run_record.specs.Text.{record_text}
+use Rattle.run_record.specs.Reading.{record_of}
+use Rattle.run_record.specs.declared.faults.RecordFault.{RecordFault}
+use Rattle.run_record.specs.declared.records.RunRecord.{RunRecord}
+use Rattle.run_checker.proofs.Right.{one_verdict}
+use Rattle.llsc_cli.specs.declared.formats.Format.{Format}
+use Rattle.llsc_cli.specs.Programs.{image_of, program_refusal}
+use Rattle.llsc_cli.specs.Refusals.{Answer, machine_of, solo_size, Unless}
+use Rattle.llsc_cli.specs.Report.{report_of}
+use Rattle.llsc_cli.specs.Assembly.{asm_answer}
+use Rattle.llsc_cli.specs.Disassembly.{dis_answer}
+use Rattle.llsc_cli.specs.Trace.{status_of, status_of_all, IsRecorded, Traces}
+use Rattle.llsc_cli.specs.Check.{files_refusal, verdict_status, verdict_text, IsJudged, JudgesRead, JudgesRun}
+use Rattle.llsc_cli.specs.Request.{Request, Solo, Assemble, Disassemble, Trace, Check}
+use Rattle.llsc_cli.specs.Answer.{Answers, Is, IsReported}
+
+-- answers have one status and one text
+abbrev pub AreOne : (ℕ → List ℕ → Type 0) → Type 0
+AreOne answers = (status other : ℕ) (text more : List ℕ) → answers status text → answers other more → (status ≡ other) × (text ≡ more)
+
+-- what stands against a request has one text, and where nothing does it is as the answers are
+unless_one : (answers : ℕ → List ℕ → Type 0) (against : Option (List ℕ)) → AreOne answers → AreOne (Unless against answers)
+unless_one answers (Some name) one status other text more a b = (a.0 ∙ sym b.0, a.1 ∙ sym b.1)
+unless_one answers None one status other text more a b = one status other text more a b
+
+is_one : (answer : Answer) → AreOne (Is answer)
+is_one answer status other text more a b = (a.0 ∙ sym b.0, a.1 ∙ sym b.1)
+
+-- a run alone
+report_one : (program : Program) (size : Numbers) (budget : ℕ) → AreOne (IsReported program size budget)
+report_one program size budget status other text more a b =
+    let same : a.0 ≡ b.0 = one_end_alone program budget (thread_start program size size.threads 0) program.bytes a.0 b.0 a.1.1 b.1.1 in
+    (a.2 ∙ ap (λ end. status_of end.stop) same ∙ sym b.2, a.3 ∙ ap (λ end. report_of budget end) same ∙ sym b.3)
+
+-- Traces.
+
+same_run : (one two : RunRecord) → one.threads ≡ two.threads → one.budget ≡ two.budget → one.accesses ≡ two.accesses → one ≡ two
+same_run one two threads budget accesses =
+    ap (λ n. record one { threads = n }) threads
+    ∙ ap (λ n. record one { threads = two.threads; budget = n }) budget
+    ∙ ap (λ l. record two { accesses = l }) accesses
+
+one_run : (program : Program) (size : Numbers) (seed budget : ℕ) (run other : RunRecord)
+    → IsTraceRecord program size seed budget run → IsTraceRecord program size seed budget other → run ≡ other
+one_run program size seed budget run other a b =
+    same_run run other (a.threads ∙ sym b.threads) (a.budget_is ∙ sym b.budget_is)
+    (one_trace program size seed budget run.accesses other.accesses a.trace b.trace)
+
+record_one : (program : Program) (size : Numbers) (seed budget : ℕ) → AreOne (IsRecorded program size seed budget)
+record_one program size seed budget status other text more a b =
+    let run : a.0 ≡ b.0 = one_run program size seed budget a.0 b.0 a.2.0 b.2.0 in
+    let ends : a.1 ≡ b.1 =
+    one_list program size budget (history_of b.0.accesses) a.1 b.1 (subst (λ r. AreEnds program size budget (history_of r.accesses) a.1) run a.2.1.0) b.2.1.0 in
+    (a.2.1.1.0 ∙ ap status_of_all ends ∙ sym b.2.1.1.0, a.2.1.1.1 ∙ ap record_text run ∙ sym b.2.1.1.1)
+
+trace_one : (program : Program) (size : Numbers) (seed budget : ℕ) → AreOne (Traces program size seed budget)
+trace_one program size seed budget status other text more (inl a) (inl b) = record_one program size seed budget status other text more a b
+trace_one program size seed budget status other text more (inr a) (inr b) = (a.1.0 ∙ sym b.1.0, a.1.1 ∙ sym b.1.1)
+trace_one program size seed budget status other text more (inl a) (inr b) =
+    absurd (not_too_long program size seed budget a.0.accesses a.2.0.trace a.2.0.sound.count b.0)
+trace_one program size seed budget status other text more (inr a) (inl b) =
+    absurd (not_too_long program size seed budget b.0.accesses b.2.0.trace b.2.0.sound.count a.0)
+
+-- Verdicts.
+
+judged_one : (program : Program) (size : Numbers) (run : RunRecord) → AreOne (IsJudged program size run)
+judged_one program size run status other text more a b =
+    let same : a.0 ≡ b.0 = one_verdict program size run.budget run.accesses a.0 b.0 a.1.0 b.1.0 in
+    (a.1.1.0 ∙ ap verdict_status same ∙ sym b.1.1.0, a.1.1.1 ∙ ap verdict_text same ∙ sym b.1.1.1)
+
+read_one : (format : Format) (mem : ℕ) (file : List ℕ) (read : Result RunRecord RecordFault) → AreOne (JudgesRead format mem file read)
+read_one format mem file (Err fault) = λ status other text more a b. (a.0 ∙ sym b.0, a.1 ∙ sym b.1)
+read_one format mem file (Ok run) =
+    let size = machine_of run.threads mem in
+    unless_one (IsJudged (image_of format file size) size run) (program_refusal format size file) (judged_one (image_of format file size) size run)
+
+pub answers_one : (asked : Request) (files : List (List ℕ)) → AreOne (Answers asked files)
+answers_one (Solo name format mem budget) (file ∷ []) =
+    let size = solo_size mem in
+    unless_one (IsReported (image_of format file size) size budget) (program_refusal format size file) (report_one (image_of format file size) size budget)
+answers_one (Assemble name format) (file ∷ []) = is_one (asm_answer format file)
+answers_one (Disassemble name format mem) (file ∷ []) = is_one (dis_answer format mem file)
+answers_one (Trace name format threads mem seed budget) (file ∷ []) =
+    let size = machine_of threads mem in
+    unless_one (Traces (image_of format file size) size seed budget) (program_refusal format size file) (trace_one (image_of format file size) size seed budget)
+answers_one (Check name second format mem) (file ∷ recorded ∷ []) =
+    unless_one (JudgesRead format mem file (record_of recorded)) (files_refusal file recorded) (read_one format mem file (record_of recorded))
+answers_one (Solo name format mem budget) [] = λ status other text more a b. absurd a
+answers_one (Solo name format mem budget) (first ∷ second ∷ rest) = λ status other text more a b. absurd a
+answers_one (Assemble name format) [] = λ status other text more a b. absurd a
+answers_one (Assemble name format) (first ∷ second ∷ rest) = λ status other text more a b. absurd a
+answers_one (Disassemble name format mem) [] = λ status other text more a b. absurd a
+answers_one (Disassemble name format mem) (first ∷ second ∷ rest) = λ status other text more a b. absurd a
+answers_one (Trace name format threads mem seed budget) [] = λ status other text more a b. absurd a
+answers_one (Trace name format threads mem seed budget) (first ∷ second ∷ rest) = λ status other text more a b. absurd a
+answers_one (Check name other format mem) [] = λ status other text more a b. absurd a
+answers_one (Check name other format mem) (first ∷ []) = λ status other text more a b. absurd a
+answers_one (Check name other format mem) (first ∷ second ∷ third ∷ rest) = λ status other text more a b. absurd a
