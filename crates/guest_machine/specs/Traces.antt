@@ -12,10 +12,11 @@ use Rattle.guest_machine.specs.Turns.{IsTrace}
 use Rattle.guest_machine.specs.declared.traces.TraceFault.{TraceFault}
 use Rattle.guest_machine.specs.declared.traces.TraceFault.TheVariants as fault
 
--- the record of a trace: the machine's threads, the budget, and the accesses
+-- the record of a trace: the machine's threads, its granule, the budget, and the accesses
 pub record IsTraceRecord (program : Program) (size : Numbers) (seed budget : ℕ) (run : RunRecord) : Type 0 where
   pub threads : run.threads ≡ size.threads
   pub budget_is : run.budget ≡ budget
+  pub granule_is : run.granule ≡ size.granule
   pub trace : IsTrace program size seed budget run.accesses
   pub sound : IsRecord run
 

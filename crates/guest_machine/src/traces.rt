@@ -88,6 +88,7 @@ pub fn trace(
     let run = RunRecord {
         threads,
         budget,
+        granule: size.granule(),
         accesses: Accesses::new(turns.accesses),
     };
     Ok(Traced { run, ends })

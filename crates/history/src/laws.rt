@@ -44,14 +44,27 @@ pub fn successful_stores_are_undisturbed(
 
 /// Where a thread is marked on a row after accesses that Arm allows, its last load-exclusive read that row, and nobody has
 /// written in the row since, so each byte of it is what it was.
-pub fn marks_keep_their_rows(granule: u32, bytes: &[u8], threads: u32, accesses: &[Entry], thread: u32, row: u32)
+pub fn marks_keep_their_rows(
+    granule: u32,
+    bytes: &[u8],
+    threads: u32,
+    accesses: &[Entry],
+    thread: u32,
+    row: u32,
+)
     requires legal { IsArmLegal (at_rest_by granule bytes.now threads) accesses.now }
     requires marked { marked_row (monitor_after (at_rest_by granule bytes.now threads) accesses.now) thread ≡ Some row }
     ensures { IsUnwrittenSince (at_rest_by granule bytes.now threads) accesses.now thread row }
 {}
 
 /// The memory that a history leaves is the cells that stand after it.
-pub fn memory_is_the_fold(bytes: &[u8], threads: u32, size: &MachineSize, history: &[Entry], place: Place)
+pub fn memory_is_the_fold(
+    bytes: &[u8],
+    threads: u32,
+    size: &MachineSize,
+    history: &[Entry],
+    place: Place,
+)
     requires whole { length bytes.now % 8 ≡ 0 }
     requires legal { IsArmLegal (at_rest_by size.now.granule bytes.now threads) (accesses_of history.now) }
     ensures cells { let memory = (monitor_after (at_rest_by size.now.granule bytes.now threads) (accesses_of history.now)).memory in
@@ -64,7 +77,13 @@ pub fn memory_is_the_fold(bytes: &[u8], threads: u32, size: &MachineSize, histor
 {}
 
 /// The row on which a thread is marked after a history is the mark that stands.
-pub fn mark_is_the_fold(bytes: &[u8], threads: u32, size: &MachineSize, history: &[Entry], thread: u32)
+pub fn mark_is_the_fold(
+    bytes: &[u8],
+    threads: u32,
+    size: &MachineSize,
+    history: &[Entry],
+    thread: u32,
+)
     requires { IsArmLegal (at_rest_by size.now.granule bytes.now threads) (accesses_of history.now) }
     ensures { marked_row (monitor_after (at_rest_by size.now.granule bytes.now threads) (accesses_of history.now)) thread
         ≡ (standing_after size.now (standing_of bytes.now) history.now).mark thread }
@@ -77,7 +96,13 @@ pub fn reservation_is_the_fold(bytes: &[u8], size: &MachineSize, history: &[Entr
 {}
 
 /// Where a thread holds a reservation on a row, what has passed in its class since its Watch is what stands.
-pub fn causes_are_the_fold(bytes: &[u8], size: &MachineSize, history: &[Entry], thread: u32, row: u32)
+pub fn causes_are_the_fold(
+    bytes: &[u8],
+    size: &MachineSize,
+    history: &[Entry],
+    thread: u32,
+    row: u32,
+)
     requires { reservation_of size.now thread history.now ≡ Some row }
     ensures passed { list_any (is_start_of_another size.now thread row) (since_watch thread history.now)
         ≡ (standing_after size.now (standing_of bytes.now) history.now).passed thread }

@@ -43,7 +43,7 @@ due_named : (held : List ℕ → Option (List ℕ)) (asked : Request) (name : Li
 due_named held (Solo file format mem budget) name none due = not_first name file [] none due.0
 due_named held (Assemble file format) name none due = not_first name file [] none due
 due_named held (Disassemble file format mem) name none due = not_first name file [] none due.0
-due_named held (Trace file format threads mem seed budget) name none due = not_first name file [] none due.0
+due_named held (Trace file format threads mem granule seed budget) name none due = not_first name file [] none due.0
 due_named held (Check file recorded format mem) name none (inl is) = not_first name file (recorded ∷ []) none is
 due_named held (Check file recorded format mem) name none (inr due) =
     (recursion_from_All (λ x. name ≢ x) (file ∷ recorded ∷ []) none).1.0 due.0

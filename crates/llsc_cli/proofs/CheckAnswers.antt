@@ -20,26 +20,26 @@ verdict_done (verdict.Bad index reason) = inr (inr (inr refl))
 
 -- no machine of the record's threads, or a fault of the program
 pub run_unsized : (format : Format) (mem threads : ℕ) (file : List ℕ) (run : RunRecord) → threads ≡ run.threads
-    → (status : ℕ) (text : List ℕ) → Refusal (size_refusal (machine_of threads mem)) status text → JudgesRun format mem file run status text
+    → (status : ℕ) (text : List ℕ) → Refusal (size_refusal (machine_of threads mem granule)) status text → JudgesRun format mem file run status text
 run_unsized format mem threads file run same status text refused =
-    let size = machine_of run.threads mem in
-    let here : Refusal (size_refusal size) status text = subst (λ t. Refusal (size_refusal (machine_of t mem)) status text) same refused in
+    let size = machine_of run.threads mem run.granule in
+    let here : Refusal (size_refusal size) status text = subst (λ t. Refusal (size_refusal (machine_of t mem run.granule)) status text) same refused in
     unless_refused (IsJudged (image_of format file size) size run) (program_refusal format size file) status text (refused_unsized format size file status text here)
 
 pub run_refused : (format : Format) (mem : ℕ) (size : Numbers) (file : List ℕ) (run : RunRecord)
-    → size_refusal (machine_of run.threads mem) ≡ None → size ≡ machine_of run.threads mem → too_long most_program file ≡ None
+    → size_refusal (machine_of run.threads mem run.granule) ≡ None → size ≡ machine_of run.threads mem run.granule → too_long most_program file ≡ None
     → (status : ℕ) (text : List ℕ) → Refusal (refusal_on format size file) status text → JudgesRun format mem file run status text
 run_refused format mem size file run none same short status text refused =
-    let wanted = machine_of run.threads mem in
+    let wanted = machine_of run.threads mem run.granule in
     unless_refused (IsJudged (image_of format file wanted) wanted run) (program_refusal format wanted file) status text (refused_short format size wanted file none same short status text refused)
 
 -- a verdict on a record of an image's threads
 pub run_judged : (format : Format) (mem : ℕ) (size : Numbers) (file : List ℕ) (image : Program) (run : RunRecord)
-    → size_refusal (machine_of run.threads mem) ≡ None → size ≡ machine_of run.threads mem → too_long most_program file ≡ None
+    → size_refusal (machine_of run.threads mem run.granule) ≡ None → size ≡ machine_of run.threads mem run.granule → too_long most_program file ≡ None
     → refusal_on format size file ≡ None → image ≡ image_of format file size
     → (status : ℕ) (text : List ℕ) → IsJudged image size run status text → JudgesRun format mem file run status text
 run_judged format mem size file image run none same short clean whole status text judged =
-    let wanted = machine_of run.threads mem in
+    let wanted = machine_of run.threads mem run.granule in
     let of_file : IsJudged (image_of format file size) size run status text = subst (λ i. IsJudged i size run status text) whole judged in
     unless_none (IsJudged (image_of format file wanted) wanted run) (program_refusal format wanted file) status text (program_refusal_is format size wanted file None none same short clean)
     (subst (λ s. IsJudged (image_of format file s) s run status text) same of_file)

@@ -84,7 +84,7 @@ judged_one program size run status other text more a b =
 read_one : (format : Format) (mem : ℕ) (file : List ℕ) (read : Result RunRecord RecordFault) → AreOne (JudgesRead format mem file read)
 read_one format mem file (Err fault) = λ status other text more a b. (a.0 ∙ sym b.0, a.1 ∙ sym b.1)
 read_one format mem file (Ok run) =
-    let size = machine_of run.threads mem in
+    let size = machine_of run.threads mem run.granule in
     unless_one (IsJudged (image_of format file size) size run) (program_refusal format size file) (judged_one (image_of format file size) size run)
 
 pub answers_one : (asked : Request) (files : List (List ℕ)) → AreOne (Answers asked files)
@@ -93,8 +93,8 @@ answers_one (Solo name format mem budget) (file ∷ []) =
     unless_one (IsReported (image_of format file size) size budget) (program_refusal format size file) (report_one (image_of format file size) size budget)
 answers_one (Assemble name format) (file ∷ []) = is_one (asm_answer format file)
 answers_one (Disassemble name format mem) (file ∷ []) = is_one (dis_answer format mem file)
-answers_one (Trace name format threads mem seed budget) (file ∷ []) =
-    let size = machine_of threads mem in
+answers_one (Trace name format threads mem granule seed budget) (file ∷ []) =
+    let size = machine_of threads mem granule in
     unless_one (Traces (image_of format file size) size seed budget) (program_refusal format size file) (trace_one (image_of format file size) size seed budget)
 answers_one (Check name second format mem) (file ∷ recorded ∷ []) =
     unless_one (JudgesRead format mem file (record_of recorded)) (files_refusal file recorded) (read_one format mem file (record_of recorded))
@@ -104,8 +104,8 @@ answers_one (Assemble name format) [] = λ status other text more a b. absurd a
 answers_one (Assemble name format) (first ∷ second ∷ rest) = λ status other text more a b. absurd a
 answers_one (Disassemble name format mem) [] = λ status other text more a b. absurd a
 answers_one (Disassemble name format mem) (first ∷ second ∷ rest) = λ status other text more a b. absurd a
-answers_one (Trace name format threads mem seed budget) [] = λ status other text more a b. absurd a
-answers_one (Trace name format threads mem seed budget) (first ∷ second ∷ rest) = λ status other text more a b. absurd a
+answers_one (Trace name format threads mem granule seed budget) [] = λ status other text more a b. absurd a
+answers_one (Trace name format threads mem granule seed budget) (first ∷ second ∷ rest) = λ status other text more a b. absurd a
 answers_one (Check name other format mem) [] = λ status other text more a b. absurd a
 answers_one (Check name other format mem) (first ∷ []) = λ status other text more a b. absurd a
 answers_one (Check name other format mem) (first ∷ second ∷ third ∷ rest) = λ status other text more a b. absurd a

@@ -19,14 +19,14 @@ pub trace_done : (ends : List GuestEnd) → IsDone (status_of_all ends)
 trace_done ends = either_done (have_left ends)
 
 -- a refusal
-pub trace_refused : (format : Format) (threads mem seed budget : ℕ) (file : List ℕ) (status : ℕ) (text : List ℕ)
-    → Refuses (program_refusal format (machine_of threads mem)) file status text → AnswersTrace format threads mem seed budget file status text
-trace_refused format threads mem seed budget file status text refused = unless_refused (Traces (image_of format file (machine_of threads mem)) (machine_of threads mem) seed budget) (program_refusal format (machine_of threads mem) file) status text refused
+pub trace_refused : (format : Format) (threads mem granule seed budget : ℕ) (file : List ℕ) (status : ℕ) (text : List ℕ)
+    → Refuses (program_refusal format (machine_of threads mem granule)) file status text → AnswersTrace format threads mem granule seed budget file status text
+trace_refused format threads mem granule seed budget file status text refused = unless_refused (Traces (image_of format file (machine_of threads mem granule)) (machine_of threads mem granule) seed budget) (program_refusal format (machine_of threads mem granule) file) status text refused
 
 -- a trace of an image
-pub trace_traced : (format : Format) (threads mem seed budget : ℕ) (file : List ℕ) (size : Numbers) (image : Program)
-    → program_refusal format (machine_of threads mem) file ≡ None → size ≡ machine_of threads mem → image ≡ image_of format file (machine_of threads mem)
-    → (status : ℕ) (text : List ℕ) → Traces image size seed budget status text → AnswersTrace format threads mem seed budget file status text
-trace_traced format threads mem seed budget file size image clean same whole status text traces =
-    let sized : Traces image (machine_of threads mem) seed budget status text = subst (λ s. Traces image s seed budget status text) same traces in
-    unless_none (Traces (image_of format file (machine_of threads mem)) (machine_of threads mem) seed budget) (program_refusal format (machine_of threads mem) file) status text clean (subst (λ i. Traces i (machine_of threads mem) seed budget status text) whole sized)
+pub trace_traced : (format : Format) (threads mem granule seed budget : ℕ) (file : List ℕ) (size : Numbers) (image : Program)
+    → program_refusal format (machine_of threads mem granule) file ≡ None → size ≡ machine_of threads mem granule → image ≡ image_of format file (machine_of threads mem granule)
+    → (status : ℕ) (text : List ℕ) → Traces image size seed budget status text → AnswersTrace format threads mem granule seed budget file status text
+trace_traced format threads mem granule seed budget file size image clean same whole status text traces =
+    let sized : Traces image (machine_of threads mem granule) seed budget status text = subst (λ s. Traces image s seed budget status text) same traces in
+    unless_none (Traces (image_of format file (machine_of threads mem granule)) (machine_of threads mem granule) seed budget) (program_refusal format (machine_of threads mem granule) file) status text clean (subst (λ i. Traces i (machine_of threads mem granule) seed budget status text) whole sized)

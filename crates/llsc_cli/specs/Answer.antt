@@ -41,7 +41,7 @@ abbrev pub Answers : Request → List (List ℕ) → ℕ → List ℕ → Type 0
 Answers (Solo name format mem budget) (file ∷ []) status text = AnswersSolo format mem budget file status text
 Answers (Assemble name format) (file ∷ []) status text = AnswersAsm format file status text
 Answers (Disassemble name format mem) (file ∷ []) status text = AnswersDis format mem file status text
-Answers (Trace name format threads mem seed budget) (file ∷ []) status text = AnswersTrace format threads mem seed budget file status text
+Answers (Trace name format threads mem granule seed budget) (file ∷ []) status text = AnswersTrace format threads mem granule seed budget file status text
 Answers (Check name other format mem) (file ∷ recorded ∷ []) status text = AnswersCheck format mem file recorded status text
 Answers _ _ status text = ⊥
 
@@ -66,7 +66,7 @@ abbrev pub IsDue : (List ℕ → Option (List ℕ)) → Request → List ℕ →
 IsDue held (Solo file format mem budget) name = (name ≡ file) × (size_refusal (solo_size mem) ≡ None)
 IsDue held (Assemble file format) name = name ≡ file
 IsDue held (Disassemble file format mem) name = (name ≡ file) × (size_refusal (solo_size mem) ≡ None)
-IsDue held (Trace file format threads mem seed budget) name = (name ≡ file) × (size_refusal (machine_of threads mem) ≡ None)
+IsDue held (Trace file format threads mem granule seed budget) name = (name ≡ file) × (size_refusal (machine_of threads mem granule) ≡ None)
 IsDue held (Check file recorded format mem) name =
     (name ≡ file) ⊎ ((name ≡ recorded) × ((bytes : List ℕ) × (AreBytes (held file) bytes × (too_long most_program bytes ≡ None))))
 

@@ -20,6 +20,9 @@ with_flat given = if given.flat then None else Some (record given { flat = true 
 abbrev pub with_mem : Options → Option ℕ → Option Options
 with_mem given number = if is_some given.mem then None else option_map (λ n. record given { mem = Some n }) number
 
+abbrev pub with_granule : Options → Option ℕ → Option Options
+with_granule given number = if is_some given.granule then None else option_map (λ n. record given { granule = Some n }) number
+
 abbrev pub with_threads : Options → Option ℕ → Option Options
 with_threads given number = if is_some given.threads then None else option_map (λ n. record given { threads = Some n }) number
 
@@ -33,6 +36,7 @@ with_budget given number = if is_some given.budget then None else option_map (λ
 abbrev pub with_value : Options → List ℕ → List ℕ → Option Options
 with_value given word value =
     if bytes_eq word (codes "--mem") then with_mem given (plain_number value) else
+    if bytes_eq word (codes "--granule") then with_granule given (plain_number value) else
     if bytes_eq word (codes "--threads") then with_threads given (plain_number value) else
     if bytes_eq word (codes "--seed") then with_seed given (plain_number value) else
     if bytes_eq word (codes "--budget") then with_budget given (plain_number value) else
@@ -60,7 +64,7 @@ given_of (Some options) (word ∷ value ∷ words) =
 
 -- no option so far
 abbrev pub no_options : Options
-no_options = record { flat = false; threads = None; mem = None; seed = None; budget = None }
+no_options = record { flat = false; threads = None; mem = None; granule = None; seed = None; budget = None }
 
 -- the format of the file
 abbrev pub format_of : Options → Format
@@ -68,7 +72,8 @@ format_of options = if options.flat then Flat else Elf
 
 -- no option that has a value is given
 abbrev pub has_no_values : Options → Bool
-has_no_values options = (is_none options.threads && is_none options.mem) && (is_none options.seed && is_none options.budget)
+has_no_values options =
+    ((is_none options.threads && is_none options.mem) && is_none options.granule) && (is_none options.seed && is_none options.budget)
 
 -- no option that has a value is given but maybe `--mem`
 abbrev pub has_mem_at_most : Options → Bool

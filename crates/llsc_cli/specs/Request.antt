@@ -10,13 +10,13 @@ use Rattle.llsc_cli.specs.Options.{Given, given_of, no_options, format_of, has_m
 
 -- what a call asks for: to run the file of that name, of that format, as one thread, with so many bytes of memory and so
 -- many steps; to assemble the text of that name as a file of that format; to show a file as text, in so many bytes of memory;
--- to run a file as so many guest threads on one host thread, in the order that a seed fixes, and to record that; or to check
--- such a record, the second file, against a program
+-- to run a file as so many guest threads on one host thread, with rows of a granule and in the order that a seed fixes, and to
+-- record that; or to check such a record, the second file, against a program
 pub data Request : Type 0 where
   Solo : (file : List ℕ) (format : Format) (mem budget : ℕ) → Request
   Assemble : (file : List ℕ) (format : Format) → Request
   Disassemble : (file : List ℕ) (format : Format) (mem : ℕ) → Request
-  Trace : (file : List ℕ) (format : Format) (threads mem seed budget : ℕ) → Request
+  Trace : (file : List ℕ) (format : Format) (threads mem granule seed budget : ℕ) → Request
   Check : (file recorded : List ℕ) (format : Format) (mem : ℕ) → Request
 
 -- the names of a request's files, in the order in which they are read
@@ -24,7 +24,7 @@ abbrev pub files_of : Request → List (List ℕ)
 files_of (Solo file format mem budget) = file ∷ []
 files_of (Assemble file format) = file ∷ []
 files_of (Disassemble file format mem) = file ∷ []
-files_of (Trace file format threads mem seed budget) = file ∷ []
+files_of (Trace file format threads mem granule seed budget) = file ∷ []
 files_of (Check file recorded format mem) = file ∷ recorded ∷ []
 
 -- the bytes of memory where none are given
@@ -35,9 +35,12 @@ default_mem = 1048576
 abbrev pub default_budget : ℕ
 default_budget = 100000000
 
--- the threads, the seed and the steps of a thread where none are given for a trace
+-- the threads, the granule, the seed and the steps of a thread where none are given for a trace
 abbrev pub trace_threads : ℕ
 trace_threads = 2
+
+abbrev pub trace_granule : ℕ
+trace_granule = 0
 
 abbrev pub trace_seed : ℕ
 trace_seed = 0
@@ -75,7 +78,7 @@ abbrev pub trace_for : Given → Option Request
 trace_for given =
     if is_alone given && is_budget (unwrap_or given.options.budget trace_budget)
     then Some (Trace given.file (format_of given.options) (unwrap_or given.options.threads trace_threads) (unwrap_or given.options.mem default_mem)
-    (unwrap_or given.options.seed trace_seed) (unwrap_or given.options.budget trace_budget))
+    (unwrap_or given.options.granule trace_granule) (unwrap_or given.options.seed trace_seed) (unwrap_or given.options.budget trace_budget))
     else None
 
 -- `check` has `--flat` and `--mem`, and a second file
@@ -106,7 +109,7 @@ abbrev pub asked : Call → Request
 asked (call.Solo file format mem budget) = Solo file.now format mem budget
 asked (call.Assemble file format) = Assemble file.now format
 asked (call.Disassemble file format mem) = Disassemble file.now format mem
-asked (call.Trace file format numbers) = Trace file.now format numbers.threads numbers.mem numbers.seed numbers.budget
+asked (call.Trace file format numbers) = Trace file.now format numbers.threads numbers.mem numbers.granule numbers.seed numbers.budget
 asked (call.Check file recorded format mem) = Check file.now recorded.now format mem
 
 -- a request's budget, where it has one, is in its range

@@ -1,5 +1,6 @@
 //! The files of a call: had, or refused.
-ghost use Rattle.std.specs.Prelude.{◌≡◌, ◌≢◌, codes, ◌<◌, ◌≤◌, ◌⊎◌, List, ℕ, None, Some, IfOk, OnOk, IfErr, OnErr, IsTrue, length};
+ghost use Rattle.std.specs.Prelude.{◌≡◌, ◌≢◌, codes, ◌<◌, ◌≤◌, ◌⊎◌, List, ℕ, None, Some, IfOk, OnOk, IfErr, OnErr, IsTrue, MatchResult, length};
+ghost use Rattle.llsc_base.specs.Sizes.{size_fault};
 ghost use Rattle.llsc_cli.specs.Host.{Adds, AddsFront, AreBytes, KeepsReads, KeepsWrites, Rose};
 ghost use Rattle.llsc_cli.specs.Refusals.{machine_of, read_text, refusal_text, too_long, most_program, size_refusal, Refusal, Refuses};
 ghost use Rattle.llsc_cli.specs.Programs.{program_fault_name, image_of, is_wanting, program_refusal, refusal_on};
@@ -9,7 +10,7 @@ use crate::ended::{Ended, out_of_memory, refuse, say};
 use crate::formats::Format;
 use crate::host::{Host, ReadFault};
 use crate::programs::{ProgramFault, image_of};
-use llsc_base::{Image, MachineSize};
+use llsc_base::{Image, MachineSize, SizeFault};
 use std::alloc::Global;
 
 /// The most bytes of a program file.
@@ -110,7 +111,15 @@ pub fn image_on<H: Host>(
     }
 }
 
-/// The machine of so many threads with so much memory.
+/// The machine of so many threads with so much memory and rows of this granule, or the first number that is out of its range.
+fn sized(threads: u64, mem: u64, granule: u64) -> Result<MachineSize, SizeFault>
+    ensures { let n = machine_of threads mem granule in
+        MatchResult result (λ size. (size_fault n ≡ None) × (size ≡ n)) (λ fault. size_fault n ≡ Some fault) }
+{
+    MachineSize::new(mem, threads, CLASSES, MOST_WRITES)?.with_granule(granule)
+}
+
+/// The machine of so many threads with so much memory and rows of this granule.
 ///
 /// # Errors
 ///
@@ -120,15 +129,16 @@ pub fn machine<H: Host>(
     host: &mut H,
     threads: u64,
     mem: u64,
+    granule: u64,
 ) -> Result<MachineSize, Ended>
-    ensures size { IfOk result (λ size. (size ≡ machine_of threads mem) × (size_refusal (machine_of threads mem) ≡ None)) }
+    ensures size { IfOk result (λ size. (size ≡ machine_of threads mem granule) × (size_refusal (machine_of threads mem granule) ≡ None)) }
     ensures writes { OnOk result (KeepsWrites (H.written host.old) (H.written host.new) (H.write_faults host.old) (H.write_faults host.new)) }
-    ensures refused { IfErr result (λ ended. Answered (Refusal (size_refusal (machine_of threads mem))) (H.written host.old) (H.written host.new) ended.status) }
+    ensures refused { IfErr result (λ ended. Answered (Refusal (size_refusal (machine_of threads mem granule))) (H.written host.old) (H.written host.new) ended.status) }
     ensures write { IfErr result (λ ended. ended.status ≡ 5 → Rose (H.write_faults host.old) (H.write_faults host.new)) }
     ensures write_answered { IfErr result (λ ended. ended.status ≢ 5 → H.write_faults host.new ≡ H.write_faults host.old) }
     ensures reads { KeepsReads (H.file host.old) (H.file host.new) (H.read_faults host.old) (H.read_faults host.new) (H.lost host.old) (H.lost host.new) }
 {
-    match MachineSize::new(mem, threads, CLASSES, MOST_WRITES) {
+    match sized(threads, mem, granule) {
         Ok(size) => Ok(size),
         Err(fault) => Err(refuse(alloc, host, fault.name())),
     }
@@ -141,7 +151,7 @@ pub struct Loaded {
     pub image: Image,
 }
 
-/// The machine of so many threads with so much memory, and the image of a program's file on it.
+/// The machine of so many threads with so much memory and rows of this granule, and the image of a program's file on it.
 ///
 /// # Errors
 ///
@@ -151,23 +161,24 @@ pub fn load<H: Host>(
     host: &mut H,
     threads: u64,
     mem: u64,
+    granule: u64,
     name: &str,
     format: Format,
 ) -> Result<Loaded, Ended>
-    ensures size { IfOk result (λ loaded. loaded.size ≡ machine_of threads mem) }
+    ensures size { IfOk result (λ loaded. loaded.size ≡ machine_of threads mem granule) }
     ensures image { IfOk result (λ loaded. (file : List ℕ) × (AreBytes (H.file host.old name.now) file
-        × ((program_refusal format (machine_of threads mem) file ≡ None) × (loaded.image ≡ image_of format file (machine_of threads mem))))) }
+        × ((program_refusal format (machine_of threads mem granule) file ≡ None) × (loaded.image ≡ image_of format file (machine_of threads mem granule))))) }
     ensures whole { IfOk result (λ loaded. length loaded.image.bytes ≡ loaded.size.mem) }
     ensures reads { OnOk result (KeepsReads (H.file host.old) (H.file host.new) (H.read_faults host.old) (H.read_faults host.new) (H.lost host.old) (H.lost host.new)) }
     ensures writes { OnOk result (KeepsWrites (H.written host.old) (H.written host.new) (H.write_faults host.old) (H.write_faults host.new)) }
-    ensures ends { IfErr result (λ ended. CallEnds (Refuses (program_refusal format (machine_of threads mem))) (H.file host.old name.now)
-        (Rose (H.read_faults host.old) (H.read_faults host.new) × (H.lost host.new ≡ name.now) × (size_refusal (machine_of threads mem) ≡ None))
+    ensures ends { IfErr result (λ ended. CallEnds (Refuses (program_refusal format (machine_of threads mem granule))) (H.file host.old name.now)
+        (Rose (H.read_faults host.old) (H.read_faults host.new) × (H.lost host.new ≡ name.now) × (size_refusal (machine_of threads mem granule) ≡ None))
         (H.written host.old) (H.written host.new) ended.status) }
     ensures write { IfErr result (λ ended. ended.status ≡ 5 → Rose (H.write_faults host.old) (H.write_faults host.new)) }
     ensures write_answered { IfErr result (λ ended. ended.status ≢ 5 → H.write_faults host.new ≡ H.write_faults host.old) }
     ensures read_answered { IfErr result (λ ended. ended.status ≢ 3 → ended.status ≢ 5 → H.read_faults host.new ≡ H.read_faults host.old) }
 {
-    let size = machine(alloc, host, threads, mem)?;
+    let size = machine(alloc, host, threads, mem, granule)?;
     let file = read(alloc, host, name, MOST_BYTES)?;
     let image = image_on(alloc, host, format, &size, file.as_slice())?;
     Ok(Loaded { size, image })

@@ -1,7 +1,7 @@
 //! The options of a call, and the words behind them.
 ghost use Rattle.std.specs.Prelude.{◌≡◌, map, string_bytes, Some};
 ghost use Rattle.std.specs.Option.{option_map};
-ghost use Rattle.llsc_cli.specs.Options.{format_of, given_of, has_mem_at_most, has_no_values, is_alone, is_option, no_options, second_file, seen, with_budget, with_flat, with_mem, with_seed, with_threads, with_value};
+ghost use Rattle.llsc_cli.specs.Options.{format_of, given_of, has_mem_at_most, has_no_values, is_alone, is_option, no_options, second_file, seen, with_budget, with_flat, with_granule, with_mem, with_seed, with_threads, with_value};
 
 use crate::formats::Format;
 use number_text::plain_number;
@@ -15,6 +15,8 @@ pub struct Options {
     pub threads: Option<u64>,
     /// `--mem`: the bytes of memory.
     pub mem: Option<u64>,
+    /// `--granule`: the number of the granule, by which rows have their width.
+    pub granule: Option<u64>,
     /// `--seed`: the number that fixes the order of the threads' turns.
     pub seed: Option<u64>,
     /// `--budget`: the most steps of a thread.
@@ -58,6 +60,19 @@ impl Options {
         })
     }
 
+    /// `--granule`, which is given once, with its number.
+    fn with_granule(self, number: Option<u64>) -> Option<Options>
+        ensures { result ≡ with_granule self number }
+    {
+        if self.granule.is_some() {
+            return None;
+        }
+        number.map(|granule| Options {
+            granule: Some(granule),
+            ..self
+        })
+    }
+
     /// `--seed`, which is given once, with its number.
     fn with_seed(self, number: Option<u64>) -> Option<Options>
         ensures { result ≡ with_seed self number }
@@ -91,6 +106,9 @@ impl Options {
         if word == "--mem" {
             return self.with_mem(plain_number(value.as_bytes()));
         }
+        if word == "--granule" {
+            return self.with_granule(plain_number(value.as_bytes()));
+        }
         if word == "--threads" {
             return self.with_threads(plain_number(value.as_bytes()));
         }
@@ -117,7 +135,7 @@ impl Options {
     pub fn has_no_values(self) -> bool
         ensures { result ≡ has_no_values self }
     {
-        let no_machine = self.threads.is_none() && self.mem.is_none();
+        let no_machine = self.threads.is_none() && self.mem.is_none() && self.granule.is_none();
         let no_run = self.seed.is_none() && self.budget.is_none();
         no_machine && no_run
     }
@@ -178,6 +196,7 @@ pub fn given_of(words: &[String]) -> Option<Given<'_>>
         flat: false,
         threads: None,
         mem: None,
+        granule: None,
         seed: None,
         budget: None,
     };

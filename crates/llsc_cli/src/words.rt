@@ -17,6 +17,9 @@ const BUDGET: u64 = 100_000_000;
 /// The threads of a trace where none are given.
 const TRACE_THREADS: u64 = 2;
 
+/// The number of the granule of a trace where none is given.
+const TRACE_GRANULE: u64 = 0;
+
 /// The seed of a trace where none is given.
 const TRACE_SEED: u64 = 0;
 
@@ -30,6 +33,8 @@ pub struct TraceNumbers {
     pub threads: u64,
     /// The bytes of memory.
     pub mem: u64,
+    /// The number of the granule, by which rows have their width.
+    pub granule: u64,
     /// The number that fixes the order of the threads' turns.
     pub seed: u64,
     /// The most steps of a thread.
@@ -150,6 +155,7 @@ fn trace(given: Given<'_>) -> Option<Request<'_>>
         numbers: TraceNumbers {
             threads: given.options.threads.unwrap_or(TRACE_THREADS),
             mem: given.options.mem.unwrap_or(MEM),
+            granule: given.options.granule.unwrap_or(TRACE_GRANULE),
             seed: given.options.seed.unwrap_or(TRACE_SEED),
             budget,
         },

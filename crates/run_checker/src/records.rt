@@ -16,7 +16,7 @@ use std::alloc::{AllocError, Global};
 /// Whether a recorded run of an image's threads is one, and where it is wrong.
 ///
 /// The threads of the image run again, each up to its next access, and each access of the record is compared with what
-/// its thread asks and made in memory. The cost is that of the run. `size` has the record's threads, its memory is as long
+/// its thread asks and made in memory. The cost is that of the run. `size` has the record's threads and its granule, its memory is as long
 /// as the image's, and the record is within its limits.
 ///
 /// # Errors
@@ -30,6 +30,7 @@ pub fn check_record(
 ) -> Result<Verdict, AllocError>
     requires whole { length image.now.bytes ≡ size.now.mem }
     requires threads { run.now.threads ≡ size.now.threads }
+    requires granule { run.now.granule ≡ size.now.granule }
     requires limits { IsRecord run.now }
     ensures { IfOk result (λ verdict. Judges image.now size.now run.now.budget run.now.accesses verdict) }
 {

@@ -134,17 +134,20 @@ no_header bytes e = ap fault_or_memory (sym (steps bytes ∙ ap behind_header (s
 pub long_header : (bytes : List ℕ) (line : Header × List ℕ) → Some line ≡ header_of bytes → most_accesses < line.0.count
     → fault.TooLong ≡ fault_or_memory (record_of bytes)
 long_header bytes line e more =
-    ap fault_or_memory (sym (steps bytes ∙ ap behind_header (sym e) ∙ long line.0.threads line.0.budget line.0.count line.1 more))
+    ap fault_or_memory (sym (steps bytes ∙ ap behind_header (sym e) ∙ long line.0.threads line.0.granule line.0.budget line.0.count line.1 more))
 
 pub few_threads : (bytes : List ℕ) (line : Header × List ℕ) → Some line ≡ header_of bytes → line.0.threads < 2 ^ 32
 few_threads bytes line e = let has = header_takes bytes line (sym e) in omega (arith, has.numbers.few)
 
+pub small_granule : (bytes : List ℕ) (line : Header × List ℕ) → Some line ≡ header_of bytes → line.0.granule < 2 ^ 32
+small_granule bytes line e = let has = header_takes bytes line (sym e) in omega (arith, has.numbers.rows)
+
 behind : (bytes : List ℕ) (line : Header × List ℕ) → Some line ≡ header_of bytes → line.0.count ≤ most_accesses
     → record_of bytes ≡ made line.0 (accesses_from line.0.threads line.0.count 2 line.1)
-behind bytes line e few = steps bytes ∙ ap behind_header (sym e) ∙ short line.0.threads line.0.budget line.0.count line.1 few
+behind bytes line e few = steps bytes ∙ ap behind_header (sym e) ∙ short line.0.threads line.0.granule line.0.budget line.0.count line.1 few
 
 pub header_read : (bytes : List ℕ) (line : Header × List ℕ) (accesses : List Access) → Some line ≡ header_of bytes → line.0.count ≤ most_accesses
-    → accesses_from line.0.threads line.0.count 2 line.1 ≡ Ok accesses → record_of bytes ≡ Ok (run_of line.0.threads line.0.budget accesses)
+    → accesses_from line.0.threads line.0.count 2 line.1 ≡ Ok accesses → record_of bytes ≡ Ok (run_of line.0.threads line.0.granule line.0.budget accesses)
 header_read bytes line accesses e few h = behind bytes line e few ∙ ap (made line.0) h
 
 pub header_fault : (bytes : List ℕ) (line : Header × List ℕ) (cause : RecordFault) → Some line ≡ header_of bytes → line.0.count ≤ most_accesses
@@ -172,8 +175,8 @@ cause_read bytes (Err cause) h = cause_of bytes (record_of bytes) cause refl h
 -- what is printed
 
 pub printed : (run : RunRecord) (accesses : List Access) (text : List ℕ) (i : ℕ) → accesses ≡ run.accesses → length accesses ≤ i
-    → text ≡ header_text run.threads run.budget (length accesses) ++ flat_map line_text (take i accesses) → text ≡ record_text run
+    → text ≡ header_text run.threads run.granule run.budget (length accesses) ++ flat_map line_text (take i accesses) → text ≡ record_text run
 printed run accesses text i is all h =
-    h ∙ ap (λ xs. header_text run.threads run.budget (length accesses) ++ flat_map line_text xs) (take_all i accesses all)
-    ∙ ap (λ xs. header_text run.threads run.budget (length xs) ++ flat_map line_text xs) is
+    h ∙ ap (λ xs. header_text run.threads run.granule run.budget (length accesses) ++ flat_map line_text xs) (take_all i accesses all)
+    ∙ ap (λ xs. header_text run.threads run.granule run.budget (length xs) ++ flat_map line_text xs) is
     ∙ sym (text_is run)

@@ -23,6 +23,16 @@ pub if_only : {A : Type 0} (test : Bool) (x y : A) → (if test then Some x else
 if_only true x y h = (refl, some_same x y h)
 if_only false x y h = cc
 
+-- what is read where the test holds, and what where it fails
+
+pub if_read : {A : Type 0} (test : Bool) (read : Option A) (y : A) → (if test then read else None) ≡ Some y → (test ≡ true) × (read ≡ Some y)
+if_read true read y h = (refl, h)
+if_read false read y h = cc
+
+pub else_only : {A : Type 0} (test : Bool) (x y : A) → (if test then None else Some x) ≡ Some y → (test ≡ false) × (x ≡ y)
+else_only true x y h = cc
+else_only false x y h = (refl, some_same x y h)
+
 pub not_true : (test : Bool) → not test ≡ true → test ≡ false
 not_true true h = cc
 not_true false h = refl

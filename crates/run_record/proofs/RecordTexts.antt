@@ -264,49 +264,49 @@ pub steps : (bytes : List ℕ) → record_of bytes ≡ behind_header (header_of 
 unfolding record_of
 steps bytes = refl
 
-pub text_is : (run : RunRecord) → record_text run ≡ header_text run.threads run.budget (length run.accesses) ++ flat_map line_text run.accesses
+pub text_is : (run : RunRecord) → record_text run ≡ header_text run.threads run.granule run.budget (length run.accesses) ++ flat_map line_text run.accesses
 unfolding record_text
 text_is run = refl
 
-abbrev header : ℕ → ℕ → ℕ → Header
-header threads budget count = record { threads = threads; budget = budget; count = count }
+abbrev header : ℕ → ℕ → ℕ → ℕ → Header
+header threads granule budget count = record { threads = threads; granule = granule; budget = budget; count = count }
 
-abbrev pub run_of : ℕ → ℕ → List Access → RunRecord
-run_of threads budget accesses = record { threads = threads; budget = budget; accesses = accesses }
+abbrev pub run_of : ℕ → ℕ → ℕ → List Access → RunRecord
+run_of threads granule budget accesses = record { threads = threads; budget = budget; granule = granule; accesses = accesses }
 
 -- behind a header that says no more accesses than a record may have
-pub short : (threads budget count : ℕ) (rest : List ℕ) → count ≤ most_accesses
-    → behind_header (Some (header threads budget count, rest)) ≡ made (header threads budget count) (accesses_from threads count 2 rest)
-short threads budget count rest h = rw (le-ltb most_accesses count h) refl
+pub short : (threads granule budget count : ℕ) (rest : List ℕ) → count ≤ most_accesses
+    → behind_header (Some (header threads granule budget count, rest)) ≡ made (header threads granule budget count) (accesses_from threads count 2 rest)
+short threads granule budget count rest h = rw (le-ltb most_accesses count h) refl
 
-pub long : (threads budget count : ℕ) (rest : List ℕ) → most_accesses < count → behind_header (Some (header threads budget count, rest)) ≡ Err fault.TooLong
-long threads budget count rest h = rw (lt-ltb most_accesses count h) refl
+pub long : (threads granule budget count : ℕ) (rest : List ℕ) → most_accesses < count → behind_header (Some (header threads granule budget count, rest)) ≡ Err fault.TooLong
+long threads granule budget count rest h = rw (lt-ltb most_accesses count h) refl
 
-read_behind : (bytes : List ℕ) (threads budget count : ℕ) (rest : List ℕ) → HasHeader bytes threads budget count rest → count ≤ most_accesses
-    → record_of bytes ≡ made (header threads budget count) (accesses_from threads count 2 rest)
-read_behind bytes threads budget count rest has few =
-    steps bytes ∙ ap behind_header (header_again bytes threads budget count rest has) ∙ short threads budget count rest few
+read_behind : (bytes : List ℕ) (threads granule budget count : ℕ) (rest : List ℕ) → HasHeader bytes threads granule budget count rest → count ≤ most_accesses
+    → record_of bytes ≡ made (header threads granule budget count) (accesses_from threads count 2 rest)
+read_behind bytes threads granule budget count rest has few =
+    steps bytes ∙ ap behind_header (header_again bytes threads granule budget count rest has) ∙ short threads granule budget count rest few
 
 made_some : (head : Header) (lines : Outcome) (run : RunRecord) → made head lines ≡ Ok run
-    → (accesses : List Access) × (lines ≡ Ok accesses) × (run_of head.threads head.budget accesses ≡ run)
-made_some head (Ok accesses) run h = (accesses, refl, ok_same (run_of head.threads head.budget accesses) run h)
+    → (accesses : List Access) × (lines ≡ Ok accesses) × (run_of head.threads head.granule head.budget accesses ≡ run)
+made_some head (Ok accesses) run h = (accesses, refl, ok_same (run_of head.threads head.granule head.budget accesses) run h)
 made_some head (Err cause) run h = absurd (no_ok run cause h)
 
 made_fault : (head : Header) (lines : Outcome) (cause : RecordFault) → made head lines ≡ Err cause → lines ≡ Err cause
-made_fault head (Ok accesses) cause h = absurd (no_err (run_of head.threads head.budget accesses) cause h)
+made_fault head (Ok accesses) cause h = absurd (no_err (run_of head.threads head.granule head.budget accesses) cause h)
 made_fault head (Err other) cause h = ap Err (err_same other cause h)
 
 -- a record that is read has this text
-record_read : (bytes : List ℕ) (line : Header × List ℕ) (run : RunRecord) → HasHeader bytes line.0.threads line.0.budget line.0.count line.1
+record_read : (bytes : List ℕ) (line : Header × List ℕ) (run : RunRecord) → HasHeader bytes line.0.threads line.0.granule line.0.budget line.0.count line.1
     → line.0.count ≤ most_accesses → made line.0 (accesses_from line.0.threads line.0.count 2 line.1) ≡ Ok run → (record_text run ≡ bytes) × IsRecord run
 record_read bytes line run has few h =
     let parts = made_some line.0 (accesses_from line.0.threads line.0.count 2 line.1) run h in
     let lines = lines_take line.0.threads line.0.count 2 line.1 parts.0 parts.1 in
-    let made_run : RunRecord = run_of line.0.threads line.0.budget parts.0 in
+    let made_run : RunRecord = run_of line.0.threads line.0.granule line.0.budget parts.0 in
     let text : record_text made_run ≡ bytes =
     text_is made_run
-    ∙ ap (λ n. header_text line.0.threads line.0.budget n ++ flat_map line_text parts.0) lines.many
-    ∙ ap (λ t. header_text line.0.threads line.0.budget line.0.count ++ t) (sym lines.text)
+    ∙ ap (λ n. header_text line.0.threads line.0.granule line.0.budget n ++ flat_map line_text parts.0) lines.many
+    ∙ ap (λ t. header_text line.0.threads line.0.granule line.0.budget line.0.count ++ t) (sym lines.text)
     ∙ sym has.text
     in
     let is : IsRecord made_run = record {
@@ -321,9 +321,9 @@ by_header : (bytes : List ℕ) (front : Read Header) (run : RunRecord) → heade
 by_header bytes None run e h = absurd (no_ok run fault.Header h)
 by_header bytes (Some line) run e h =
     elim (cases_lt most_accesses line.0.count) [
-      | inl more ↦ absurd (no_ok run fault.TooLong (sym (long line.0.threads line.0.budget line.0.count line.1 more) ∙ h))
+      | inl more ↦ absurd (no_ok run fault.TooLong (sym (long line.0.threads line.0.granule line.0.budget line.0.count line.1 more) ∙ h))
       | inr few ↦
-          record_read bytes line run (header_takes bytes line e) few (sym (short line.0.threads line.0.budget line.0.count line.1 few) ∙ h)
+          record_read bytes line run (header_takes bytes line e) few (sym (short line.0.threads line.0.granule line.0.budget line.0.count line.1 few) ∙ h)
     ]
 
 pub record_takes : (bytes : List ℕ) (run : RunRecord) → record_of bytes ≡ Ok run → (record_text run ≡ bytes) × IsRecord run
@@ -334,8 +334,8 @@ pub record_again : (run : RunRecord) → IsRecord run → record_of (record_text
 record_again run is =
     let count = length run.accesses in
     let lines : List ℕ = flat_map line_text run.accesses in
-    let head : Header = header run.threads run.budget count in
-    let has : HasHeader (record_text run) run.threads run.budget count lines =
+    let head : Header = header run.threads run.granule run.budget count in
+    let has : HasHeader (record_text run) run.threads run.granule run.budget count lines =
     record { numbers = is.numbers; small = omega (arith, is.count); text = text_is run } in
     let all : accesses_from run.threads count 2 lines ≡ Ok run.accesses =
     ap (λ k. accesses_from run.threads k 2 lines) (omega arith)
@@ -344,7 +344,7 @@ record_again run is =
     ∙ ap (joined run.accesses) (lines_end run.threads (2 + count) [])
     ∙ ap Ok (append-nil run.accesses)
     in
-    read_behind (record_text run) run.threads run.budget count lines has is.count ∙ ap (made head) all
+    read_behind (record_text run) run.threads run.granule run.budget count lines has is.count ∙ ap (made head) all
 
 -- the fault that is read is the first
 
@@ -362,15 +362,16 @@ cause_within threads count done number rest cause (missing less none is) = omega
 cause_within threads count done number rest cause (behind same some is) = omega (arith, same)
 cause_within threads count done number rest cause (foreign less access later line other is) = omega (arith, less)
 
-stops_first : (bytes : List ℕ) (line : Header × List ℕ) (cause : RecordFault) → HasHeader bytes line.0.threads line.0.budget line.0.count line.1
+stops_first : (bytes : List ℕ) (line : Header × List ℕ) (cause : RecordFault) → HasHeader bytes line.0.threads line.0.granule line.0.budget line.0.count line.1
     → line.0.count ≤ most_accesses → Stops line.0.threads line.0.count 2 line.1 cause → HasFault bytes cause
 stops_first bytes line cause has few stops =
     let begins : Begins bytes line.0.threads line.0.count stops.accesses stops.rest = record {
+      granule = line.0.granule;
       budget = line.0.budget;
       header = record {
         numbers = has.numbers;
         small = has.small;
-        text = has.text ∙ ap (λ t. header_text line.0.threads line.0.budget line.0.count ++ t) stops.text;
+        text = has.text ∙ ap (λ t. header_text line.0.threads line.0.granule line.0.budget line.0.count ++ t) stops.text;
       };
       few = few;
       good = All-from_recursion (IsAccess line.0.threads) stops.accesses stops.good;
@@ -378,8 +379,8 @@ stops_first bytes line cause has few stops =
     } in
     cause_first bytes line.0.threads line.0.count stops.accesses stops.rest cause begins stops.at
 
-none_header : (bytes : List ℕ) → header_of bytes ≡ None → (threads budget count : ℕ) (rest : List ℕ) → HasHeader bytes threads budget count rest → ⊥
-none_header bytes e threads budget count rest has = let h = sym e ∙ header_again bytes threads budget count rest has in cc
+none_header : (bytes : List ℕ) → header_of bytes ≡ None → (threads granule budget count : ℕ) (rest : List ℕ) → HasHeader bytes threads granule budget count rest → ⊥
+none_header bytes e threads granule budget count rest has = let h = sym e ∙ header_again bytes threads granule budget count rest has in cc
 
 fault_by_header : (bytes : List ℕ) (front : Read Header) (cause : RecordFault) → header_of bytes ≡ front → behind_header front ≡ Err cause → HasFault bytes cause
 fault_by_header bytes None cause e h =
@@ -388,10 +389,10 @@ fault_by_header bytes (Some line) cause e h =
     let has = header_takes bytes line e in
     elim (cases_lt most_accesses line.0.count) [
       | inl more ↦
-          subst (HasFault bytes) (err_same fault.TooLong cause (sym (long line.0.threads line.0.budget line.0.count line.1 more) ∙ h))
-          (HasFault.too_long line.0.threads line.0.budget line.0.count line.1 has more)
+          subst (HasFault bytes) (err_same fault.TooLong cause (sym (long line.0.threads line.0.granule line.0.budget line.0.count line.1 more) ∙ h))
+          (HasFault.too_long line.0.threads line.0.granule line.0.budget line.0.count line.1 has more)
       | inr few ↦
-          let lines = made_fault line.0 (accesses_from line.0.threads line.0.count 2 line.1) cause (sym (short line.0.threads line.0.budget line.0.count line.1 few) ∙ h) in
+          let lines = made_fault line.0 (accesses_from line.0.threads line.0.count 2 line.1) cause (sym (short line.0.threads line.0.granule line.0.budget line.0.count line.1 few) ∙ h) in
           stops_first bytes line cause has few (lines_fault line.0.threads line.0.count 2 line.1 cause lines)
     ]
 
@@ -401,17 +402,17 @@ fault_first bytes cause h = fault_by_header bytes (header_of bytes) cause refl (
 -- the first fault is read
 
 none_if_no_header : (bytes : List ℕ) (front : Read Header) → header_of bytes ≡ front
-    → ((threads budget count : ℕ) (rest : List ℕ) → HasHeader bytes threads budget count rest → ⊥) → front ≡ None
+    → ((threads granule budget count : ℕ) (rest : List ℕ) → HasHeader bytes threads granule budget count rest → ⊥) → front ≡ None
 none_if_no_header bytes None e none = refl
-none_if_no_header bytes (Some line) e none = absurd (none line.0.threads line.0.budget line.0.count line.1 (header_takes bytes line e))
+none_if_no_header bytes (Some line) e none = absurd (none line.0.threads line.0.granule line.0.budget line.0.count line.1 (header_takes bytes line e))
 
 begun : (bytes : List ℕ) (threads count : ℕ) (accesses : List Access) (rest : List ℕ) (cause : RecordFault) (begins : Begins bytes threads count accesses rest)
     → accesses_from threads (count - length accesses) (2 + length accesses) rest ≡ Err cause → record_of bytes ≡ Err cause
 begun bytes threads count accesses rest cause begins h =
     let lines : List ℕ = flat_map line_text accesses ++ rest in
-    let head : Header = header threads begins.budget count in
+    let head : Header = header threads begins.granule begins.budget count in
     let total : count ≡ length accesses + (count - length accesses) = omega (arith, begins.within) in
-    read_behind bytes threads begins.budget count lines begins.header begins.few
+    read_behind bytes threads begins.granule begins.budget count lines begins.header begins.few
     ∙ ap (λ k. made head (accesses_from threads k 2 lines)) total
     ∙ ap (made head) (lines_front threads begins.header.numbers.few accesses (count - length accesses) 2 rest (recursion_from_All (IsAccess threads) accesses begins.good))
     ∙ ap (λ r. made head (joined accesses r)) h
@@ -427,8 +428,8 @@ left_fault threads left number (byte ∷ rest) e some = ap (λ k. accesses_from 
 
 pub first_read : (bytes : List ℕ) (cause : RecordFault) → HasFault bytes cause → record_of bytes ≡ Err cause
 first_read bytes _ (HasFault.header none) = steps bytes ∙ ap behind_header (none_if_no_header bytes (header_of bytes) refl none)
-first_read bytes _ (HasFault.too_long threads budget count rest has more) =
-    steps bytes ∙ ap behind_header (header_again bytes threads budget count rest has) ∙ long threads budget count rest more
+first_read bytes _ (HasFault.too_long threads granule budget count rest has more) =
+    steps bytes ∙ ap behind_header (header_again bytes threads granule budget count rest has) ∙ long threads granule budget count rest more
 first_read bytes _ (HasFault.line threads count accesses rest begins less none) =
     begun bytes threads count accesses rest (fault.Line (length accesses + 2)) begins
     (more_fault threads (count - length accesses) (2 + length accesses) rest (fault.Line (length accesses + 2)) (omega (arith, less))

@@ -11,6 +11,10 @@ use Rattle.run_record.specs.declared.records.RunRecord.{RunRecord}
 abbrev pub most_threads : ℕ
 most_threads = 16
 
+-- the greatest granule number: a row, on which a monitor marks a thread, has 8 * 2 ^ granule bytes
+abbrev pub most_granule : ℕ
+most_granule = 8
+
 -- the most accesses
 abbrev pub most_accesses : ℕ
 most_accesses = 1000000
@@ -28,15 +32,16 @@ pub record IsAccess (threads : ℕ) (access : Access) : Type 0 where
   pub thread : access.thread < threads
   pub formed : IsFormed access
 
--- a number of threads and a budget that a run may have
-pub record IsRun (threads budget : ℕ) : Type 0 where
+-- a number of threads, a granule number and a budget that a run may have
+pub record IsRun (threads granule budget : ℕ) : Type 0 where
   pub thread : 1 ≤ threads
   pub few : threads ≤ most_threads
+  pub rows : granule ≤ most_granule
   pub step : 1 ≤ budget
   pub bounded : budget ≤ most_budget
 
 -- a record within the limits, each of its accesses one of its threads'
 pub record IsRecord (run : RunRecord) : Type 0 where
-  pub numbers : IsRun run.threads run.budget
+  pub numbers : IsRun run.threads run.granule run.budget
   pub count : length run.accesses ≤ most_accesses
   pub accesses : All (IsAccess run.threads) run.accesses

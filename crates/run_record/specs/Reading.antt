@@ -1,5 +1,5 @@
 -- The record whose text bytes are, or their fault, read field by field.
-use Rattle.std.specs.Prelude.{ℕ, ◌+◌, ◌^◌, ◌&&◌, nat_le, nat_lt, if◌then◌else◌, Bool, codes, suc, zero, List, [], ◌∷◌, Option, Some, None, Result, Ok, Err}
+use Rattle.std.specs.Prelude.{ℕ, ◌+◌, ◌^◌, ◌==◌, ◌&&◌, nat_le, nat_lt, if◌then◌else◌, Bool, codes, suc, zero, List, [], ◌∷◌, Option, Some, None, Result, Ok, Err}
 use Rattle.std.specs.Str.{bytes_eq}
 use Rattle.llsc_base.specs.Memory.{is_aligned, size_bytes}
 use Rattle.llsc_base.specs.declared.access.Size.{Size}
@@ -15,7 +15,7 @@ use Rattle.run_record.specs.declared.headers.Header.{Header}
 use Rattle.run_record.specs.declared.records.RunRecord.{RunRecord}
 use Rattle.run_record.specs.Fields.{Read, ◌>>=◌, after, field}
 use Rattle.llsc_base.specs.Limits.{most_budget}
-use Rattle.run_record.specs.Limits.{most_threads, most_accesses}
+use Rattle.run_record.specs.Limits.{most_threads, most_granule, most_accesses}
 use Rattle.history.specs.Accesses.{nowhere}
 
 -- the deed of a word
@@ -97,18 +97,35 @@ accesses_from threads (suc count) number bytes = followed (next_access threads n
 abbrev pub labelled : List ℕ → ℕ → List ℕ → Read ℕ
 labelled label code bytes = after label bytes >>= field plain_number code
 
--- the numbers of a header line
+-- the granule number that the second format names, which isn't 0
+abbrev pub named_granule : List ℕ → Read ℕ
+named_granule bytes = do
+  granule ← labelled (codes "granule ") 32 bytes
+  if granule.0 == 0 then None else Some granule
+
+-- the granule number by the format: the first names none, and it is 0
+abbrev pub granule_of : ℕ → List ℕ → Read ℕ
+granule_of format bytes =
+    if format == 1 then Some (0, bytes) else
+    if format == 2 then named_granule bytes else
+    None
+
+-- the numbers of a header line, of either format
 abbrev pub header_numbers : List ℕ → Read Header
 header_numbers bytes = do
-  threads ← labelled (codes "llsc-run 1 threads ") 32 bytes
-  budget ← labelled (codes "budget ") 32 threads.1
+  format ← labelled (codes "llsc-run ") 32 bytes
+  threads ← labelled (codes "threads ") 32 format.1
+  granule ← granule_of format.0 threads.1
+  budget ← labelled (codes "budget ") 32 granule.1
   count ← labelled (codes "accesses ") 10 budget.1
-  Some (record { threads = threads.0; budget = budget.0; count = count.0 }, count.1)
+  Some (record { threads = threads.0; granule = granule.0; budget = budget.0; count = count.0 }, count.1)
 
 -- the numbers are those of a run
 abbrev pub is_run : Header → Bool
 is_run header =
-    (nat_le 1 header.threads && nat_le header.threads most_threads) && (nat_le 1 header.budget && nat_le header.budget most_budget)
+    (nat_le 1 header.threads && nat_le header.threads most_threads)
+    && nat_le header.granule most_granule
+    && (nat_le 1 header.budget && nat_le header.budget most_budget)
 
 -- the header line of a run
 unfoldable pub header_of : List ℕ → Read Header
@@ -118,7 +135,7 @@ header_of bytes = do
 
 -- the record of a header and its accesses
 abbrev pub made : Header → Result (List Access) RecordFault → Result RunRecord RecordFault
-made header (Ok accesses) = Ok (record { threads = header.threads; budget = header.budget; accesses = accesses })
+made header (Ok accesses) = Ok (record { threads = header.threads; budget = header.budget; granule = header.granule; accesses = accesses })
 made header (Err fault) = Err fault
 
 abbrev pub behind_header : Read Header → Result RunRecord RecordFault

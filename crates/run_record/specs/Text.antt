@@ -1,6 +1,6 @@
 -- The text of a record: a header line, and a line for each access. Every line ends with a newline, and single spaces
--- stand between its parts. This project's own format.
-use Rattle.std.specs.Prelude.{ℕ, codes, List, flat_map, ◌++◌, length}
+-- stand between its parts. These are two formats of this project's own, which differ in the header line alone.
+use Rattle.std.specs.Prelude.{ℕ, ◌==◌, if◌then◌else◌, codes, List, flat_map, ◌++◌, length}
 use Rattle.std.specs.Fmt.{decimal}
 use Rattle.llsc_base.specs.declared.access.Size.{Size}
 use Rattle.llsc_base.specs.declared.access.Size.TheVariants.{B1, B2, B4, B8}
@@ -40,11 +40,17 @@ deed_text deed access = deed_word deed ++ object_text access
 unfoldable pub line_text : Access → List ℕ
 line_text access = decimal access.thread ++ codes " " ++ deed_text access.deed access ++ codes "\n"
 
--- the header line: the number of threads, the budget of each, and the number of accesses
-unfoldable pub header_text : ℕ → ℕ → ℕ → List ℕ
-header_text threads budget count =
-    codes "llsc-run 1 threads " ++ decimal threads ++ codes " budget " ++ decimal budget ++ codes " accesses " ++ decimal count ++ codes "\n"
+-- the format, the number of threads, and the granule number: the first format is that of granule 0, which it doesn't name
+abbrev pub front_text : ℕ → ℕ → List ℕ
+front_text threads granule =
+    if granule == 0 then codes "llsc-run 1 threads " ++ decimal threads else
+    codes "llsc-run 2 threads " ++ decimal threads ++ codes " granule " ++ decimal granule
+
+-- the header line: the number of threads, the granule number, the budget of each thread, and the number of accesses
+unfoldable pub header_text : ℕ → ℕ → ℕ → ℕ → List ℕ
+header_text threads granule budget count =
+    front_text threads granule ++ codes " budget " ++ decimal budget ++ codes " accesses " ++ decimal count ++ codes "\n"
 
 -- the text of a record
 unfoldable pub record_text : RunRecord → List ℕ
-record_text run = header_text run.threads run.budget (length run.accesses) ++ flat_map line_text run.accesses
+record_text run = header_text run.threads run.granule run.budget (length run.accesses) ++ flat_map line_text run.accesses

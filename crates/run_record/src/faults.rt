@@ -7,8 +7,8 @@ use thiserror::Error;
 /// Why bytes are no record. Lines are counted from 1, the header first.
 #[derive(Clone, Copy, Debug, PartialEq, Eq, Error)]
 pub enum RecordFault {
-    /// The first line isn't of the form, or a number of it is out of range: a record has 1 to 16 threads and a
-    /// budget of 1 to 1,000,000,000,000, and no number is 2 to the 64th or more.
+    /// The first line has neither form, or a number of it is out of range: a record has 1 to 16 threads and a budget of
+    /// 1 to 1,000,000,000,000, a granule number that is named is 1 to 8, and no number is 2 to the 64th or more.
     #[error("the first line is no header of a record")]
     Header,
     /// The header says more than 1,000,000 accesses.

@@ -1,15 +1,16 @@
-//! The header line.
+//! The header line, of either format.
 ghost use Rattle.std.specs.Prelude.{◌≡◌};
-ghost use Rattle.run_record.specs.Reading.{header_numbers, header_of, is_run, labelled};
+ghost use Rattle.run_record.specs.Reading.{granule_of, header_numbers, header_of, is_run, labelled, named_granule};
 ghost use Rattle.run_record.specs.Seen.{read_seen};
 
 use crate::fields::{after, number_field};
 use llsc_base::MOST_STEPS;
 
-/// The numbers of a header line: threads, the budget of each, and accesses.
+/// The numbers of a header line: threads, the granule number, the budget of each thread, and accesses.
 #[derive(Clone, Copy)]
 pub struct Header {
     pub threads: u64,
+    pub granule: u64,
     pub budget: u64,
     pub count: u64,
 }
@@ -22,15 +23,40 @@ fn labelled<'a>(label: &[u8], code: u8, bytes: &'a [u8]) -> Option<(u64, &'a [u8
     number_field(code, rest)
 }
 
+/// The granule number that the second format names, which isn't 0.
+fn named_granule(bytes: &[u8]) -> Option<(u64, &[u8])>
+    ensures { read_seen result ≡ named_granule bytes.now }
+{
+    let (granule, rest) = labelled(b"granule ", b' ', bytes)?;
+    if granule == 0 {
+        return None;
+    }
+    Some((granule, rest))
+}
+
+/// The granule number by the format: the first names none, and it is 0.
+fn granule_of(format: u64, bytes: &[u8]) -> Option<(u64, &[u8])>
+    ensures { read_seen result ≡ granule_of format bytes.now }
+{
+    match format {
+        1 => Some((0, bytes)),
+        2 => named_granule(bytes),
+        _ => None,
+    }
+}
+
 /// The numbers of the header line that bytes begin with.
 fn header_numbers(bytes: &[u8]) -> Option<(Header, &[u8])>
     ensures { read_seen result ≡ header_numbers bytes.now }
 {
-    let (threads, rest) = labelled(b"llsc-run 1 threads ", b' ', bytes)?;
+    let (format, rest) = labelled(b"llsc-run ", b' ', bytes)?;
+    let (threads, rest) = labelled(b"threads ", b' ', rest)?;
+    let (granule, rest) = granule_of(format, rest)?;
     let (budget, rest) = labelled(b"budget ", b' ', rest)?;
     let (count, rest) = labelled(b"accesses ", b'\n', rest)?;
     let header = Header {
         threads,
+        granule,
         budget,
         count,
     };
@@ -42,6 +68,7 @@ fn is_run(header: Header) -> bool
     ensures { result ≡ is_run header }
 {
     (1 <= header.threads && header.threads <= 16)
+        && header.granule <= 8
         && (1 <= header.budget && header.budget <= MOST_STEPS)
 }
 

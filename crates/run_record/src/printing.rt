@@ -2,8 +2,8 @@
 ghost use Rattle.std.specs.Prelude.{◌≡◌, ◌+◌, ◌^◌, ◌<◌, ◌≤◌, ◌++◌, IfOk, codes, length};
 ghost use Rattle.std.specs.Fmt.{decimal};
 ghost use Rattle.number_text.specs.Hexadecimal.{long_text, word_text};
-ghost use Rattle.run_record.specs.Limits.{IsRecord};
-ghost use Rattle.run_record.specs.Text.{deed_text, deed_word, header_text, line_text, object_text, record_text, size_word};
+ghost use Rattle.run_record.specs.Limits.{IsRecord, most_granule};
+ghost use Rattle.run_record.specs.Text.{deed_text, deed_word, front_text, header_text, line_text, object_text, record_text, size_word};
 
 use crate::records::RunRecord;
 use history::{Access, Deed};
@@ -38,6 +38,16 @@ fn put_long(line: &mut Line, number: u64)
     write_decimal(line, number);
 }
 
+/// Adds a number below 10 at the end of a line.
+fn put_digit(line: &mut Line, number: u32)
+    requires digit { number < 10 }
+    requires room { length line.old < 96 }
+    ensures text { line.new ≡ line.old ++ decimal number }
+    ensures most { length line.new ≤ length line.old + 1 }
+{
+    write_decimal(line, u64::from(number));
+}
+
 /// Adds an address at the end of a line, in eight hexadecimal digits.
 fn put_address(line: &mut Line, addr: u32)
     requires room { length line.old + 8 ≤ 96 }
@@ -56,14 +66,33 @@ fn put_value(line: &mut Line, value: u64)
     write_long(line, value);
 }
 
+/// Adds the front of the header line at the end of a line: the format, the number of threads, and the granule number
+/// unless it is 0.
+fn put_front(line: &mut Line, threads: u32, granule: u32)
+    requires granule { granule ≤ most_granule }
+    requires room { length line.old + 39 ≤ 96 }
+    ensures text { line.new ≡ line.old ++ front_text threads granule }
+    ensures most { length line.new ≤ length line.old + 39 }
+{
+    if granule == 0 {
+        put(line, b"llsc-run 1 threads ");
+        put_short(line, threads);
+        return;
+    }
+    put(line, b"llsc-run 2 threads ");
+    put_short(line, threads);
+    put(line, b" granule ");
+    put_digit(line, granule);
+}
+
 /// The header line.
 #[tactic(auto, unfolding(crate::specs::Text::header_text))]
-fn header_line(threads: u32, budget: u64, count: u32) -> Line
-    ensures { result ≡ header_text threads budget count }
+fn header_line(threads: u32, granule: u32, budget: u64, count: u32) -> Line
+    requires granule { granule ≤ most_granule }
+    ensures { result ≡ header_text threads granule budget count }
 {
     let mut line = Line::new();
-    put(&mut line, b"llsc-run 1 threads ");
-    put_short(&mut line, threads);
+    put_front(&mut line, threads, granule);
     put(&mut line, b" budget ");
     put_long(&mut line, budget);
     put(&mut line, b" accesses ");
@@ -140,9 +169,10 @@ fn access_line(access: &Access) -> Line
     line
 }
 
-/// The text of a record: the header line and a line for each access, in order. The record has 1 to 16 threads, a budget
-/// of 1 to 1,000,000,000,000 and at most 1,000,000 accesses, each by one of its threads, at an aligned place, of a value
-/// that its size holds; a `Clear` has the place of one byte at address 0 and the value 0.
+/// The text of a record: the header line and a line for each access, in order. The header line has the first format where
+/// the granule number is 0, and else the second, which names it. The record has 1 to 16 threads, a budget of 1 to
+/// 1,000,000,000,000, a granule number of 0 to 8 and at most 1,000,000 accesses, each by one of its threads, at an
+/// aligned place, of a value that its size holds; a `Clear` has the place of one byte at address 0 and the value 0.
 ///
 /// # Errors
 ///
@@ -152,7 +182,7 @@ pub fn print_record(alloc: Global, run: &RunRecord) -> Result<Vec<u8>, AllocErro
     ensures { IfOk result (λ text. text.items ≡ record_text run.now) }
 {
     let accesses = run.accesses.as_slice();
-    let header = header_line(run.threads, run.budget, accesses.len() as u32);
+    let header = header_line(run.threads, run.granule, run.budget, accesses.len() as u32);
     let mut text = Vec::new(alloc);
     text.extend_from_slice(header.bytes())?;
     for access in accesses {

@@ -70,10 +70,12 @@ fn record_of(alloc: Global, bytes: &[u8]) -> Result<RunRecord, RecordFault>
         return Err(RecordFault::TooLong);
     }
     let threads = header.threads as u32;
+    let granule = header.granule as u32;
     match accesses_from(alloc, threads, header.count as u32, rest) {
         Ok(accesses) => Ok(RunRecord {
             threads,
             budget: header.budget,
+            granule,
             accesses: Accesses::new(accesses),
         }),
         Err(fault) => Err(fault),
@@ -85,11 +87,11 @@ fn record_of(alloc: Global, bytes: &[u8]) -> Result<RunRecord, RecordFault>
 /// # Errors
 ///
 /// For bytes that are no record's text their first fault, whether there is memory or not: `Header` where they don't
-/// begin with a header line, whose numbers are in range; `TooLong` where it says more than 1,000,000 accesses; and
-/// `Line` or `Thread` with the number of the first line that is wrong, counted from 1 with the header. `Line` comes
-/// where the line isn't of the form, its place isn't aligned, its value doesn't fit its size or it is missing, and where
-/// bytes stand behind the last access; `Thread` where the line is of the form and its thread isn't below the header's.
-/// `Memory` comes where a record's text finds no memory for its accesses.
+/// begin with a header line of either format, whose numbers are in range; `TooLong` where it says more than 1,000,000
+/// accesses; and `Line` or `Thread` with the number of the first line that is wrong, counted from 1 with the header.
+/// `Line` comes where the line isn't of the form, its place isn't aligned, its value doesn't fit its size or it is
+/// missing, and where bytes stand behind the last access; `Thread` where the line is of the form and its thread isn't
+/// below the header's. `Memory` comes where a record's text finds no memory for its accesses.
 pub fn read_record(alloc: Global, bytes: &[u8]) -> Result<RunRecord, RecordFault>
     ensures record { IfOk result (λ run. record_of bytes.now ≡ Ok run) }
     ensures fault { IfErr result (λ fault. (record_of bytes.now ≡ Err fault) ⊎ (fault ≡ RecordFault.Memory)) }

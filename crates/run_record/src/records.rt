@@ -42,14 +42,15 @@ impl Accesses {
     }
 }
 
-/// The record of a run: its threads, 1 to 16, the budget of instructions that each had, 1 to 1,000,000,000,000, and
-/// at most 1,000,000 accesses in the order in which they were made.
+/// The record of a run: its threads, 1 to 16, the budget of instructions that each had, 1 to 1,000,000,000,000, the
+/// granule number, 0 to 8, and at most 1,000,000 accesses in the order in which they were made.
 ///
-/// The thread of each access is below `threads`, its place is aligned, and its value fits its size; a `Clear` has the
-/// place of one byte at address 0 and the value 0.
+/// A row, on which a monitor marks a thread, had `8 * 2^granule` bytes. The thread of each access is below `threads`, its
+/// place is aligned, and its value fits its size; a `Clear` has the place of one byte at address 0 and the value 0.
 #[derive(Drop)]
 pub struct RunRecord {
     pub threads: u32,
     pub budget: u64,
+    pub granule: u32,
     pub accesses: Accesses,
 }

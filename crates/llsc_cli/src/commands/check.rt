@@ -68,6 +68,7 @@ fn judge<H: Host>(
 ) -> Ended
     requires whole { length image.now.bytes ≡ size.now.mem }
     requires threads { run.now.threads ≡ size.now.threads }
+    requires granule { run.now.granule ≡ size.now.granule }
     requires record_ { IsRecord run.now }
     ensures answered { Answered (IsJudged image.now size.now run.now) (H.written host.old) (H.written host.new) result.status }
     ensures write { result.status ≡ 5 → Rose (H.write_faults host.old) (H.write_faults host.new) }
@@ -80,7 +81,7 @@ fn judge<H: Host>(
     }
 }
 
-/// Judges a record on a machine of its threads with so much memory, which runs a program's file.
+/// Judges a record on a machine of its threads and its granule with so much memory, which runs a program's file.
 fn judge_file<H: Host>(
     alloc: Global,
     host: &mut H,
@@ -96,7 +97,13 @@ fn judge_file<H: Host>(
     ensures write_answered { result.status ≢ 5 → H.write_faults host.new ≡ H.write_faults host.old }
     ensures reads { KeepsReads (H.file host.old) (H.file host.new) (H.read_faults host.old) (H.read_faults host.new) (H.lost host.old) (H.lost host.new) }
 {
-    let size = match machine(alloc, host, u64::from(run.threads), mem) {
+    let size = match machine(
+        alloc,
+        host,
+        u64::from(run.threads),
+        mem,
+        u64::from(run.granule),
+    ) {
         Ok(size) => size,
         Err(ended) => return ended,
     };

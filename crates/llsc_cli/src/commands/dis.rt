@@ -158,7 +158,7 @@ pub fn answer<H: Host>(alloc: Global, host: &mut H, file: &str, format: Format, 
     ensures write_answered { result.status ≢ 5 → H.write_faults host.new ≡ H.write_faults host.old }
     ensures read_answered { result.status ≢ 3 → result.status ≢ 5 → H.read_faults host.new ≡ H.read_faults host.old }
 {
-    match load(alloc, host, 1, mem, file, format) {
+    match load(alloc, host, 1, mem, 0, file, format) {
         Ok(loaded) => show(alloc, host, &loaded.image, loaded.size.mem()),
         Err(ended) => ended,
     }

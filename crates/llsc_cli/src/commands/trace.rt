@@ -105,14 +105,22 @@ pub fn answer<H: Host>(
 ) -> Ended
     requires some { 1 ≤ numbers.budget }
     requires budget { numbers.budget ≤ most_budget }
-    ensures ends { CallEnds (AnswersTrace format numbers.threads numbers.mem numbers.seed numbers.budget) (H.file host.old file.now)
-        (Rose (H.read_faults host.old) (H.read_faults host.new) × (H.lost host.new ≡ file.now) × (size_refusal (machine_of numbers.threads numbers.mem) ≡ None))
+    ensures ends { CallEnds (AnswersTrace format numbers.threads numbers.mem numbers.granule numbers.seed numbers.budget) (H.file host.old file.now)
+        (Rose (H.read_faults host.old) (H.read_faults host.new) × (H.lost host.new ≡ file.now) × (size_refusal (machine_of numbers.threads numbers.mem numbers.granule) ≡ None))
         (H.written host.old) (H.written host.new) result.status }
     ensures write { result.status ≡ 5 → Rose (H.write_faults host.old) (H.write_faults host.new) }
     ensures write_answered { result.status ≢ 5 → H.write_faults host.new ≡ H.write_faults host.old }
     ensures read_answered { result.status ≢ 3 → result.status ≢ 5 → H.read_faults host.new ≡ H.read_faults host.old }
 {
-    match load(alloc, host, numbers.threads, numbers.mem, file, format) {
+    match load(
+        alloc,
+        host,
+        numbers.threads,
+        numbers.mem,
+        numbers.granule,
+        file,
+        format,
+    ) {
         Ok(loaded) => run(
             alloc,
             host,

@@ -15,7 +15,15 @@ const RUN: &str = "llsc-run 1 threads 2 budget 10000 accesses 8\n\
     0 store 8 00ffabc8 fedcba9876543210\n\
     1 load 2 fffffffe 000000000000ffff\n";
 
-const FAULTS: [(&str, RecordFault); 39] = [
+/// A place taken and stored to, on rows of 16 bytes.
+const WIDE_ROWS: &str = "llsc-run 2 threads 1 granule 1 budget 10000 accesses 2\n\
+    0 loadex 4 00002000 0000000000000000\n\
+    0 storeex 4 00002000 0000000000000001\n";
+
+/// The longest header line.
+const WIDEST_ROWS: &str = "llsc-run 2 threads 16 granule 8 budget 1000000000000 accesses 0\n";
+
+const FAULTS: [(&str, RecordFault); 48] = [
     ("", RecordFault::Header),
     (
         "llsc-run 1 threads 1 budget 1 accesses 0",
@@ -23,6 +31,34 @@ const FAULTS: [(&str, RecordFault); 39] = [
     ),
     (
         "llsc-run 2 threads 1 budget 1 accesses 0\n",
+        RecordFault::Header,
+    ),
+    (
+        "llsc-run 2 threads 1 granule 0 budget 1 accesses 0\n",
+        RecordFault::Header,
+    ),
+    (
+        "llsc-run 2 threads 1 granule 9 budget 1 accesses 0\n",
+        RecordFault::Header,
+    ),
+    (
+        "llsc-run 2 threads 1 granule 01 budget 1 accesses 0\n",
+        RecordFault::Header,
+    ),
+    (
+        "llsc-run 2 threads 1 granule 4294967297 budget 1 accesses 0\n",
+        RecordFault::Header,
+    ),
+    (
+        "llsc-run 2 threads 1 budget 1 granule 1 accesses 0\n",
+        RecordFault::Header,
+    ),
+    (
+        "llsc-run 1 threads 1 granule 1 budget 1 accesses 0\n",
+        RecordFault::Header,
+    ),
+    (
+        "llsc-run 3 threads 1 granule 1 budget 1 accesses 0\n",
         RecordFault::Header,
     ),
     (
@@ -70,6 +106,10 @@ const FAULTS: [(&str, RecordFault); 39] = [
         RecordFault::TooLong,
     ),
     (
+        "llsc-run 2 threads 1 granule 8 budget 1 accesses 1000001\n",
+        RecordFault::TooLong,
+    ),
+    (
         "llsc-run 1 threads 1 budget 1 accesses 1000000\n",
         RecordFault::Line(2),
     ),
@@ -108,6 +148,10 @@ const FAULTS: [(&str, RecordFault); 39] = [
     (
         "llsc-run 1 threads 1 budget 1 accesses 1\n0 clear\n0 clear\n",
         RecordFault::Line(3),
+    ),
+    (
+        "llsc-run 2 threads 1 granule 1 budget 1 accesses 1\n1 clear\n",
+        RecordFault::Thread(2),
     ),
     (
         "llsc-run 1 threads 1 budget 1 accesses 2\n0 clear\n1 clear\n",
@@ -183,9 +227,15 @@ fn the_first_fault_is_named(rt: HostRuntime) {
 
 #[test]
 fn records_are_printed_as_they_were_read(rt: HostRuntime) {
-    for (text, count) in [(NO_ACCESS, 0), (RUN, 8)] {
+    for (text, granule, count) in [
+        (NO_ACCESS, 0, 0),
+        (RUN, 0, 8),
+        (WIDE_ROWS, 1, 2),
+        (WIDEST_ROWS, 8, 0),
+    ] {
         match read_record(rt.alloc(), text.as_bytes()) {
             Ok(run) => {
+                assert_eq!(rt; run.granule, granule);
                 assert_eq!(rt; run.accesses.as_slice().len(), count);
                 match print_record(rt.alloc(), &run) {
                     Ok(printed) => assert_eq!(rt; printed.as_slice(), text.as_bytes()),

@@ -32,7 +32,7 @@ returns-in-Trace-clause-ends g c =
     let answered = c.answer-in-Trace in
     let numbers = call.numbers in
     rw call.is
-    (ends_one (g.H.Host.file c.args.host.now) (Trace call.file.now call.format numbers.threads numbers.mem numbers.seed numbers.budget) call.file.now
+    (ends_one (g.H.Host.file c.args.host.now) (Trace call.file.now call.format numbers.threads numbers.mem numbers.granule numbers.seed numbers.budget) call.file.now
     (g.H.Host.written c.args.host.now) (g.H.Host.written answered.new.host)
     answered.result.status refl (λ file s text a. a) (λ failed. (failed.0, (failed.1, failed.2))) answered.ensures.ends)
 

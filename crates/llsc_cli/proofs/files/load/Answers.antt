@@ -9,17 +9,17 @@ pub returns-in_err-size-clause-ends : goal.returns-in_err-size-clause-ends
 returns-in_err-size-clause-ends g c =
     let held = g.H.Host.file c.args.host.now c.args.name.now in
     let ends = answered_for (g.H.Host.written c.args.host.now) (g.H.Host.written c.machine.new.host) c.in_err-size.field-0.0.status (held_bytes held) (are_held held)
-    (refused_unsized c.args.format (machine_of c.args.threads c.args.mem) (held_bytes held)) c.in_err-size.ensures.refused in
+    (refused_unsized c.args.format (machine_of c.args.threads c.args.mem c.args.granule) (held_bytes held)) c.in_err-size.ensures.refused in
     owed_as c.from_residual.result c.from_residual.ensures.1 (λ ended same. rw same ends)
 
 pub returns-in_err-image-clause-ends : goal.returns-in_err-image-clause-ends
 returns-in_err-image-clause-ends g c =
-    let none : size_refusal (machine_of c.args.threads c.args.mem) ≡ None = c.in_ok-size.ensures.size.1 in
+    let none : size_refusal (machine_of c.args.threads c.args.mem c.args.granule) ≡ None = c.in_ok-size.ensures.size.1 in
     let had = rw (c.machine.ensures.reads.files) at c.in_ok-file.ensures.had in
     let bytes : AreBytes (g.H.Host.file c.args.host.now c.args.name.now) c.as_slice.result.now = rw c.as_slice.ensures.value had.0 in
     let short : too_long most_program c.as_slice.result.now ≡ None = rw c.as_slice.ensures.value had.1 in
     let refused = rw (c.in_ok-file.ensures.writes.written, c.in_ok-size.ensures.writes.written) at c.in_err-image.ensures.refused in
     let ends = answered_for (g.H.Host.written c.args.host.now) (g.H.Host.written c.image_on.new.host) c.in_err-image.field-0.0.status c.as_slice.result.now bytes
-    (refused_short c.args.format c.in_ok-size.size (machine_of c.args.threads c.args.mem) c.as_slice.result.now none c.in_ok-size.ensures.size.0 short)
+    (refused_short c.args.format c.in_ok-size.size (machine_of c.args.threads c.args.mem c.args.granule) c.as_slice.result.now none c.in_ok-size.ensures.size.0 short)
     refused in
     owed_as c.from_residual-in_err-image.result c.from_residual-in_err-image.ensures.1 (λ ended same. rw same ends)

@@ -8,6 +8,6 @@ use Rattle.llsc_cli.proofs.files.machine.Goals as goal
 pub returns-in-Err-clause-refused : goal.returns-in-Err-clause-refused
 returns-in-Err-clause-refused g c =
     let said = c.refuse.ensures in
-    let is : size_refusal (machine_of c.args.threads c.args.mem) ≡ Some c.name.result.now = ap (λ f. option_map size_fault_name f) c.in-Err.ensures ∙ ap Some (sym c.name.ensures) in
-    answered_refused (size_refusal (machine_of c.args.threads c.args.mem)) c.name.result.now (g.H.Host.written c.args.host.now) (g.H.Host.written c.refuse.new.host)
+    let is : size_refusal (machine_of c.args.threads c.args.mem c.args.granule) ≡ Some c.name.result.now = ap (λ f. option_map size_fault_name f) c.in-Err.ensures ∙ ap Some (sym c.name.ensures) in
+    answered_refused (size_refusal (machine_of c.args.threads c.args.mem c.args.granule)) c.name.result.now (g.H.Host.written c.args.host.now) (g.H.Host.written c.refuse.new.host)
     c.refuse.result.status is said.ended said.said (λ five. (said.cut five).1) said.memory

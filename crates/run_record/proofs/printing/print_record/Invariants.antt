@@ -6,4 +6,4 @@ use Rattle.run_record.proofs.printing.print_record.Given as goal
 
 abbrev pub invariant-loop-access : goal.invariant-loop-access
 invariant-loop-access l =
-    l.text.items ≡ header_text l.run.threads l.run.budget (length l.accesses) ++ flat_map line_text (take l.access-index l.accesses)
+    l.text.items ≡ header_text l.run.threads l.run.granule l.run.budget (length l.accesses) ++ flat_map line_text (take l.access-index l.accesses)

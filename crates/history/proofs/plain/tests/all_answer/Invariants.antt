@@ -1,6 +1,0 @@
--- The memory stays as large as it was made.
-use Rattle.std.proofs.Common.{◌≡◌, length}
-use Rattle.history.proofs.plain.tests.all_answer.Given as goal
-
-abbrev pub invariant-loop-access : goal.invariant-loop-access
-invariant-loop-access l = (length l.memory.memory ≡ 16384) × (length l.memory.marks ≡ 2)
