@@ -1,4 +1,5 @@
 //! Files, words, and what each call of them answers.
+use super::traces::EACH;
 use super::*;
 
 /// What the file `p` holds.
@@ -191,12 +192,44 @@ const TEXTS: &[Case] = &[
     ),
 ];
 
+/// Threads that take turns: each stores its number, loads what is there, and leaves.
+const TURNS: &[Case] = &[
+    (
+        "trace --flat --threads 3 --seed 18446744073709551615 p",
+        Content::Words(EACH),
+        0,
+        "llsc-run 1 threads 3 budget 10000 accesses 6\n\
+         1 store 4 00002000 0000000000000001\n\
+         2 store 4 00002000 0000000000000002\n\
+         1 load 4 00002000 0000000000000002\n\
+         2 load 4 00002000 0000000000000002\n\
+         0 store 4 00002000 0000000000000000\n\
+         0 load 4 00002000 0000000000000000\n",
+    ),
+    (
+        "trace --flat --threads 5 --seed 12345 p",
+        Content::Words(EACH),
+        0,
+        "llsc-run 1 threads 5 budget 10000 accesses 10\n\
+         4 store 4 00002000 0000000000000004\n\
+         3 store 4 00002000 0000000000000003\n\
+         2 store 4 00002000 0000000000000002\n\
+         1 store 4 00002000 0000000000000001\n\
+         0 store 4 00002000 0000000000000000\n\
+         0 load 4 00002000 0000000000000000\n\
+         3 load 4 00002000 0000000000000000\n\
+         4 load 4 00002000 0000000000000000\n\
+         1 load 4 00002000 0000000000000000\n\
+         2 load 4 00002000 0000000000000000\n",
+    ),
+];
+
 #[test]
 fn answers_whole_calls(rt: HostRuntime) -> Result<(), Fail> {
-    for cases in [ACCESSES, CALLS, TEXTS] {
+    for cases in [ACCESSES, CALLS, TEXTS, TURNS] {
         for (words, content, status, text) in cases {
             let file = bytes_in(rt.alloc(), *content)?;
-            let (ended, host) = called(rt.alloc(), words, file, &[], 200)?;
+            let (ended, host) = called(rt.alloc(), words, file, &[], 1000)?;
             assert_eq!(rt; host.written(), text.as_bytes(), "for {words}");
             assert_eq!(rt; ended, *status, "for {text}");
         }
