@@ -19,11 +19,13 @@ verdict_done verdict.Good = inl refl
 verdict_done (verdict.Bad index reason) = inr (inr (inr refl))
 
 -- no machine of the record's threads, or a fault of the program
-pub run_unsized : (format : Format) (mem threads : ℕ) (file : List ℕ) (run : RunRecord) → threads ≡ run.threads
+pub run_unsized : (format : Format) (mem threads granule : ℕ) (file : List ℕ) (run : RunRecord) → threads ≡ run.threads → granule ≡ run.granule
     → (status : ℕ) (text : List ℕ) → Refusal (size_refusal (machine_of threads mem granule)) status text → JudgesRun format mem file run status text
-run_unsized format mem threads file run same status text refused =
+run_unsized format mem threads granule file run same alike status text refused =
     let size = machine_of run.threads mem run.granule in
-    let here : Refusal (size_refusal size) status text = subst (λ t. Refusal (size_refusal (machine_of t mem run.granule)) status text) same refused in
+    let here : Refusal (size_refusal size) status text =
+    subst (λ t. Refusal (size_refusal (machine_of t mem run.granule)) status text) same
+    (subst (λ n. Refusal (size_refusal (machine_of threads mem n)) status text) alike refused) in
     unless_refused (IsJudged (image_of format file size) size run) (program_refusal format size file) status text (refused_unsized format size file status text here)
 
 pub run_refused : (format : Format) (mem : ℕ) (size : Numbers) (file : List ℕ) (run : RunRecord)

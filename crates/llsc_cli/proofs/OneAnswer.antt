@@ -1,14 +1,12 @@
 -- A request has one answer for the bytes of its files.
-use Rattle.std.proofs.Common.{◌≡◌, ℕ, ◌≤◌, inl, inr, List, [], ◌∷◌, Option, Some, None, Result, Ok, Err, length, sym, ◌∙◌, ap, subst, codes}
+use Rattle.std.proofs.Common.{◌≡◌, ℕ, inl, inr, List, [], ◌∷◌, Option, Some, None, Result, Ok, Err, sym, ◌∙◌, ap, subst}
 use Rattle.llsc_base.specs.Sizes.{Numbers}
 use Rattle.llsc_base.specs.Images.{Program}
 use Rattle.history.specs.Accesses.{history_of}
 use Rattle.guest_thread.specs.Ends.{AreEnds}
 use Rattle.guest_thread.specs.Start.{thread_start}
 use Rattle.guest_thread.proofs.OneOutcome.{one_list}
-use Rattle.guest_thread.specs.declared.ends.GuestEnd.{GuestEnd}
 use Rattle.guest_machine.specs.Traces.{IsTraceRecord}
-use Rattle.guest_machine.specs.Turns.{IsTooLong}
 use Rattle.guest_machine.proofs.OneEnd.{one_end_alone}
 use Rattle.guest_machine.proofs.OneTrace.{one_trace, not_too_long}
 use Rattle.run_record.specs.Text.{record_text}
@@ -23,7 +21,7 @@ use Rattle.llsc_cli.specs.Report.{report_of}
 use Rattle.llsc_cli.specs.Assembly.{asm_answer}
 use Rattle.llsc_cli.specs.Disassembly.{dis_answer}
 use Rattle.llsc_cli.specs.Trace.{status_of, status_of_all, IsRecorded, Traces}
-use Rattle.llsc_cli.specs.Check.{files_refusal, verdict_status, verdict_text, IsJudged, JudgesRead, JudgesRun}
+use Rattle.llsc_cli.specs.Check.{files_refusal, verdict_status, verdict_text, IsJudged, JudgesRead}
 use Rattle.llsc_cli.specs.Request.{Request, Solo, Assemble, Disassemble, Trace, Check}
 use Rattle.llsc_cli.specs.Answer.{Answers, Is, IsReported}
 
@@ -42,21 +40,23 @@ is_one answer status other text more a b = (a.0 ∙ sym b.0, a.1 ∙ sym b.1)
 -- a run alone
 report_one : (program : Program) (size : Numbers) (budget : ℕ) → AreOne (IsReported program size budget)
 report_one program size budget status other text more a b =
-    let same : a.0 ≡ b.0 = one_end_alone program budget (thread_start program size size.threads 0) program.bytes a.0 b.0 a.1.1 b.1.1 in
+    let same : a.0 ≡ b.0 = one_end_alone program budget (thread_start program size size.threads 0) size.granule program.bytes a.0 b.0 a.1.1 b.1.1 in
     (a.2 ∙ ap (λ end. status_of end.stop) same ∙ sym b.2, a.3 ∙ ap (λ end. report_of budget end) same ∙ sym b.3)
 
 -- Traces.
 
-same_run : (one two : RunRecord) → one.threads ≡ two.threads → one.budget ≡ two.budget → one.accesses ≡ two.accesses → one ≡ two
-same_run one two threads budget accesses =
+same_run : (one two : RunRecord) → one.threads ≡ two.threads → one.budget ≡ two.budget → one.granule ≡ two.granule → one.accesses ≡ two.accesses
+    → one ≡ two
+same_run one two threads budget granule accesses =
     ap (λ n. record one { threads = n }) threads
     ∙ ap (λ n. record one { threads = two.threads; budget = n }) budget
+    ∙ ap (λ n. record one { threads = two.threads; budget = two.budget; granule = n }) granule
     ∙ ap (λ l. record two { accesses = l }) accesses
 
 one_run : (program : Program) (size : Numbers) (seed budget : ℕ) (run other : RunRecord)
     → IsTraceRecord program size seed budget run → IsTraceRecord program size seed budget other → run ≡ other
 one_run program size seed budget run other a b =
-    same_run run other (a.threads ∙ sym b.threads) (a.budget_is ∙ sym b.budget_is)
+    same_run run other (a.threads ∙ sym b.threads) (a.budget_is ∙ sym b.budget_is) (a.granule_is ∙ sym b.granule_is)
     (one_trace program size seed budget run.accesses other.accesses a.trace b.trace)
 
 record_one : (program : Program) (size : Numbers) (seed budget : ℕ) → AreOne (IsRecorded program size seed budget)

@@ -31,7 +31,7 @@ all_unmarked program size seed budget _ _ _ (stops x live accesses t stop steps 
     all_unmarked program size seed budget x live accesses before
 
 pub trace_alone : (program : Program) (size : Numbers) (seed : ℕ) (run : RunRecord) → size.threads ≡ 1
-    → IsTraceRecord program size seed run.budget run → IsAlone program.bytes (history_of run.accesses)
+    → IsTraceRecord program size seed run.budget run → IsAlone size.granule program.bytes (history_of run.accesses)
 trace_alone program size seed run one is =
     let accesses : List Access = run.accesses in
     let sound : All (IsAccess size.threads) accesses = subst (λ n. All (IsAccess n) accesses) is.threads is.sound.accesses in

@@ -15,6 +15,6 @@ returns c =
     (c.run-stop.ensures start c.args.size.now.granule program.bytes
     (at_start program c.args.size.now c.args.budget alone c.in_ok-start.ensures.state
     (c.in_ok-sized.ensures
-        ∙ ap (λ b. at_rest_by c.args.size.now.granule b c.args.size.now.threads) c.bytes.ensures.items
-        ∙ ap (at_rest_by c.args.size.now.granule program.bytes) c.requires.one_thread) c.none.ensures)) in
+    ∙ ap (λ b. at_rest_by c.args.size.now.granule b c.args.size.now.threads) c.bytes.ensures.items
+    ∙ ap (at_rest_by c.args.size.now.granule program.bytes) c.requires.one_thread) c.none.ensures)) in
     (c.requires.one_thread, ends)

@@ -1,4 +1,4 @@
-use Rattle.std.proofs.Common.{◌≤◌, ◌∙◌, ap, arith, length, length-append}
+use Rattle.std.proofs.Common.{◌∙◌, ap, arith, length, length-append}
 use Rattle.number_text.specs.Hexadecimal.{word_text}
 use Rattle.number_text.proofs.Lengths.{word_length}
 use Rattle.llsc_cli.proofs.report.write_address.Goals as goal

@@ -1,4 +1,4 @@
-use Rattle.std.proofs.Common.{◌≡◌, ◌++◌, codes, ◌∙◌, ap, subst}
+use Rattle.std.proofs.Common.{◌++◌, codes, ◌∙◌, ap, subst}
 use Rattle.llsc_cli.specs.Host.{Adds, AddsFront}
 use Rattle.llsc_cli.specs.Report.{head_line, last_line}
 use Rattle.llsc_cli.proofs.Fronts.{front_less, front_more, owed}

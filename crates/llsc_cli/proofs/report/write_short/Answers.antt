@@ -1,4 +1,4 @@
-use Rattle.std.proofs.Common.{◌≤◌, ◌∙◌, ap, arith, length, length-append}
+use Rattle.std.proofs.Common.{◌∙◌, ap, arith, length, length-append}
 use Rattle.std.specs.Fmt.{decimal}
 use Rattle.number_text.proofs.Lengths.{short_decimal}
 use Rattle.llsc_cli.proofs.report.write_short.Goals as goal
