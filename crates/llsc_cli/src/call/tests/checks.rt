@@ -1,6 +1,6 @@
 //! Records that are checked against their program.
 use super::runs::{EXCLUSIVES, UNMARKED};
-use super::traces::{EACH, TURNS};
+use super::traces::{BESIDE, DISTURBED, EACH, TURNS};
 use super::*;
 
 /// The lines of the one run of the exclusives.
@@ -65,8 +65,15 @@ fn judges_other_programs(rt: HostRuntime) -> Result<(), Fail> {
                      1 store 4 00002000 0000000000000001\n\
                      1 load 4 00002000 0000000000000000\n\
                      0 load 4 00002000 0000000000000000\n";
-    let cases: [(&[u32], &str, u8, &str); 3] = [
+    // a store beside the word of the exclusives, in a row of 16 bytes
+    let forged = "llsc-run 2 threads 1 granule 1 budget 10000 accesses 3\n\
+                  0 loadex 4 00002000 0000000000000000\n\
+                  0 store 4 00002008 0000000000000000\n\
+                  0 storeex 4 00002000 0000000000000000\n";
+    let cases: [(&[u32], &str, u8, &str); 5] = [
         (EACH, TURNS, 0, "good\n"),
+        (BESIDE, DISTURBED, 0, "good\n"),
+        (BESIDE, forged, 7, "bad 2 NoReservation\n"),
         (EACH, exchanged, 7, "bad 2 WrongValue\n"),
         (UNMARKED, unreserved, 7, "bad 0 NoReservation\n"),
     ];
@@ -82,7 +89,7 @@ fn judges_other_programs(rt: HostRuntime) -> Result<(), Fail> {
 #[test]
 fn refuses_records(rt: HostRuntime) -> Result<(), Fail> {
     let header = "llsc-run 1 threads 1 budget 10000 accesses";
-    let cases: [(&str, &str, &str); 8] = [
+    let cases: [(&str, &str, &str); 9] = [
         // a record's faults come before the size and before the program's
         ("check --mem 1 p r", "", "llsc: Header\n"),
         ("check --mem 1 p r", "{header} 1000001\n", "llsc: TooLong\n"),
@@ -103,6 +110,11 @@ fn refuses_records(rt: HostRuntime) -> Result<(), Fail> {
         (
             "check --flat p r",
             "llsc-run 1 threads 17 budget 1 accesses 0\n",
+            "llsc: Header\n",
+        ),
+        (
+            "check --flat p r",
+            "llsc-run 2 threads 1 granule 0 budget 1 accesses 0\n",
             "llsc: Header\n",
         ),
     ];

@@ -7,7 +7,18 @@ pub const EACH: &[u32] = &[
     0xe3a02a02, 0xe5820000, 0xe5921000, 0xe3a00000, 0xe3a07001, 0xef000000,
 ];
 
-/// The record of two such threads by the seed 0: the first turns are those of threads 1, 0 and 1.
+/// Loads the word at 0x2000 exclusively, stores 8 bytes behind it, stores exclusively, and leaves with what that says.
+pub const BESIDE: &[u32] = &[
+    0xe3a01a02, 0xe1910f9f, 0xe5810008, 0xe1812f90, 0xe1a00002, 0xe3a07001, 0xef000000,
+];
+
+/// The record of that where rows have 16 bytes.
+pub const DISTURBED: &str = "llsc-run 2 threads 1 granule 1 budget 10000 accesses 3\n\
+    0 loadex 4 00002000 0000000000000000\n\
+    0 store 4 00002008 0000000000000000\n\
+    0 fail 4 00002000 0000000000000000\n";
+
+/// The record of two threads of the first guest by the seed 0: the first turns are those of threads 1, 0 and 1.
 pub const TURNS: &str = "llsc-run 1 threads 2 budget 10000 accesses 4\n\
     1 store 4 00002000 0000000000000001\n\
     0 store 4 00002000 0000000000000000\n\
@@ -21,8 +32,19 @@ fn records_runs(rt: HostRuntime) -> Result<(), Fail> {
                       0 storeex 4 00002000 0000000000000007\n";
     let unmarked = "llsc-run 1 threads 1 budget 9 accesses 1\n\
                     0 fail 4 00002000 0000000000000000\n";
-    let cases: [(&str, &[u32], u8, &str); 4] = [
+    let undisturbed = "llsc-run 1 threads 1 budget 10000 accesses 3\n\
+                       0 loadex 4 00002000 0000000000000000\n\
+                       0 store 4 00002008 0000000000000000\n\
+                       0 storeex 4 00002000 0000000000000000\n";
+    let cases: [(&str, &[u32], u8, &str); 6] = [
         ("trace --flat --threads 1 p", EXCLUSIVES, 0, exclusives),
+        ("trace --flat --threads 1 p", BESIDE, 0, undisturbed),
+        (
+            "trace --granule 1 --flat --threads 1 p",
+            BESIDE,
+            1,
+            DISTURBED,
+        ),
         ("trace --flat p", EACH, 0, TURNS),
         ("trace --seed 0 --threads 2 --flat p", EACH, 0, TURNS),
         (
@@ -43,7 +65,13 @@ fn records_runs(rt: HostRuntime) -> Result<(), Fail> {
 
 #[test]
 fn refuses_traces(rt: HostRuntime) -> Result<(), Fail> {
-    let cases: [(&str, u8, &str); 7] = [
+    let cases: [(&str, u8, &str); 9] = [
+        ("trace --flat --granule 9 q", 4, "llsc: Granule\n"),
+        (
+            "trace --flat --granule 9 --threads 17 p",
+            4,
+            "llsc: Threads\n",
+        ),
         ("trace --flat --threads 0 p", 4, "llsc: Threads\n"),
         ("trace --flat --threads 0 --mem 65537 p", 4, "llsc: Mem\n"),
         // the size is refused before the file is read
