@@ -3,3 +3,4 @@ pub mod OutputInside
 pub mod Pairs
 pub mod Run
 pub mod Steps
+pub mod Worked

@@ -10,6 +10,8 @@ mod calls;
 pub mod laws;
 mod output;
 mod replies;
+pub mod worked;
+pub mod worked_runs;
 
 pub use calls::{CallStep, guest_call};
 pub use output::Output;

@@ -9,3 +9,5 @@ pub mod Pushed
 pub mod Placed
 pub mod Counted
 pub mod OneOutcome
+pub mod SmallEnds
+pub mod SmallRuns

@@ -10,3 +10,4 @@ pub mod ThreadState
 pub mod Start
 pub mod Turns
 pub mod Under
+pub mod Worked

@@ -12,6 +12,8 @@ mod ends;
 mod guests;
 pub mod laws;
 mod tries;
+pub mod worked;
+pub mod worked_ends;
 
 pub use counts::{Counts, counts_of};
 pub use ends::GuestEnd;

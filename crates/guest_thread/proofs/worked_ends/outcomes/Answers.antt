@@ -1,0 +1,57 @@
+use Rattle.std.proofs.Common.{◌≡◌, List, [], ◌∷◌, ◌++◌, refl, arith}
+use Rattle.llsc_base.specs.Memory.{number_of}
+use Rattle.history.specs.Cause.{HasCause}
+use Rattle.history.specs.Standing.{looked, rests}
+use Rattle.history.specs.declared.entry.Entry.{Entry}
+use Rattle.history.proofs.Operations.{last_stage-AreFinished}
+use Rattle.history.proofs.SmallHistories.{not_begun}
+use Rattle.a32_instr.specs.declared.outside.Stop.TheVariants.{Exit}
+use Rattle.guest_calls.specs.Run.{by_itself}
+use Rattle.guest_calls.proofs.Asked.{one_end_on}
+use Rattle.guest_thread.specs.Worked.{end_of, leaving, machine_of, word}
+use Rattle.guest_thread.proofs.SmallEnds.{both_ends_on, same_code}
+use Rattle.guest_thread.proofs.SmallRuns.{left}
+use Rattle.guest_thread.proofs.worked_ends.outcomes.Goals as goal
+
+-- nothing stands in an empty history
+nothing_stands : (past : List Entry) (entry : Entry) (rest : List Entry) → [] ≡ past ++ (entry ∷ rest) → HasCause (machine_of 2 1 1) past entry
+nothing_stands [] entry rest parts = absurd (let f : ⊥ = cc in f)
+nothing_stands (first ∷ past) entry rest parts = absurd (let f : ⊥ = cc in f)
+
+pub returns-clause-outcome : goal.returns-clause-outcome
+returns-clause-outcome c = record {
+  legal = record {
+    accesses = tt;
+    operations = λ thread. record { missing = []; finished = record { operations = []; are = refl } };
+    causes = nothing_stands;
+  };
+  complete = λ thread. record { operations = []; are = refl };
+  ends = both_ends_on;
+}
+
+pub returns-clause-another_number : goal.returns-clause-another_number
+returns-clause-another_number c = λ outcome.
+    let wrong : 1 ≡ 0 = outcome.ends.numbers 0 (end_of 1 (Exit 0) 2 0 0 0) refl in absurd (omega (arith, wrong))
+
+pub returns-clause-one_missing : goal.returns-clause-one_missing
+returns-clause-one_missing c = λ outcome. let wrong : 1 ≡ 2 = outcome.ends.many in absurd (omega (arith, wrong))
+
+pub returns-clause-another_end : goal.returns-clause-another_end
+returns-clause-another_end c = λ outcome.
+    let end = outcome.ends.each 1 (end_of 1 (Exit 0) 2 0 0 0) refl in
+    let ends = by_itself [] (Exit 1) 2 [] (left (machine_of 2 1 1) 2 1) in
+    let wrong : Exit 1 ≡ Exit 0 = (one_end_on leaving 2 _ [] (Exit 1) (Exit 0) 2 2 [] [] ends end.ends).0 in
+    absurd (omega (arith, same_code 1 0 wrong))
+
+pub returns-clause-another_memory : goal.returns-clause-another_memory
+unfolding number_of
+returns-clause-another_memory c = λ ends outcome. let wrong : 7 ≡ 0 = outcome.legal.accesses.0.1 in absurd (omega (arith, wrong))
+
+pub returns-clause-not_legal : goal.returns-clause-not_legal
+returns-clause-not_legal c = λ ends outcome.
+    let whole = (outcome.legal.operations 0).finished in
+    not_begun 0 word 9 _ _ whole.operations whole.are
+
+pub returns-clause-not_complete : goal.returns-clause-not_complete
+returns-clause-not_complete c = λ ends outcome.
+    let wrong : looked word ≡ rests = last_stage-AreFinished 0 _ (outcome.complete 0) in cc
