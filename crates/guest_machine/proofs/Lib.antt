@@ -11,3 +11,5 @@ pub mod Seated
 pub mod Turning
 pub mod UnderWay
 pub mod TracedAlone
+pub mod SmallRuns
+pub mod SmallTraces

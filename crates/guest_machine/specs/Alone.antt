@@ -21,8 +21,8 @@ abbrev pub AllFailUnmarked : Monitor → List Entry → Type 0
 AllFailUnmarked monitor [] = Unit {0}
 AllFailUnmarked monitor (entry ∷ entries) = FailsUnmarked monitor entry × AllFailUnmarked (accessed monitor entry) entries
 
--- A history of a thread alone, where memory began as these bytes, with rows of this granule: Arm allows its accesses, all of them the thread's, and
--- each store-exclusive succeeds just where its thread is marked on its row.
+-- A history of a thread alone, where memory began as these bytes, with rows of this granule: Arm allows its accesses, all of
+-- them the thread's, and each store-exclusive succeeds just where its thread is marked on its row.
 pub record IsAlone (granule : ℕ) (bytes : List ℕ) (history : List Entry) : Type 0 where
   pub legal : IsArmLegal (at_rest_by granule bytes 1) history
   pub decided : AllFailUnmarked (at_rest_by granule bytes 1) history

@@ -3,3 +3,4 @@ pub mod Seats
 pub mod Traces
 pub mod Alone
 pub mod Working
+pub mod Worked

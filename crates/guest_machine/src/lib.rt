@@ -14,6 +14,8 @@ mod seats;
 mod serving;
 mod traces;
 mod turns;
+pub mod worked;
+pub mod worked_alone;
 
 pub use alone::solo;
 pub use traces::{TraceFault, Traced, trace};

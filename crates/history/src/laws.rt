@@ -2,9 +2,10 @@
 //!
 //! How things stand after a history (`standing_after`) is one record that grows entry by entry. The laws named
 //! `.._the_fold` say that each of its parts is what a definition of this crate says of the history.
-ghost use Rattle.std.specs.Prelude.{◌≡◌, ◌+◌, ◌*◌, ◌%◌, ◌<◌, ◌≤◌, ◌↔◌, ◌++◌, ◌∷◌, [], ℕ, IsTrue, length, true, unwrap_or};
+ghost use Rattle.std.specs.Prelude.{◌≡◌, ◌+◌, ◌*◌, ◌%◌, ◌<◌, ◌≤◌, ◌↔◌, ◌++◌, ◌∷◌, [], ℕ, IsTrue, length, true, unwrap_or, Some};
 ghost use Rattle.std.specs.List.{list_any};
 ghost use Rattle.llsc_base.specs.Memory.{cell_of, class_of, is_aligned, row_of, size_bytes, value_at};
+ghost use Rattle.llsc_base.specs.Sizes.{Numbers};
 ghost use Rattle.row_bytes.specs.Cell.{cell_at, value_in_cell};
 ghost use Rattle.history.specs.Parts.{accesses_of};
 ghost use Rattle.history.specs.Monitor.{at_rest_by, marked_row, monitor_after};
@@ -58,71 +59,56 @@ pub fn marks_keep_their_rows(
 {}
 
 /// The memory that a history leaves is the cells that stand after it.
-pub fn memory_is_the_fold(
-    bytes: &[u8],
-    threads: u32,
-    size: &MachineSize,
-    history: &[Entry],
-    place: Place,
-)
+pub fn memory_is_the_fold(bytes: &[u8], threads: u32, history: &[Entry], place: Place)
     requires whole { length bytes.now % 8 ≡ 0 }
-    requires legal { IsArmLegal (at_rest_by size.now.granule bytes.now threads) (accesses_of history.now) }
-    ensures cells { let memory = (monitor_after (at_rest_by size.now.granule bytes.now threads) (accesses_of history.now)).memory in
-        let cells = (standing_after size.now (standing_of bytes.now) history.now).cells in
+    ensures cells { (size : Numbers) → IsArmLegal (at_rest_by size.granule bytes.now threads) (accesses_of history.now) →
+        let memory = (monitor_after (at_rest_by size.granule bytes.now threads) (accesses_of history.now)).memory in
+        let cells = (standing_after size (standing_of bytes.now) history.now).cells in
         (i : ℕ) → 8 * i + 8 ≤ length bytes.now → cells i ≡ cell_at memory i }
-    ensures values { let memory = (monitor_after (at_rest_by size.now.granule bytes.now threads) (accesses_of history.now)).memory in
-        let cells = (standing_after size.now (standing_of bytes.now) history.now).cells in
+    ensures values { (size : Numbers) → IsArmLegal (at_rest_by size.granule bytes.now threads) (accesses_of history.now) →
+        let memory = (monitor_after (at_rest_by size.granule bytes.now threads) (accesses_of history.now)).memory in
+        let cells = (standing_after size (standing_of bytes.now) history.now).cells in
         IsTrue (is_aligned place) → place.addr + size_bytes place.size ≤ length bytes.now
         → value_at memory place ≡ value_in_cell (cells (cell_of place)) place }
 {}
 
 /// The row on which a thread is marked after a history is the mark that stands.
-pub fn mark_is_the_fold(
-    bytes: &[u8],
-    threads: u32,
-    size: &MachineSize,
-    history: &[Entry],
-    thread: u32,
-)
-    requires { IsArmLegal (at_rest_by size.now.granule bytes.now threads) (accesses_of history.now) }
-    ensures { marked_row (monitor_after (at_rest_by size.now.granule bytes.now threads) (accesses_of history.now)) thread
-        ≡ (standing_after size.now (standing_of bytes.now) history.now).mark thread }
+pub fn mark_is_the_fold(bytes: &[u8], threads: u32, history: &[Entry], thread: u32)
+    ensures { (size : Numbers) → IsArmLegal (at_rest_by size.granule bytes.now threads) (accesses_of history.now) →
+        marked_row (monitor_after (at_rest_by size.granule bytes.now threads) (accesses_of history.now)) thread
+        ≡ (standing_after size (standing_of bytes.now) history.now).mark thread }
 {}
 
 /// The reservation of a thread after a history is the one that stands.
-pub fn reservation_is_the_fold(bytes: &[u8], size: &MachineSize, history: &[Entry], thread: u32)
-    ensures { reservation_of size.now thread history.now
-        ≡ (standing_after size.now (standing_of bytes.now) history.now).reserved thread }
+pub fn reservation_is_the_fold(bytes: &[u8], history: &[Entry], thread: u32)
+    ensures { (size : Numbers) → reservation_of size thread history.now
+        ≡ (standing_after size (standing_of bytes.now) history.now).reserved thread }
 {}
 
 /// Where a thread holds a reservation on a row, what has passed in its class since its Watch is what stands.
-pub fn causes_are_the_fold(
-    bytes: &[u8],
-    size: &MachineSize,
-    history: &[Entry],
-    thread: u32,
-    row: u32,
-)
-    requires { reservation_of size.now thread history.now ≡ Some row }
-    ensures passed { list_any (is_start_of_another size.now thread row) (since_watch thread history.now)
-        ≡ (standing_after size.now (standing_of bytes.now) history.now).passed thread }
-    ensures overtaken { list_any (is_begin_of_another size.now thread row) (since_watch thread history.now)
-        ≡ (standing_after size.now (standing_of bytes.now) history.now).overtaken thread }
-    ensures stirred { list_any (is_begin size.now row) (since_watch thread history.now)
-        ≡ (standing_after size.now (standing_of bytes.now) history.now).stirred thread }
+pub fn causes_are_the_fold(bytes: &[u8], history: &[Entry], thread: u32, row: u32)
+    ensures passed { (size : Numbers) → reservation_of size thread history.now ≡ Some row →
+        list_any (is_start_of_another size thread row) (since_watch thread history.now)
+        ≡ (standing_after size (standing_of bytes.now) history.now).passed thread }
+    ensures overtaken { (size : Numbers) → reservation_of size thread history.now ≡ Some row →
+        list_any (is_begin_of_another size thread row) (since_watch thread history.now)
+        ≡ (standing_after size (standing_of bytes.now) history.now).overtaken thread }
+    ensures stirred { (size : Numbers) → reservation_of size thread history.now ≡ Some row →
+        list_any (is_begin size row) (since_watch thread history.now)
+        ≡ (standing_after size (standing_of bytes.now) history.now).stirred thread }
 {}
 
 /// What a history says of the class of a row is what stands: how many Writes it has had, how many Begins and Ends, and
 /// the threads of its last Begin and of its last Watch or Begin.
-pub fn classes_are_the_fold(bytes: &[u8], size: &MachineSize, history: &[Entry], row: u32)
-    ensures writes { writes_in_class size.now row history.now
-        ≡ (standing_after size.now (standing_of bytes.now) history.now).writes (class_of size.now.classes row) }
-    ensures edges { edges_of size.now row history.now
-        ≡ (standing_after size.now (standing_of bytes.now) history.now).edges (class_of size.now.classes row) }
-    ensures holder { unwrap_or (last_of (writer_in size.now row) history.now) 0
-        ≡ (standing_after size.now (standing_of bytes.now) history.now).holder (class_of size.now.classes row) }
-    ensures name { name_of (last_of (comer_in size.now row) history.now)
-        ≡ (standing_after size.now (standing_of bytes.now) history.now).name (class_of size.now.classes row) }
+pub fn classes_are_the_fold(bytes: &[u8], history: &[Entry], row: u32)
+    ensures writes { (size : Numbers) → writes_in_class size row history.now
+        ≡ (standing_after size (standing_of bytes.now) history.now).writes (class_of size.classes row) }
+    ensures edges { (size : Numbers) → edges_of size row history.now
+        ≡ (standing_after size (standing_of bytes.now) history.now).edges (class_of size.classes row) }
+    ensures holder { (size : Numbers) → unwrap_or (last_of (writer_in size row) history.now) 0
+        ≡ (standing_after size (standing_of bytes.now) history.now).holder (class_of size.classes row) }
+    ensures name { (size : Numbers) → name_of (last_of (comer_in size row) history.now)
+        ≡ (standing_after size (standing_of bytes.now) history.now).name (class_of size.classes row) }
 {}
 
 /// The write of a thread that is in flight after a legal history is the one that stands.

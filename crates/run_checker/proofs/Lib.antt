@@ -5,3 +5,6 @@ pub mod LegalRecords
 pub mod Makes
 pub mod EachThread
 pub mod Judging
+pub mod SmallRuns
+pub mod SmallVerdicts
+pub mod SmallJudgements

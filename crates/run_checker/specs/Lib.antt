@@ -1,3 +1,4 @@
 pub mod Verdict
 pub mod Serving
 pub mod Positions
+pub mod Worked

@@ -11,6 +11,8 @@ pub mod laws;
 mod records;
 mod serving;
 mod verdicts;
+pub mod worked;
+pub mod worked_verdicts;
 
 pub use records::check_record;
 pub use verdicts::{Reason, Verdict};

@@ -16,8 +16,8 @@ use std::alloc::{AllocError, Global};
 /// Whether a recorded run of an image's threads is one, and where it is wrong.
 ///
 /// The threads of the image run again, each up to its next access, and each access of the record is compared with what
-/// its thread asks and made in memory. The cost is that of the run. `size` has the record's threads and its granule, its memory is as long
-/// as the image's, and the record is within its limits.
+/// its thread asks and made in memory. The cost is that of the run. `size` has the record's threads and its granule, its
+/// memory is as long as the image's, and the record is within its limits.
 ///
 /// # Errors
 ///

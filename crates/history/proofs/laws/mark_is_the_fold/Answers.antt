@@ -4,7 +4,7 @@ use Rattle.history.proofs.Marks.{marked_row-standing}
 use Rattle.history.proofs.laws.mark_is_the_fold.Goals as goal
 
 pub returns : goal.returns
-returns c =
-    let start = at_rest_by c.args.size.now.granule c.args.bytes.now c.args.threads in
+returns c = λ size legal.
+    let start = at_rest_by size.granule c.args.bytes.now c.args.threads in
     rw (monitor_after-accesses_of start c.args.history.now)
-    (marked_row-standing c.args.size.now c.args.bytes.now c.args.threads c.args.thread c.args.history.now (IsArmLegal-from_accesses_of start c.args.history.now c.requires))
+    (marked_row-standing size c.args.bytes.now c.args.threads c.args.thread c.args.history.now (IsArmLegal-from_accesses_of start c.args.history.now legal))

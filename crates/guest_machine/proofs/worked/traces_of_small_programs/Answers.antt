@@ -1,0 +1,41 @@
+-- What isn't the one trace is none.
+use Rattle.std.proofs.Common.{ℕ, List, length, [], ◌∷◌, ap, refl, lit≤}
+use Rattle.history.specs.declared.entry.Access.{Access}
+use Rattle.history.proofs.SmallMemory.{apart}
+use Rattle.guest_machine.specs.Worked.{leaving, loading, small_machine}
+use Rattle.guest_machine.proofs.OneTrace.{not_too_long, one_trace}
+use Rattle.guest_machine.proofs.SmallTraces.{both_loaded, none_loaded}
+use Rattle.guest_machine.proofs.worked.traces_of_small_programs.Goals as goal
+
+-- the thread of the first access, and its value
+abbrev thread_first : List Access → ℕ
+thread_first [] = 0
+thread_first (access ∷ accesses) = access.thread
+
+abbrev value_first : List Access → ℕ
+value_first [] = 0
+value_first (access ∷ accesses) = access.value
+
+pub returns-clause-empty : goal.returns-clause-empty
+returns-clause-empty c = none_loaded
+
+pub returns-clause-loads : goal.returns-clause-loads
+returns-clause-loads c = both_loaded
+
+pub returns-clause-invented : goal.returns-clause-invented
+returns-clause-invented c = λ trace.
+    apart 0 1 refl (ap (λ (l : List Access). length l) (one_trace leaving (small_machine 1) 0 10 _ _ none_loaded trace))
+
+pub returns-clause-unfinished : goal.returns-clause-unfinished
+returns-clause-unfinished c = λ trace.
+    apart 2 1 refl (ap (λ (l : List Access). length l) (one_trace loading (small_machine 2) 0 10 _ _ both_loaded trace))
+
+pub returns-clause-exchanged : goal.returns-clause-exchanged
+returns-clause-exchanged c = λ trace. apart 1 0 refl (ap thread_first (one_trace loading (small_machine 2) 0 10 _ _ both_loaded trace))
+
+pub returns-clause-another_value : goal.returns-clause-another_value
+returns-clause-another_value c = λ trace.
+    apart 0xE5942000 0 refl (ap value_first (one_trace loading (small_machine 2) 0 10 _ _ both_loaded trace))
+
+pub returns-clause-not_too_long : goal.returns-clause-not_too_long
+returns-clause-not_too_long c = not_too_long loading (small_machine 2) 0 10 _ both_loaded (lit≤ tt)
