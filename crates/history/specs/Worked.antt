@@ -1,9 +1,9 @@
--- Places of the worked histories, and the small memory in which they lie.
+-- Places, machines and memories of the worked histories.
 use Rattle.std.specs.Prelude.{ℕ, Option, List, replicate}
 use Rattle.llsc_base.specs.Sizes.{Numbers}
 use Rattle.llsc_base.specs.declared.access.Place.{Place}
 use Rattle.llsc_base.specs.declared.access.Size.TheVariants.{B1, B2, B4, B8}
-use Rattle.history.specs.Monitor.{Monitor, at_rest, marked_row, monitor_after}
+use Rattle.history.specs.Monitor.{Monitor, at_rest, at_rest_by, marked_row, monitor_after}
 use Rattle.history.specs.declared.entry.Entry.{Entry}
 
 -- the word that is loaded and stored exclusively
@@ -26,9 +26,21 @@ next_row = record { addr = 16; size = B8 }
 abbrev pub small_machine : ℕ → Numbers
 small_machine classes = record { mem = 65536; threads = 2; classes = classes; limit = 1; granule = 0 }
 
+-- the same machine with rows of 16 bytes
+abbrev pub wide_machine : ℕ → Numbers
+wide_machine classes = record (small_machine classes) { granule = 1 }
+
+-- a word in the cell before that of the first word: in the same row where rows have 16 bytes
+abbrev pub cell_before : Place
+cell_before = record { addr = 0; size = B4 }
+
 -- the memory of the worked accesses: 32 bytes that are 0, and two threads, none of them marked
 abbrev pub small_memory : Monitor
 small_memory = at_rest (replicate 32 0) 2
+
+-- the same memory with rows of 16 bytes
+abbrev pub wide_memory : Monitor
+wide_memory = at_rest_by 1 (replicate 32 0) 2
 
 -- the row on which a thread is marked after accesses to it
 abbrev pub mark_after_these : List Entry → ℕ → Option ℕ

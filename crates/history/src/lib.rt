@@ -16,6 +16,7 @@ pub mod worked_accesses;
 pub mod worked_classes;
 pub mod worked_marks;
 pub mod worked_operations;
+pub mod worked_rows;
 
 pub use entry::{Access, Cause, Deed, Entry};
 pub use plain::PlainMemory;
