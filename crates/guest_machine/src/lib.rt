@@ -3,7 +3,8 @@
 //! [`solo`] runs a program's one thread on a memory of its own; `specs/Alone.antt` says what its end is. [`trace`] gives
 //! the accesses of a run of all threads as a record, and how each thread ended; `specs/Turns.antt` says whose turn it is
 //! and what a turn does. [`laws`] has that there is one end of a thread alone, and one trace at most for a program, a
-//! machine, a number and a budget.
+//! machine, a number and a budget, and that one thread's trace ends as the thread alone; [`worked`] and [`worked_alone`]
+//! have small cases.
 #![tactic(auto)]
 
 mod alone;

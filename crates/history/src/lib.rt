@@ -5,7 +5,8 @@
 //! store-exclusive failed. `specs/` has one definition a file, to be read beside the manual; `specs/Standing.antt` and
 //! `specs/Follow.antt` have the same entry by entry, for proofs, and [`laws`] ties the two.
 //!
-//! [`PlainMemory`] keeps memory and the monitors on one host thread: each of its calls is one access.
+//! [`PlainMemory`] keeps memory and the monitors on one host thread: each of its calls is one access. The `worked` modules
+//! have small cases of each definition, what holds and what doesn't, as laws.
 #![tactic(auto)]
 
 mod entry;

@@ -16,6 +16,9 @@ use std::alloc::Global;
 /// The most bytes of a program file.
 pub const MOST_BYTES: usize = 33_554_432;
 
+/// The number of the least granule, by which a row has eight bytes.
+pub const LEAST_GRANULE: u64 = 0;
+
 /// The classes of rows of a machine.
 const CLASSES: u64 = 4096;
 

@@ -2,7 +2,7 @@
 //!
 //! [`check_record`] runs the threads again, and compares what they ask with the record and memory with its values;
 //! `specs/Verdict.antt` says which access is wrong, and why. [`laws`] has that accesses have one verdict at most, and that a
-//! good record is what Arm allows.
+//! good record is what Arm allows; [`worked`] and [`worked_verdicts`] have small cases.
 #![tactic(auto)]
 
 mod asked;

@@ -17,9 +17,10 @@ mod traces;
 mod whole_calls;
 mod words;
 
-/// A program that leaves with code 0 in three steps, and its report.
+/// A program that leaves with code 0 in three steps.
 const LEAVE: &[u32] = &[0xe3a0_0000, 0xe3a0_7001, 0xef00_0000];
 
+/// The report of that program.
 const LEFT: &str = "thread 0 stop exit 0 steps 3 out 0\n\nreads 0 writes 0 fails 0\n";
 
 /// The same program as an ELF file.

@@ -8,7 +8,7 @@ ghost use Rattle.llsc_cli.specs.Answer.{AnswersDis};
 ghost use Rattle.llsc_cli.specs.Reads.{CallEnds, Gives};
 
 use crate::ended::{Ended, out_of_memory};
-use crate::files::load;
+use crate::files::{LEAST_GRANULE, load};
 use crate::formats::Format;
 use crate::host::{Failed, Host};
 use crate::pages::Page;
@@ -158,7 +158,7 @@ pub fn answer<H: Host>(alloc: Global, host: &mut H, file: &str, format: Format, 
     ensures write_answered { result.status ≢ 5 → H.write_faults host.new ≡ H.write_faults host.old }
     ensures read_answered { result.status ≢ 3 → result.status ≢ 5 → H.read_faults host.new ≡ H.read_faults host.old }
 {
-    match load(alloc, host, 1, mem, 0, file, format) {
+    match load(alloc, host, 1, mem, LEAST_GRANULE, file, format) {
         Ok(loaded) => show(alloc, host, &loaded.image, loaded.size.mem()),
         Err(ended) => ended,
     }

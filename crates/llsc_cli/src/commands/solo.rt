@@ -11,7 +11,7 @@ ghost use Rattle.llsc_cli.specs.Answer.{AnswersSolo};
 ghost use Rattle.llsc_cli.specs.Reads.{CallEnds};
 
 use crate::ended::{Ended, out_of_memory, status};
-use crate::files::load;
+use crate::files::{LEAST_GRANULE, load};
 use crate::formats::Format;
 use crate::host::Host;
 use crate::report::write_report;
@@ -67,7 +67,7 @@ pub fn answer<H: Host>(
     ensures write_answered { result.status ≢ 5 → H.write_faults host.new ≡ H.write_faults host.old }
     ensures read_answered { result.status ≢ 3 → result.status ≢ 5 → H.read_faults host.new ≡ H.read_faults host.old }
 {
-    match load(alloc, host, 1, mem, 0, file, format) {
+    match load(alloc, host, 1, mem, LEAST_GRANULE, file, format) {
         Ok(loaded) => run(alloc, host, &loaded.size, budget, &loaded.image),
         Err(ended) => ended,
     }

@@ -2,6 +2,7 @@
 use super::*;
 use crate::printing::print_record;
 
+/// A record without accesses, whose other numbers are the most.
 const NO_ACCESS: &str = "llsc-run 1 threads 16 budget 1000000000000 accesses 0\n";
 
 /// A word loaded, and stored by both threads, of which one fails; and an access of each other kind.
@@ -23,6 +24,7 @@ const WIDE_ROWS: &str = "llsc-run 2 threads 1 granule 1 budget 10000 accesses 2\
 /// The longest header line.
 const WIDEST_ROWS: &str = "llsc-run 2 threads 16 granule 8 budget 1000000000000 accesses 0\n";
 
+/// Texts, each with its fault.
 const FAULTS: [(&str, RecordFault); 48] = [
     ("", RecordFault::Header),
     (

@@ -3,9 +3,10 @@ use super::runs::{EXCLUSIVES, UNMARKED};
 use super::traces::{BESIDE, DISTURBED, EACH, TURNS};
 use super::*;
 
-/// The lines of the one run of the exclusives.
+/// The first line of the one run of the exclusives.
 const FIRST: &str = "0 loadex 4 00002000 0000000000000000\n";
 
+/// Its second and last line.
 const SECOND: &str = "0 storeex 4 00002000 0000000000000007\n";
 
 /// A call over a host whose file `p` holds a program and `r` a record's text.
@@ -86,42 +87,46 @@ fn judges_other_programs(rt: HostRuntime) -> Result<(), Fail> {
     Ok(())
 }
 
+/// The first line of a record, up to the number of its accesses.
+const HEADER: &str = "llsc-run 1 threads 1 budget 10000 accesses";
+
+/// Records that are refused, where `{header}` stands for that line.
+const REFUSED: &[(&str, &str, &str)] = &[
+    // a record's faults come before the size and before the program's
+    ("check --mem 1 p r", "", "llsc: Header\n"),
+    ("check --mem 1 p r", "{header} 1000001\n", "llsc: TooLong\n"),
+    (
+        "check --mem 1 p r",
+        "{header} 2\n0 clear\n",
+        "llsc: Line 3\n",
+    ),
+    ("check p r", "{header} 1\n1 clear\n", "llsc: Thread 2\n"),
+    // then the size, with the record's threads, and then the program
+    ("check --mem 1 p r", "{header} 0\n", "llsc: Mem\n"),
+    ("check p r", "{header} 0\n", "llsc: Short\n"),
+    (
+        "check --flat --mem 65536 p r",
+        "llsc-run 1 threads 16 budget 1 accesses 0\n",
+        "llsc: TooLong\n",
+    ),
+    (
+        "check --flat p r",
+        "llsc-run 1 threads 17 budget 1 accesses 0\n",
+        "llsc: Header\n",
+    ),
+    (
+        "check --flat p r",
+        "llsc-run 2 threads 1 granule 0 budget 1 accesses 0\n",
+        "llsc: Header\n",
+    ),
+];
+
 #[test]
 fn refuses_records(rt: HostRuntime) -> Result<(), Fail> {
-    let header = "llsc-run 1 threads 1 budget 10000 accesses";
-    let cases: [(&str, &str, &str); 9] = [
-        // a record's faults come before the size and before the program's
-        ("check --mem 1 p r", "", "llsc: Header\n"),
-        ("check --mem 1 p r", "{header} 1000001\n", "llsc: TooLong\n"),
-        (
-            "check --mem 1 p r",
-            "{header} 2\n0 clear\n",
-            "llsc: Line 3\n",
-        ),
-        ("check p r", "{header} 1\n1 clear\n", "llsc: Thread 2\n"),
-        // then the size, with the record's threads, and then the program
-        ("check --mem 1 p r", "{header} 0\n", "llsc: Mem\n"),
-        ("check p r", "{header} 0\n", "llsc: Short\n"),
-        (
-            "check --flat --mem 65536 p r",
-            "llsc-run 1 threads 16 budget 1 accesses 0\n",
-            "llsc: TooLong\n",
-        ),
-        (
-            "check --flat p r",
-            "llsc-run 1 threads 17 budget 1 accesses 0\n",
-            "llsc: Header\n",
-        ),
-        (
-            "check --flat p r",
-            "llsc-run 2 threads 1 granule 0 budget 1 accesses 0\n",
-            "llsc: Header\n",
-        ),
-    ];
-    for (words, recorded, text) in cases {
+    for (words, recorded, text) in REFUSED {
         let program = bytes_of(rt.alloc(), LEAVE)?;
         let recorded = match recorded.strip_prefix("{header}") {
-            Some(rest) => format!(in rt.alloc(); "{header}{rest}")?,
+            Some(rest) => format!(in rt.alloc(); "{}{rest}", HEADER)?,
             None => String::from_str(rt.alloc(), recorded)?,
         };
         let (status, host) = checked(rt.alloc(), words, program, recorded.as_str(), &[])?;

@@ -1,4 +1,5 @@
-//! Each mnemonic, with each flag and condition that it may have, as the GNU assembler encodes it: read and shown.
+//! Each mnemonic with each flag that it may have, and each condition with one of them, as the GNU assembler encodes
+//! it: read and shown.
 use super::*;
 
 /// Words from 0x1000 up, and their texts.

@@ -11,6 +11,7 @@ use llsc_base::{FlatFault, SizeFault};
 use run_checker::Reason;
 use run_record::RecordFault;
 
+/// The faults of an ELF file.
 const ELF: &[(ElfFault, &str)] = &[
     (ElfFault::Short, "Short"),
     (ElfFault::Magic, "Magic"),
@@ -30,6 +31,7 @@ const ELF: &[(ElfFault, &str)] = &[
     (ElfFault::Memory, "Memory"),
 ];
 
+/// The faults of a file of words alone.
 const FLAT: &[(FlatFault, &str)] = &[
     (FlatFault::Elf, "Elf"),
     (FlatFault::Length, "Length"),
@@ -37,13 +39,16 @@ const FLAT: &[(FlatFault, &str)] = &[
     (FlatFault::Memory, "Memory"),
 ];
 
+/// The faults of a machine's numbers.
 const SIZES: &[(SizeFault, &str)] = &[
     (SizeFault::Mem, "Mem"),
     (SizeFault::Threads, "Threads"),
     (SizeFault::Classes, "Classes"),
     (SizeFault::Limit, "Limit"),
+    (SizeFault::Granule, "Granule"),
 ];
 
+/// The faults of a text to assemble.
 const KINDS: &[(AsmKind, &str)] = &[
     (AsmKind::Syntax, "Syntax"),
     (AsmKind::Mnemonic, "Mnemonic"),
@@ -55,6 +60,7 @@ const KINDS: &[(AsmKind, &str)] = &[
     (AsmKind::Memory, "Memory"),
 ];
 
+/// The faults of a record's text.
 const RECORDS: &[(RecordFault, &str)] = &[
     (RecordFault::Header, "Header"),
     (RecordFault::TooLong, "TooLong"),
@@ -63,6 +69,7 @@ const RECORDS: &[(RecordFault, &str)] = &[
     (RecordFault::Memory, "Memory"),
 ];
 
+/// What a record can have against it.
 const REASONS: &[(Reason, &str)] = &[
     (Reason::AfterStop, "AfterStop"),
     (Reason::NotAsked, "NotAsked"),
@@ -71,6 +78,7 @@ const REASONS: &[(Reason, &str)] = &[
     (Reason::Unfinished, "Unfinished"),
 ];
 
+/// The faults of a read.
 const READS: &[(ReadFault, &str)] = &[
     (ReadFault::Failed, "Failed"),
     (ReadFault::FileTooLong, "FileTooLong"),
