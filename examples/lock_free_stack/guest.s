@@ -55,7 +55,7 @@ wait:   ldr r1, [r8, #16]
 
 @ Pushes the node at r0.
 push:   ldrex r1, [r8]
-        str r1, [r0]            @ it stands on the top; this row isn't the one that is reserved
+        str r1, [r0]            @ it stands on the top; it isn't in the row that is reserved, up to rows of 64 bytes
         strex r2, r0, [r8]
         cmp r2, #0
         bne push

@@ -44,7 +44,8 @@ abbrev pub IsJudged : Program → Numbers → RunRecord → ℕ → List ℕ →
 IsJudged program size run status text =
     (verdict : Verdict) × (Judges program size run.budget run.accesses verdict × ((status ≡ verdict_status verdict) × (text ≡ verdict_text verdict)))
 
--- a record is judged on a machine of its threads and its granule, unless there is no such machine or the program has a fault there
+-- a record is judged on a machine of its threads and its granule, unless there is no such machine or the program has a
+-- fault there
 abbrev pub JudgesRun : Format → ℕ → List ℕ → RunRecord → ℕ → List ℕ → Type 0
 JudgesRun format mem file run status text =
     let size = machine_of run.threads mem run.granule in
