@@ -13,3 +13,4 @@ pub mod UnderWay
 pub mod TracedAlone
 pub mod SmallRuns
 pub mod SmallTraces
+pub mod SmallLoop

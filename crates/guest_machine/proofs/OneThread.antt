@@ -10,7 +10,7 @@ use Rattle.guest_machine.specs.Turns.{drawn, turn_of, without, Takes, begins, ma
 abbrev pub IsAlone : List ℕ → Type 0
 IsAlone live = (live ≡ 0 ∷ []) ⊎ (live ≡ [])
 
-only : (x : ℕ) → turn_of x (0 ∷ []) ≡ Some 0
+pub only : (x : ℕ) → turn_of x (0 ∷ []) ≡ Some 0
 only x = ap (λ k. slice_get (0 ∷ []) k) (let first : x / 2 ^ 33 % 1 ≡ 0 = omega arith in first)
 
 some_same : (t other : ℕ) → Some t ≡ Some other → t ≡ other

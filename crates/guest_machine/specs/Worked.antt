@@ -28,6 +28,10 @@ leaving = small_program 8 (0x01 ∷ 0x70 ∷ 0xA0 ∷ 0xE3 ∷ 0x00 ∷ 0x00 ∷
 abbrev pub loading : Program
 loading = small_program 12 (0x00 ∷ 0x20 ∷ 0x94 ∷ 0xE5 ∷ 0x01 ∷ 0x70 ∷ 0xA0 ∷ 0xE3 ∷ 0x00 ∷ 0x00 ∷ 0x00 ∷ 0xEF ∷ [])
 
+-- ldr r2, [r4] and a branch back to it: a thread loads that word until its steps are spent
+abbrev pub looping : Program
+looping = small_program 8 (0x00 ∷ 0x20 ∷ 0x94 ∷ 0xE5 ∷ 0xFD ∷ 0xFF ∷ 0xFF ∷ 0xEA ∷ [])
+
 -- a machine of so many threads, whose rows have eight bytes
 abbrev pub small_machine : ℕ → Numbers
 small_machine threads = numbers 65536 threads 1 1

@@ -1,8 +1,10 @@
 //! Worked turns and traces of small programs, computed by the definitions.
-ghost use Rattle.std.specs.Prelude.{◌≡◌, ◌∷◌, [], None, Some};
-ghost use Rattle.guest_machine.specs.Traces.{IsLegalTrace, IsTraceRecord};
+ghost use Rattle.std.specs.Prelude.{◌≡◌, ◌∷◌, [], None, Some, codes};
+ghost use Rattle.guest_machine.specs.Traces.{IsLegalTrace, IsTraceRecord, trace_fault_name};
 ghost use Rattle.guest_machine.specs.Turns.{drawn, turn_of, without, IsTooLong, IsTrace, Takes};
-ghost use Rattle.guest_machine.specs.Worked.{leaving, load_by, loading, small_machine, small_record};
+ghost use Rattle.guest_machine.specs.Worked.{leaving, load_by, loading, looping, small_machine, small_record};
+
+use crate::traces::TraceFault;
 
 /// The numbers that are drawn from 0, and the one from the greatest, which wraps at 2 to the 64.
 pub fn drawn_numbers()
@@ -47,6 +49,13 @@ pub fn traces_of_small_programs()
     ensures not_too_long { ¬ IsTooLong loading (small_machine 2) 0 10 }
 {}
 
+/// A thread that makes a load in every second step has a trace that is too long from the budget on that lets it make one more
+/// than a million of them.
+pub fn traces_that_are_too_long()
+    ensures one_more { IsTooLong looping (small_machine 1) 0 2000001 }
+    ensures a_million { ¬ IsTooLong looping (small_machine 1) 0 2000000 }
+{}
+
 /// The record of a trace has its accesses, and the threads, the granule and the budget of the run.
 pub fn records_of_traces()
     ensures empty { IsTraceRecord leaving (small_machine 1) 0 10 (small_record 1 []) }
@@ -54,6 +63,7 @@ pub fn records_of_traces()
     ensures more_threads { ¬ IsTraceRecord leaving (small_machine 2) 0 10 (small_record 1 []) }
     ensures wider_rows { ¬ IsTraceRecord leaving (record (small_machine 1) { granule = 1 }) 0 10 (small_record 1 []) }
     ensures another_budget { ¬ IsTraceRecord leaving (small_machine 1) 0 11 (small_record 1 []) }
+    ensures no_budget { ¬ IsTraceRecord leaving (small_machine 1) 0 0 (record (small_record 1 []) { budget = 0 }) }
     ensures invented { ¬ IsTraceRecord leaving (small_machine 1) 0 10 (small_record 1 (load_by 0 0 ∷ [])) }
 {}
 
@@ -62,4 +72,10 @@ pub fn legal_traces()
     ensures loads { IsLegalTrace loading (small_machine 2) (load_by 1 0xE5942000 ∷ load_by 0 0xE5942000 ∷ []) }
     ensures another_value { ¬ IsLegalTrace loading (small_machine 2) (load_by 1 0 ∷ []) }
     ensures no_thread { ¬ IsLegalTrace loading (small_machine 1) (load_by 1 0xE5942000 ∷ []) }
+{}
+
+/// Each fault has its variant's name.
+pub fn names_of_faults()
+    ensures too_long { trace_fault_name TraceFault.TooLong ≡ codes "TooLong" }
+    ensures memory { trace_fault_name TraceFault.Memory ≡ codes "Memory" }
 {}

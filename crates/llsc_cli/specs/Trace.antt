@@ -40,7 +40,8 @@ Traces program size seed budget status text =
     IsRecorded program size seed budget status text
     ⊎ (IsTooLong program size seed budget × ((status ≡ 4) × (text ≡ refusal_text (codes "TooLong"))))
 
--- the status and the text for a format, so many threads, so much memory, a seed, a budget and the bytes of the file
+-- the status and the text for a format, so many threads, so much memory, a granule, a seed, a budget and the bytes of the
+-- file
 abbrev pub AnswersTrace : Format → (threads mem granule seed budget : ℕ) → List ℕ → ℕ → List ℕ → Type 0
 AnswersTrace format threads mem granule seed budget file status text =
     let size = machine_of threads mem granule in

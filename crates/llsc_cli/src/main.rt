@@ -19,6 +19,7 @@ mod programs;
 mod real_host;
 mod report;
 mod words;
+pub mod worked;
 
 use crate::call::llsc;
 use crate::real_host::RealHost;

@@ -8,3 +8,4 @@ pub mod Judging
 pub mod SmallRuns
 pub mod SmallVerdicts
 pub mod SmallJudgements
+pub mod SmallTaking

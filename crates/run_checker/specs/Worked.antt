@@ -29,6 +29,12 @@ loading = small_program (0x00 ∷ 0x20 ∷ 0x94 ∷ 0xE5 ∷ 0x01 ∷ 0x70 ∷ 0
 abbrev pub storing : Program
 storing = small_program (0x91 ∷ 0x2F ∷ 0x84 ∷ 0xE1 ∷ 0x01 ∷ 0x70 ∷ 0xA0 ∷ 0xE3 ∷ 0x00 ∷ 0x00 ∷ 0x00 ∷ 0xEF ∷ [])
 
+-- ldrex r2, [r4], strex r3, r1, [r4] and ldr r5, [r4] before these: it loads the word exclusively, stores the number of threads
+-- there exclusively, and loads the word again before it leaves
+abbrev pub taking : Program
+taking = small_program (0x9F ∷ 0x2F ∷ 0x94 ∷ 0xE1 ∷ 0x91 ∷ 0x3F ∷ 0x84 ∷ 0xE1 ∷ 0x00 ∷ 0x50 ∷ 0x94 ∷ 0xE5
+    ∷ 0x01 ∷ 0x70 ∷ 0xA0 ∷ 0xE3 ∷ 0x00 ∷ 0x00 ∷ 0x00 ∷ 0xEF ∷ [])
+
 -- a machine of one thread, whose rows have eight bytes
 abbrev pub small_machine : Numbers
 small_machine = numbers 65536 1 1 1

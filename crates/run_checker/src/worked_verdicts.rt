@@ -1,7 +1,7 @@
 //! Worked verdicts on accesses of small programs, computed by the definitions.
-ghost use Rattle.std.specs.Prelude.{◌≡◌, ◌∷◌, []};
-ghost use Rattle.run_checker.specs.Verdict.{AreRight, IsRight, IsWrong, Judges};
-ghost use Rattle.run_checker.specs.Worked.{access_as, leaving, loading, small_machine, storing, word};
+ghost use Rattle.std.specs.Prelude.{◌≡◌, ◌∷◌, [], codes};
+ghost use Rattle.run_checker.specs.Verdict.{AreRight, IsRight, IsWrong, Judges, reason_name};
+ghost use Rattle.run_checker.specs.Worked.{access_as, leaving, loading, small_machine, storing, taking, word};
 
 use crate::verdicts::{Reason, Verdict};
 use history::Deed;
@@ -44,11 +44,23 @@ pub fn lists_of_right_accesses()
     ensures last_wrong { ¬ AreRight loading small_machine 10 (access_as Deed.Load word 0 ∷ access_as Deed.Load word 0 ∷ []) }
 {}
 
+/// The accesses before count: a store-exclusive may store behind a load-exclusive, and fail there too, and a load has what was
+/// stored before it, and not what failed.
+pub fn accesses_behind_others()
+    ensures taken { IsRight taking small_machine 10 (access_as Deed.LoadEx word 0 ∷ []) (access_as Deed.StoreEx word 1) }
+    ensures not_taken { IsRight taking small_machine 10 (access_as Deed.LoadEx word 0 ∷ []) (access_as Deed.StoreFail word 1) }
+    ensures stored { IsRight taking small_machine 10 (access_as Deed.LoadEx word 0 ∷ access_as Deed.StoreEx word 1 ∷ []) (access_as Deed.Load word 1) }
+    ensures stale { IsWrong taking small_machine 10 (access_as Deed.LoadEx word 0 ∷ access_as Deed.StoreEx word 1 ∷ []) (access_as Deed.Load word 0) Reason.WrongValue }
+    ensures kept { IsRight taking small_machine 10 (access_as Deed.LoadEx word 0 ∷ access_as Deed.StoreFail word 1 ∷ []) (access_as Deed.Load word 0) }
+    ensures failed { IsWrong taking small_machine 10 (access_as Deed.LoadEx word 0 ∷ access_as Deed.StoreFail word 1 ∷ []) (access_as Deed.Load word 1) Reason.WrongValue }
+{}
+
 /// The verdict is good where the accesses are right and each thread has ended, and bad at the first that is wrong or behind
 /// them all.
 pub fn verdicts_on_accesses()
     ensures none { Judges leaving small_machine 10 [] Verdict.Good }
     ensures load { Judges loading small_machine 10 (access_as Deed.Load word 0 ∷ []) Verdict.Good }
+    ensures all { Judges taking small_machine 10 (access_as Deed.LoadEx word 0 ∷ access_as Deed.StoreEx word 1 ∷ access_as Deed.Load word 1 ∷ []) Verdict.Good }
     ensures first { Judges loading small_machine 10 (access_as Deed.Load word 5 ∷ []) (Verdict.Bad 0 Reason.WrongValue) }
     ensures second { Judges loading small_machine 10 (access_as Deed.Load word 0 ∷ access_as Deed.Load word 0 ∷ []) (Verdict.Bad 1 Reason.AfterStop) }
     ensures unfinished { Judges loading small_machine 10 [] (Verdict.Bad 0 Reason.Unfinished) }
@@ -61,4 +73,13 @@ pub fn verdicts_that_are_not_theirs()
     ensures wrong_good { ¬ Judges loading small_machine 10 (access_as Deed.Load word 5 ∷ []) Verdict.Good }
     ensures another_index { ¬ Judges loading small_machine 10 (access_as Deed.Load word 5 ∷ []) (Verdict.Bad 1 Reason.WrongValue) }
     ensures another_reason { ¬ Judges loading small_machine 10 (access_as Deed.Load word 5 ∷ []) (Verdict.Bad 0 Reason.NotAsked) }
+{}
+
+/// Each reason has its variant's name.
+pub fn names_of_reasons()
+    ensures after_stop { reason_name Reason.AfterStop ≡ codes "AfterStop" }
+    ensures not_asked { reason_name Reason.NotAsked ≡ codes "NotAsked" }
+    ensures wrong_value { reason_name Reason.WrongValue ≡ codes "WrongValue" }
+    ensures no_reservation { reason_name Reason.NoReservation ≡ codes "NoReservation" }
+    ensures unfinished { reason_name Reason.Unfinished ≡ codes "Unfinished" }
 {}

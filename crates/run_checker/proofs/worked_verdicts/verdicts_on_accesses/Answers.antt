@@ -1,4 +1,5 @@
 use Rattle.run_checker.proofs.SmallJudgements.{bad_at_once, bad_later, good_at_once, good_load, still_asks}
+use Rattle.run_checker.proofs.SmallTaking.{all_good}
 use Rattle.run_checker.proofs.worked_verdicts.verdicts_on_accesses.Goals as goal
 
 pub returns-clause-none : goal.returns-clause-none
@@ -6,6 +7,9 @@ returns-clause-none c = good_at_once
 
 pub returns-clause-load : goal.returns-clause-load
 returns-clause-load c = good_load
+
+pub returns-clause-all : goal.returns-clause-all
+returns-clause-all c = all_good
 
 pub returns-clause-first : goal.returns-clause-first
 returns-clause-first c = bad_at_once
