@@ -2,5 +2,5 @@ pub mod Turns
 pub mod Seats
 pub mod Traces
 pub mod Alone
-pub mod Working
+pub mod Served
 pub mod Worked

@@ -1,63 +1,41 @@
 //! A run of one thread.
-ghost use Rattle.std.specs.Prelude.{◌≡◌, ◌<◌, ◌≤◌, ℕ, List, IfNone, IfOk, MatchOption, length};
+ghost use Rattle.std.specs.Prelude.{◌≡◌, ◌≤◌, ℕ, IfOk, length};
 ghost use Rattle.llsc_base.specs.Limits.{most_budget};
-ghost use Rattle.a32_step.specs.Machine.{Machine};
-ghost use Rattle.guest_thread.specs.Progress.{progress_of};
 ghost use Rattle.guest_machine.specs.Alone.{IsSoloEnd};
-ghost use Rattle.guest_machine.specs.Working.{IsOver, IsUnderWay, IsWorking};
 
 use crate::serving::serve;
-use a32_step::Stop;
+use a32_step::Ask;
 use guest_calls::reply_of;
-use guest_thread::{Counts, Guest, GuestEnd, Turn};
+use guest_thread::{Counts, Guest, GuestEnd, Port};
 use history::PlainMemory;
 use llsc_base::{Image, MachineSize};
 use std::alloc::{AllocError, Global};
 
-/// A thread, the memory that it has to itself, and how many accesses of each kind it made.
+/// The memory that a thread has to itself, and how many accesses of each kind it made.
 #[derive(Drop)]
 pub(crate) struct Alone {
-    guest: Guest,
     memory: PlainMemory,
     counts: Counts,
+    ghost one: { length memory.marks ≡ 1 },
 }
 
-impl Alone {
-    /// Up to the thread's next access, which is made and replied to, or its stop.
-    #[inline]
-    fn turn(&mut self, image: &Image, budget: u64) -> Option<Stop>
-        requires working { IsWorking image.now budget self.old }
-        requires small { length image.now.bytes ≤ 16777216 }
-        requires budget { budget ≤ most_budget }
-        ensures goes_on { IfNone result (IsWorking image.now budget self.new) }
-        ensures later { IfNone result (progress_of self.old.guest < progress_of self.new.guest) }
-        ensures under_way { (start : Machine) (granule : ℕ) (bytes : List ℕ) → IsUnderWay image.now budget start granule bytes self.old
-            → MatchOption result (IsUnderWay image.now budget start granule bytes self.new) (λ stop. IsOver image.now budget start granule bytes stop self.new) }
-    {
-        match self.guest.next(image, budget) {
-            Turn::Asks(ask) => {
-                let access = serve(&mut self.memory, 0, ask);
-                self.counts.count(&access);
-                self.guest.give(reply_of(&access));
-                None
-            }
-            Turn::Ended(stop) => Some(stop),
-        }
-    }
+impl Port for Alone {
+    ghost use Rattle.guest_thread.specs.Counting.{accesses_counted};
+    ghost use Rattle.guest_machine.specs.Served.{IsServed};
 
-    /// All turns, up to the thread's stop.
-    fn run(&mut self, image: &Image, budget: u64) -> Stop
-        requires working { IsWorking image.now budget self.old }
-        requires small { length image.now.bytes ≤ 16777216 }
-        requires budget { budget ≤ most_budget }
-        ensures { (start : Machine) (granule : ℕ) (bytes : List ℕ) → IsUnderWay image.now budget start granule bytes self.old
-            → IsOver image.now budget start granule bytes result self.new }
-    {
-        loop {
-            if let Some(stop) = self.turn(image, budget) {
-                return stop;
-            }
-        }
+    ghost replies = { λ old ask reply new. IsServed old ask reply new };
+
+    ghost mem = { λ alone. length alone.memory.memory };
+
+    ghost counted = { λ alone. accesses_counted alone.counts };
+
+    ghost refuses = { λ alone addr. ⊥ };
+
+    #[inline(always)]
+    fn reply(&mut self, ask: Ask) -> Option<u64> {
+        let access = serve(&mut self.memory, 0, ask);
+        self.counts.count(&access);
+        Some(reply_of(&access))
     }
 }
 
@@ -82,20 +60,20 @@ pub fn solo(
 {
     let mem = size.mem();
     prove!(mem <= 16_777_216);
+    let mut guest = Guest::start(alloc, image, size, 0)?;
     let mut alone = Alone {
-        guest: Guest::start(alloc, image, size, 0)?,
         memory: PlainMemory::sized(alloc, image.bytes(), size)?,
         counts: Counts::none(),
     };
-    let stop = alone.run(image, budget);
+    let stop = guest.run(image, budget, &mut alone);
     Ok(GuestEnd {
         thread: 0,
         stop,
-        steps: alone.guest.steps(),
+        steps: guest.steps(),
         reads: alone.counts.reads,
         writes: alone.counts.writes,
         fails: alone.counts.fails,
-        out: alone.guest.into_output(),
+        out: guest.into_output(),
     })
 }
 

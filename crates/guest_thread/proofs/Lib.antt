@@ -3,6 +3,8 @@ pub mod Effects
 pub mod Loops
 pub mod Printed
 pub mod Reached
+pub mod Refusing
+pub mod Leading
 pub mod Tested
 pub mod Kept
 pub mod Pushed

@@ -5,6 +5,7 @@ pub mod End
 pub mod Ended
 pub mod Ends
 pub mod Outcome
+pub mod Ports
 pub mod Progress
 pub mod ThreadState
 pub mod Start

@@ -1,17 +1,19 @@
 //! One guest thread, whoever replies to its accesses.
 //!
 //! A [`Guest`] begins by [`Guest::start`] and goes on by [`Guest::next`] until it asks for an access or has ended; the
-//! caller replies by [`Guest::give`]. Instructions, guest calls and the loads of a write's bytes are all within it; what it
-//! asks, and how it ends, is the run of the thread (`guest_calls`, `specs/Run`); every reply takes it further, so that it
-//! comes to an end within its budget (`specs/Progress`). A [`GuestEnd`] is how a thread ended. [`Counts`] are a thread's
-//! accesses, and [`tried_by`] says which access a thread tries by what it asks. [`laws`] has that no thread ends by itself
-//! for what only memory can want, and that a history has one outcome; [`worked`] and [`worked_ends`] have small cases.
+//! caller replies by [`Guest::give`]. Instructions, guest calls and the loads of a write's bytes are all within it;
+//! what it asks, and how it ends, is the run of the thread (`guest_calls`, `specs/Run`); every reply takes it further,
+//! so that it comes to an end within its budget (`specs/Progress`). By [`Guest::run`] a [`Port`] replies, up to the
+//! end. A [`GuestEnd`] is how a thread ended. [`Counts`] are a thread's accesses, and [`tried_by`] says which access a
+//! thread tries by what it asks. [`laws`] has that no thread ends by itself for what only memory can want, and that a
+//! history has one outcome; [`worked`] and [`worked_ends`] have small cases.
 #![tactic(auto)]
 
 mod counts;
 mod ends;
 mod guests;
 pub mod laws;
+mod ports;
 mod tries;
 pub mod worked;
 pub mod worked_ends;
@@ -19,4 +21,5 @@ pub mod worked_ends;
 pub use counts::{Counts, counts_of};
 pub use ends::GuestEnd;
 pub use guests::{Guest, Turn};
+pub use ports::Port;
 pub use tries::tried_by;
