@@ -110,7 +110,8 @@ fn verdict(
         text.push_str(line)?;
     }
     let run = read_record(alloc, text.as_bytes())?;
-    let size = MachineSize::new(65_536, u64::from(run.threads), 1, 1)?;
+    let (threads, granule) = (u64::from(run.threads), u64::from(run.granule));
+    let size = MachineSize::new(65_536, threads, 1, 1)?.with_granule(granule)?;
     let mut bytes = Vec::new(alloc);
     for word in words {
         bytes.extend_from_slice(&word.to_le_bytes())?;
