@@ -1,5 +1,6 @@
 pub mod Limits
 pub mod Memory
 pub mod Sizes
+pub mod Hulls
 pub mod Images
 pub mod Flat

@@ -12,7 +12,7 @@ pub enum Size {
 
 impl Size {
     /// The number of bytes: 1, 2, 4 or 8.
-    #[inline]
+    #[inline(always)]
     pub fn bytes(self) -> u32
         ensures { result ≡ size_bytes self }
     {
@@ -34,7 +34,7 @@ pub struct Place {
 
 impl Place {
     /// Whether the address is a multiple of the size.
-    #[inline]
+    #[inline(always)]
     pub fn is_aligned(self) -> bool
         ensures { result ≡ is_aligned self }
     {

@@ -2,6 +2,7 @@ ghost use Rattle.std.specs.Prelude.{◌≡◌, ◌+◌, ◌*◌, ◌-◌, ◌%�
 ghost use Rattle.llsc_base.specs.Images.{IsProgram, Program, bar_of, first_barred, holds_word, program_of, serves, touches_read_only, word_at};
 
 use crate::access::{Bar, BarredWord, Place, Size};
+use crate::hulls::Hull;
 use crate::memory::load_4;
 use std::marker::Model;
 
@@ -22,16 +23,20 @@ pub struct Image {
     bytes: Vec<u8>,
     spans: Vec<Span>,
     entry: u32,
+    hull: Hull,
 }
 
 impl Model for Image {
+    ghost use Rattle.std.specs.Prelude.{◌≡◌};
+    ghost use Rattle.llsc_base.specs.Hulls.{hull_of};
     ghost use Rattle.llsc_base.specs.Images.{Program, IsProgram};
 
     ghost Value = { Program };
 
     ghost view = { λ i. record { bytes = i.bytes.items; spans = i.spans.items; entry = i.entry } };
 
-    ghost invariant = { λ i. IsProgram (record { bytes = i.bytes.items; spans = i.spans.items; entry = i.entry }) };
+    ghost invariant = { λ i. IsProgram (record { bytes = i.bytes.items; spans = i.spans.items; entry = i.entry })
+        × (i.hull ≡ hull_of i.spans.items) };
 }
 
 impl Image {
@@ -44,10 +49,12 @@ impl Image {
         requires { IsProgram (program_of bytes.items spans.items entry) }
         ensures { result ≡ program_of bytes.items spans.items entry }
     {
+        let hull = Hull::of(&spans);
         Image {
             bytes,
             spans,
             entry,
+            hull,
         }
     }
 
@@ -111,7 +118,7 @@ impl Image {
     /// does. `Alignment` where the address is no multiple of the size, `Outside` where the place ends past
     /// memory, `ReadOnly` where `store` is set and a byte of it lies in a span that isn't written. `None`
     /// where nothing stands against it.
-    #[inline]
+    #[inline(always)]
     pub fn test(&self, place: Place, store: bool) -> Option<Bar>
         ensures { result ≡ bar_of self.now place store }
     {
@@ -122,10 +129,20 @@ impl Image {
         if end > self.bytes.len() {
             return Some(Bar::Outside);
         }
-        if store && touches_read_only(&self.spans, place.addr as usize, end) {
+        if store && self.is_read_only(place.addr as usize, end) {
             return Some(Bar::ReadOnly);
         }
         None
+    }
+
+    /// Whether some byte from one address up to another lies in a span that isn't written. The spans are walked only
+    /// where the hull of those is met.
+    #[inline(always)]
+    #[tactic(auto, using(crate::proofs::HullLaws::hull_apart))]
+    fn is_read_only(&self, from: usize, to: usize) -> bool
+        ensures { result ≡ touches_read_only self.now.spans from to }
+    {
+        self.hull.meets(from, to) && touches_read_only(&self.spans, from, to)
     }
 }
 
@@ -160,7 +177,7 @@ impl Image {
         if end as usize > self.bytes.len() {
             return false;
         }
-        !(store && touches_read_only(&self.spans, addr as usize, end as usize))
+        !(store && self.is_read_only(addr as usize, end as usize))
     }
 
     /// The first word that is barred, by the words one after another.
@@ -212,7 +229,8 @@ fn holder(spans: &[Span], addr: u32) -> Option<usize>
     spans.iter().position(|span| holds_word(span, addr))
 }
 
-/// Whether some byte from one address up to another lies in a span that isn't written.
+/// Whether some byte from one address up to another lies in a span that isn't written, by all spans.
+#[inline(never)]
 fn touches_read_only(spans: &[Span], from: usize, to: usize) -> bool
     ensures { result ≡ touches_read_only spans.now from to }
 {

@@ -8,6 +8,7 @@
 
 mod access;
 mod flat;
+mod hulls;
 mod images;
 pub mod laws;
 mod limits;

@@ -7,7 +7,7 @@ use Rattle.llsc_base.proofs.images.Image.fetch_near.Goals as goal
 pub load_4-requires : goal.load_4-requires
 load_4-requires c =
     let held : runs_at c.deref.result.now c.args.addr ≡ true = runs_at-serves c.deref.result.now c.args.near.now c.args.addr (sym c.is_held_at.ensures ∙ c.if-is_held_at.true) in
-    rw c.deref-then-is_held_at.ensures.value (runs_at-inside _ _ _ c.self.invariant.spans (rw c.deref.ensures.value at held))
+    rw c.deref-then-is_held_at.ensures.value (runs_at-inside _ _ _ c.self.invariant.0.spans (rw c.deref.ensures.value at held))
 
 pub returns-then-is_held_at-clause-word : goal.returns-then-is_held_at-clause-word
 returns-then-is_held_at-clause-word c =
@@ -24,7 +24,7 @@ returns-in_err-at-clause-word c =
 pub load_4-requires-2 : goal.load_4-requires-2
 load_4-requires-2 c =
     let held : runs_at c.deref-2.result.now c.args.addr ≡ true = runs_at-serves c.deref-2.result.now c.in_ok-at.at c.args.addr (serves-position c.deref-2.result.now c.args.addr c.in_ok-at.at c.in_ok-at.ensures) in
-    rw c.deref-3.ensures.value (runs_at-inside _ _ _ c.self.invariant.spans (rw c.deref-2.ensures.value at held))
+    rw c.deref-3.ensures.value (runs_at-inside _ _ _ c.self.invariant.0.spans (rw c.deref-2.ensures.value at held))
 
 pub returns-clause-word : goal.returns-clause-word
 returns-clause-word c =
