@@ -14,3 +14,4 @@ pub mod SmallHistories
 pub mod Classes
 pub mod Pushes
 pub mod Exclusives
+pub mod Unmarked

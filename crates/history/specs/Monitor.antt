@@ -1,5 +1,7 @@
 -- Memory and Arm's exclusive monitors after a list of accesses (DDI 0406C A3.4.1, A3.4.2).
 use Rattle.std.specs.Prelude.{◌≡◌, ℕ, ◌==◌, Bool, true, false, if◌then◌else◌, Option, Some, None, List, [], ◌∷◌, length, map, replicate, slice_index_or, slice_set}
+use Rattle.std.specs.List.{list_any}
+use Rattle.std.specs.Option.{is_some}
 use Rattle.llsc_base.specs.Memory.{row_of, stored}
 use Rattle.history.specs.declared.entry.Entry.{Entry}
 use Rattle.history.specs.declared.entry.Entry.TheVariants.{Read, Write, Fail, Clear}
@@ -28,6 +30,10 @@ pub record IsAsLarge (old new : Monitor) : Type 0 where
 -- the row on which a thread is marked, if it is
 abbrev pub marked_row : Monitor → ℕ → Option ℕ
 marked_row monitor thread = slice_index_or monitor.marks thread None
+
+-- some thread is marked on a row
+abbrev pub is_some_marked : List (Option ℕ) → Bool
+is_some_marked marks = list_any is_some marks
 
 -- a mark is on a row
 abbrev pub is_on : ℕ → Option ℕ → Bool

@@ -6,7 +6,7 @@ ghost use Rattle.row_bytes.specs.Cell.{bytes_of_cells};
 ghost use Rattle.history.specs.Accesses.{entry_of};
 ghost use Rattle.history.specs.ArmLegal.{MayAccess};
 ghost use Rattle.history.specs.Made.{made};
-ghost use Rattle.history.specs.Monitor.{IsAsLarge, accessed, at_rest, at_rest_by, is_on, marked_row, unless_on};
+ghost use Rattle.history.specs.Monitor.{IsAsLarge, accessed, at_rest, at_rest_by, is_on, is_some_marked, marked_row, unless_on};
 ghost use Rattle.history.specs.declared.entry.Cause.{Cause};
 
 use crate::entry::{Access, Deed, Entry};
@@ -25,18 +25,20 @@ pub struct PlainMemory {
     cells: Vec<u64>,
     marks: Vec<Option<u32>>,
     granule: u32,
+    /// Whether some thread may be marked: none is where this isn't set.
+    may_be_marked: bool,
 }
 
 impl Model for PlainMemory {
-    ghost use Rattle.std.specs.Prelude.{◌≤◌};
+    ghost use Rattle.std.specs.Prelude.{◌≡◌, ◌≤◌, false};
     ghost use Rattle.row_bytes.specs.Cell.{bytes_of_cells};
-    ghost use Rattle.history.specs.Monitor.{Monitor};
+    ghost use Rattle.history.specs.Monitor.{Monitor, is_some_marked};
 
     ghost Value = { Monitor };
 
     ghost view = { λ m. record { memory = bytes_of_cells m.cells.items; marks = m.marks.items; granule = m.granule } };
 
-    ghost invariant = { λ m. m.granule ≤ 8 };
+    ghost invariant = { λ m. (m.granule ≤ 8) × (m.may_be_marked ≡ false → is_some_marked m.marks.items ≡ false) };
 }
 
 impl PlainMemory {
@@ -45,6 +47,7 @@ impl PlainMemory {
     /// # Errors
     ///
     /// `AllocError` is want of memory.
+    #[tactic(auto, using(crate::proofs::Unmarked::replicate_unmarked))]
     pub fn new(alloc: Global, bytes: &[u8], threads: u32) -> Result<PlainMemory, AllocError>
         requires whole { length bytes.now % 8 ≡ 0 }
         requires some { 1 ≤ threads }
@@ -55,6 +58,7 @@ impl PlainMemory {
             cells: cells_of(alloc, bytes)?,
             marks: vec![in alloc; None; threads as usize]?,
             granule: 0,
+            may_be_marked: false,
         })
     }
 
@@ -88,7 +92,7 @@ impl PlainMemory {
 
     /// A store of a thread, of a value below 2 to the 8, 16, 32 or 64 by the place's size. It ends each mark on the row of
     /// the place, whosever it is.
-    #[inline]
+    #[inline(always)]
     pub fn store(&mut self, t: u32, place: Place, value: u64)
         requires thread { t < length self.old.marks }
         requires aligned { IsTrue (is_aligned place) }
@@ -98,7 +102,9 @@ impl PlainMemory {
         ensures size { IsAsLarge self.old self.new }
     {
         set(&mut self.cells, place, value);
-        unmark(&mut self.marks, place.row(self.granule));
+        if self.may_be_marked {
+            self.may_be_marked = end_marks(&mut self.marks, place.row(self.granule));
+        }
     }
 
     /// A load-exclusive of a thread: the value of the place, on whose row the thread is marked from now on.
@@ -112,6 +118,7 @@ impl PlainMemory {
         ensures marked { self.new ≡ accessed self.old (Entry.Read t place result true) }
         ensures size { IsAsLarge self.old self.new }
     {
+        self.may_be_marked = true;
         self.marks[t as usize] = Some(place.row(self.granule));
         value_of(&self.cells, place)
     }
@@ -136,7 +143,7 @@ impl PlainMemory {
             return false;
         }
         set(&mut self.cells, place, value);
-        unmark(&mut self.marks, row);
+        self.may_be_marked = end_marks(&mut self.marks, row);
         true
     }
 
@@ -249,6 +256,16 @@ fn set(cells: &mut [u64], place: Place, value: u64)
 {
     let at = place.cell() as usize;
     cells[at] = put(cells[at], place, value);
+}
+
+/// Ends the marks on a row, and gives whether some mark is left.
+#[inline(never)]
+fn end_marks(marks: &mut [Option<u32>], row: u32) -> bool
+    ensures ended { marks.new ≡ map (unless_on row) marks.old }
+    ensures left { result ≡ is_some_marked marks.new }
+{
+    unmark(marks, row);
+    marks.iter().any(|mark| mark.is_some())
 }
 
 /// Ends the marks on a row.

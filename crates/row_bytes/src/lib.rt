@@ -15,7 +15,7 @@ use llsc_base::{Place, Size};
 
 /// The value of an aligned place, its least significant byte first, from the cell in which it lies: below 2 to the 8,
 /// 16, 32 or 64 by the place's size.
-#[inline]
+#[inline(always)]
 pub fn take(cell: u64, place: Place) -> u64
     requires aligned { IsTrue (is_aligned place) }
     ensures value { result ≡ value_in_cell cell place }
@@ -26,7 +26,7 @@ pub fn take(cell: u64, place: Place) -> u64
 
 /// The cell with the bytes of an aligned place set to a value, its least significant byte first, and all others kept.
 /// The value is below 2 to the 8, 16, 32 or 64 by the place's size.
-#[inline]
+#[inline(always)]
 pub fn put(cell: u64, place: Place, value: u64) -> u64
     requires aligned { IsTrue (is_aligned place) }
     requires fits { value < 256 ^ size_bytes place.size }

@@ -13,12 +13,12 @@ returns-clause-stored c =
     let row = row_of c.self.inside.granule c.args.place in
     let cells : (with_items c.self.inside.cells c.set.new.cells).items ≡ c.set.new.cells =
     with_items_is c.self.inside.cells c.set.new.cells (c.set.auto.cells ∙ c.deref_mut.ensures.len) in
-    let marks : (with_items (with_item c.self.inside.marks c.args.t c.take-mark.new.self) c.unmark.new.marks).items ≡ c.unmark.new.marks =
-    with_items_is (with_item c.self.inside.marks c.args.t c.take-mark.new.self) c.unmark.new.marks (c.unmark.auto.marks ∙ c.deref_mut-2.ensures.len) in
+    let marks : (with_items (with_item c.self.inside.marks c.args.t c.take-mark.new.self) c.end_marks-self-inside.new.marks).items ≡ c.end_marks-self-inside.new.marks =
+    with_items_is (with_item c.self.inside.marks c.args.t c.take-mark.new.self) c.end_marks-self-inside.new.marks (c.end_marks-self-inside.auto.marks ∙ c.deref_mut-2.ensures.len) in
     let memory : bytes_of_cells c.set.new.cells ≡ stored (bytes_of_cells c.self.inside.cells.items) c.args.place c.args.value =
     rw (← c.deref_mut.ensures.value) c.set.ensures in
-    let ended : c.unmark.new.marks ≡ slice_set (map (unless_on row) c.self.inside.marks.items) c.args.t None =
-    rw (c.unmark.ensures, c.deref_mut-2.ensures.value, c.take-mark.ensures.after, c.row-row.ensures)
+    let ended : c.end_marks-self-inside.new.marks ≡ slice_set (map (unless_on row) c.self.inside.marks.items) c.args.t None =
+    rw (c.end_marks-self-inside.ensures.ended, c.deref_mut-2.ensures.value, c.take-mark.ensures.after, c.row-row.ensures)
     (map-set (unless_on row) c.self.inside.marks.items c.args.t None) in
     rw (← c.self.view_is, cells, marks, memory, ended) refl
 
