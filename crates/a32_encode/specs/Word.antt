@@ -1,6 +1,6 @@
--- The one word that can be an instruction's: the sum of its fixed bits and its fields, each at its place (DDI 0406C A5.1 to A5.7).
--- It computes the encoding in `Encoding.antt`, and is no part of what is promised: `src/laws.rt` says by the table what an
--- encoding is.
+-- The one word that can be an instruction's: the sum of its fixed bits and its fields, each at its place (DDI 0406C A5.1 to
+-- A5.7). It computes the encoding in `Encoding.antt`, and is no part of what is promised: `src/laws.rt` says by the table what
+-- an encoding is.
 use Rattle.std.specs.Prelude.{ℕ, ◌+◌, ◌*◌, ◌/◌, ◌%◌, ◌^◌, Bool, true, false, ℤ, pos, unsigned_abs}
 use Rattle.std.specs.Int.{int_rem_euclid}
 use Rattle.a32_instr.specs.declared.instructions.AluOp.{AluOp}

@@ -4,8 +4,9 @@
 //! fits no row.
 use super::*;
 
-/// Words of a row, for which the manual leaves open what they do.
-const OPEN: &[u32] = &[
+/// Words that fit a row and are unpredictable there. The manual calls them so, a return from an exception in User mode; only
+/// for a base that is stored above another register it says, in place of that, that the stored word is unknown.
+const UNPREDICTABLE: &[u32] = &[
     // adds and movs into the PC, with a number and with a register
     0xe291f001, 0xe3b0f000, 0xe091f002, 0xe1b0f00e,
     // add r0, r1, r2, lsl r3 with the PC in each place
@@ -141,8 +142,8 @@ const TAKEN: &[u32] = &[
 ];
 
 #[test]
-fn refuses_what_the_manual_leaves_open(rt: HostRuntime) {
-    for word in OPEN {
+fn refuses_unpredictable_words(rt: HostRuntime) {
+    for word in UNPREDICTABLE {
         let want = Err(DecodeFault::Unpredictable);
         assert_eq!(rt; decode(*word), want, "at {word:#x}");
     }

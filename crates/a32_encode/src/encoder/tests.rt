@@ -137,3 +137,8 @@ fn gives_no_word_where_there_is_none(rt: HostRuntime) {
     };
     assert_eq!(rt; encode(&barrier), NONE);
 }
+
+#[test]
+fn names_its_fault(rt: HostRuntime) {
+    assert_eq!(rt; EncodeFault::NoEncoding.name(), "NoEncoding");
+}
