@@ -48,7 +48,7 @@ done_tested : (program : Program) (load : Bool) (list : ℕ) (replies : List ℕ
 done_tested program load list replies back =
     chosen program replies load (block_loaded list replies back) (completes (advanced back)) (λ e. loaded_tested program replies list back) tt
 
-ask_tested : (program : Program) (load : Bool) (lowest list : ℕ) (replies : List ℕ) (state : State)
+pub ask_tested : (program : Program) (load : Bool) (lowest list : ℕ) (replies : List ℕ) (state : State)
     → ((r : ℕ) → register state r < 2 ^ 32) → first_barred program (not load) lowest (count_of list) ≡ None → length replies < count_of list
     → IsTested program replies (wanted_of (asks (block_ask load lowest (registers_of list) state (length replies))))
 ask_tested program true lowest list replies state words none less =

@@ -8,3 +8,9 @@ pub mod Passed
 pub mod Replied
 pub mod Remembered
 pub mod ExecutionStates
+pub mod Learnt
+pub mod Carrying
+pub mod Placed
+pub mod Places
+pub mod BlockPassages
+pub mod CarriedOn

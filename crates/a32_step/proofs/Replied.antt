@@ -10,7 +10,7 @@ use Rattle.a32_step.specs.Machine.{Machine, between, begins, instr_at, after_ins
 use Rattle.a32_step.specs.Replied.{IsAsk, replied, replied_in_turn, AsksForEach, IsAskedForEach}
 
 -- inside an instruction, with these replies
-abbrev inside : Instr → State → List ℕ → Machine
+abbrev pub inside : Instr → State → List ℕ → Machine
 inside instr state replies = record { state = state; phase = Inside instr; replies = replies }
 
 -- how a machine stands that has had these replies in this instruction
@@ -27,23 +27,23 @@ has_passed : (b : Bool) (effect : Effect) (state : State) → IsAsk (if b then e
 has_passed true effect state ask = refl
 has_passed false effect state ask = absurd ask
 
-begun : (instr : Instr) (state : State) (reply : ℕ) (effect : Effect) → IsAsk effect → given (moved_on instr (between state) effect) reply ≡ inside instr state (reply ∷ [])
+pub begun : (instr : Instr) (state : State) (reply : ℕ) (effect : Effect) → IsAsk effect → given (moved_on instr (between state) effect) reply ≡ inside instr state (reply ∷ [])
 begun instr state reply (asks ask) asked = refl
 begun instr state reply (calls call) asked = absurd asked
 begun instr state reply (completes done) asked = absurd asked
 begun instr state reply (stops stop) asked = absurd asked
 
 -- what a machine between two instructions does next
-first_effect : (program : Program) (instr : Instr) (state : State) → instr_at program state.pc ≡ Ok instr → next_effect program (between state) ≡ effect_of instr program [] state
+pub first_effect : (program : Program) (instr : Instr) (state : State) → instr_at program state.pc ≡ Ok instr → next_effect program (between state) ≡ effect_of instr program [] state
 first_effect program instr state known = ap (begins program state) known
 
-first_after : (program : Program) (instr : Instr) (state : State) → instr_at program state.pc ≡ Ok instr
+pub first_after : (program : Program) (instr : Instr) (state : State) → instr_at program state.pc ≡ Ok instr
     → after_next program (between state) ≡ moved_on instr (between state) (effect_of instr program [] state)
 first_after program instr state known = ap (after_instr program (between state)) known
 
 -- ---- further replies
 
-goes_on : (instr : Instr) (state : State) (replies : List ℕ) (reply : ℕ) (effect : Effect) → IsAsk effect
+pub goes_on : (instr : Instr) (state : State) (replies : List ℕ) (reply : ℕ) (effect : Effect) → IsAsk effect
     → given (moved_on instr (inside instr state replies) effect) reply ≡ inside instr state (replies ++ reply ∷ [])
 goes_on instr state replies reply (asks ask) asked = refl
 goes_on instr state replies reply (calls call) asked = absurd asked

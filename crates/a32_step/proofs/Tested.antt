@@ -68,7 +68,7 @@ part_fits : (byte : Bool) (value : ℕ) → value < 2 ^ 32 → part_of byte valu
 part_fits true value small = omega arith
 part_fits false value small = small
 
-register_fits : (state : State) → AreWords state.regs → (r : ℕ) → register state r < 2 ^ 32
+pub register_fits : (state : State) → AreWords state.regs → (r : ℕ) → register state r < 2 ^ 32
 register_fits state words r = choose_below (r == 15) (low32 (state.pc + 8)) (slice_index state.regs r) (omega arith) (words r)
 
 word_tested : (program : Program) (load byte : Bool) (addr rt : ℕ) (back : State) (replies : List ℕ) (state : State) → AreWords state.regs → IsTested program replies (wanted_of (accesses program load byte (record { addr = addr; size = access_size byte }) back rt replies state))
@@ -96,7 +96,7 @@ exclusive_store_tested program place value rd [] state fit = unless_tested progr
 exclusive_store_tested program place value rd (reply ∷ replies) state fit = tt
 
 -- what a store-exclusive stores fits its place
-stored_part_fits : (size : Size) (rt : ℕ) (state : State) → AreWords state.regs → stored_part size rt state < 256 ^ size_bytes size
+pub stored_part_fits : (size : Size) (rt : ℕ) (state : State) → AreWords state.regs → stored_part size rt state < 256 ^ size_bytes size
 stored_part_fits B1 rt state words = omega arith
 stored_part_fits B2 rt state words = omega arith
 stored_part_fits B4 rt state words = register_fits state words rt

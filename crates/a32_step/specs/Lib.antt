@@ -7,3 +7,6 @@ pub mod Classes
 pub mod Phase
 pub mod ExecutionState
 pub mod Slots
+pub mod Ports
+pub mod Known
+pub mod Passages

@@ -78,7 +78,7 @@ fn as_number(flag: bool) -> u32
 }
 
 /// A data-processing operation (DDI 0406C A8.8) on its first operand and its second.
-#[inline]
+#[inline(always)]
 pub fn compute(op: AluOp, x: u32, y: Shifted, flags: Flags) -> Computed
     ensures { result ≡ computed op x y flags }
 {
@@ -99,7 +99,7 @@ pub fn compute(op: AluOp, x: u32, y: Shifted, flags: Flags) -> Computed
 }
 
 /// The value of a data-processing operation, where its flags aren't asked for.
-#[inline]
+#[inline(always)]
 #[tactic(auto, unfolding(a32_instr::specs::Sum::sum_of))]
 pub fn value_of(op: AluOp, x: u32, y: Shifted, flags: Flags) -> u32
     ensures { result ≡ (computed op x y flags).value }

@@ -1,14 +1,17 @@
 //! One guest thread's core.
-ghost use Rattle.std.specs.Prelude.{◌≡◌, ◌≤◌, ◌%◌, ◌+◌, length, slice_index, IfSome, IfNone, []};
+ghost use Rattle.std.specs.Prelude.{◌≡◌, ◌≤◌, ◌%◌, ◌+◌, ◌^◌, length, slice_index, IfSome, IfNone, IsTrue, []};
 ghost use Rattle.a32_instr.specs.State.{answered};
 ghost use Rattle.a32_step.specs.Words.{AreWords};
+ghost use Rattle.a32_step.specs.Passages.{IsCarriedOn};
 ghost use Rattle.a32_step.specs.Phase as phase;
 ghost use Rattle.a32_step.specs.Machine.{start_of, given, next_effect, wanted_of, after_next, after_instr, begins, instr_at, decoded, between, Follows, HasBegun, IsReady, IsTested, IsAwaiting, IsCalling};
 
+use crate::code::Code;
 use crate::conditions::{condition, passes};
 use crate::decoded::Decoded;
 use crate::execution::Execution;
-use crate::phases::{Point, Progress, Wanted};
+use crate::phases::{Passage, Point, Progress, Wanted};
+use crate::ports::Port;
 use a32_instr::{DecodeFault, Flags, Stop};
 use llsc_base::Image;
 use std::marker::Model;
@@ -53,6 +56,17 @@ impl Cpu {
             execution: Execution::new(regs, flags, entry),
             decoded: Decoded::new(),
             near: 0,
+        }
+    }
+
+    /// Whether it is between two instructions.
+    #[inline]
+    pub fn is_between(&self) -> bool
+        ensures { IsTrue result → self.now ≡ between self.now.state }
+    {
+        match self.execution.point() {
+            Point::Between => true,
+            Point::Inside | Point::Held => false,
         }
     }
 
@@ -106,6 +120,7 @@ impl Cpu {
     /// Goes on until something is wanted from outside; neither a reply nor an answer may be awaited.
     /// `Done` comes once for each complete instruction but a guest call, whose [`Cpu::answer`] ends
     /// it; after `Stopped` the same stop comes again.
+    #[inline(always)]
     #[tactic(auto, using(crate::proofs::Tested::next_tested, crate::proofs::Follows::next_follows))]
     pub fn next(&mut self, image: &Image) -> Wanted
         requires { IsReady self.old.phase }
@@ -118,7 +133,7 @@ impl Cpu {
     }
 
     /// The instruction in hand goes on, or the next one begins, up to what is wanted.
-    #[inline]
+    #[inline(always)]
     #[tactic(auto, using(crate::proofs::ExecutionStates::acted_wants, crate::proofs::ExecutionStates::acted_stands))]
     fn go_on(&mut self, image: &Image) -> Wanted
         requires { IsReady self.old.phase }
@@ -136,7 +151,7 @@ impl Cpu {
     }
 
     /// The next instruction begins where none is in hand. What is wanted, where none has anything to do.
-    #[inline]
+    #[inline(always)]
     fn begin(&mut self, image: &Image) -> Option<Wanted>
         requires { IsReady self.old.phase }
         ensures wanted { IfSome result (λ wanted. wanted ≡ wanted_of (next_effect image.now self.old)) }
@@ -153,7 +168,7 @@ impl Cpu {
     }
 
     /// The instruction at the PC is fetched and decoded, and begins if its condition passes.
-    #[inline]
+    #[inline(always)]
     fn begin_next(&mut self, image: &Image) -> Option<Wanted>
         requires between { self.old.phase ≡ phase.Between }
         requires none { self.old.replies ≡ [] }
@@ -178,6 +193,48 @@ impl Cpu {
         }
         self.execution.begin();
         None
+    }
+}
+
+impl Cpu {
+    /// Carries the next instruction through, over a port that replies to its accesses at once. The core is between two
+    /// instructions, and the port's memory has as many bytes as the program.
+    ///
+    /// The instruction is complete; or the core is between two instructions as it was, and [`Cpu::next`] says what holds it: a
+    /// call, a stop, or a store for which memory has no write left. Or it is under way with the replies that it had, where
+    /// memory has no write left for a later store of its block, or where it loads a PC that may not be; [`Cpu::next`] goes on from there.
+    #[inline(always)]
+    pub fn carry<P: Port>(&mut self, code: &mut Code, port: &mut P) -> Passage
+        requires rest { self.old ≡ between self.old.state }
+        requires mem { P.mem port.old ≡ length code.old.program.bytes }
+        requires few { P.counted port.old + 16 ≤ 2 ^ 63 }
+        ensures carried { IsCarriedOn P.replies code.old.program self.old port.old result self.new port.new }
+        ensures program { code.new.program ≡ code.old.program }
+        ensures room { length self.new.replies ≤ 16 }
+        ensures mem { P.mem port.new ≡ P.mem port.old }
+        ensures counted { P.counted port.new ≤ P.counted port.old + 16 }
+    {
+        let pc = self.execution.pc();
+        let found = code.find(pc);
+        if !found {
+            return Passage::AtStart;
+        }
+        let known = code.at(pc);
+        if !self.execution.meets(known.cond) {
+            self.execution.advance();
+            return Passage::Complete;
+        }
+        let image = code.image();
+        match self.execution.carry(&known.instr, image, port) {
+            Passage::Complete => Passage::Complete,
+            Passage::AtStart => Passage::AtStart,
+            Passage::UnderWay => {
+                // They are 16 at most.
+                self.execution.count_replies();
+                self.decoded.keep(image, pc);
+                Passage::UnderWay
+            }
+        }
     }
 }
 

@@ -1,10 +1,13 @@
 //! Words that were decoded before, so that the words of a loop are decoded once.
-ghost use Rattle.std.specs.Prelude.{◌≡◌, ◌<◌, IfOk, IfErr, Ok, Err, slice_get};
+ghost use Rattle.std.specs.Prelude.{◌≡◌, ◌<◌, ◌%◌, IfOk, IfErr, Ok, Err, slice_get};
 ghost use Rattle.a32_step.specs.Slots.{instr_of, instr_for};
+ghost use Rattle.a32_instr.specs.declared.instructions.Instr.{Instr};
+ghost use Rattle.a32_step.specs.Machine.{instr_at};
 ghost use Rattle.a32_instr.specs.Table.{meaning, table};
 
 use a32_decode::decode;
 use a32_instr::{Cond, DecodeFault, Instr};
+use llsc_base::Image;
 use std::fmt;
 use std::marker::Model;
 
@@ -29,6 +32,8 @@ pub struct Decoded {
 
 impl Model for Decoded {
     ghost use Rattle.std.specs.Prelude.{◌≡◌, All, List, Ok, length};
+    ghost use Rattle.a32_instr.specs.declared.instructions.Instr.{Instr};
+    ghost use Rattle.a32_step.specs.Machine.{instr_at};
     ghost use Rattle.a32_instr.specs.Table.{meaning, table};
     ghost use Rattle.a32_step.specs.declared.decoded.Slot.{Slot};
 
@@ -76,6 +81,22 @@ impl Decoded {
             return Ok(());
         }
         self.decode(at, word)
+    }
+
+    /// Sees to it that the slot of an address has the instruction there; there must be one.
+    #[cold]
+    #[inline(never)]
+    pub fn keep(&mut self, image: &Image, addr: u32)
+        requires aligned { addr % 4 ≡ 0 }
+        requires one { (instr : Instr) × (instr_at image.now addr ≡ Ok instr) }
+        ensures { instr_at image.now addr ≡ Ok (instr_for self.new addr) }
+    {
+        let Some(word) = image.fetch(addr) else {
+            unreachable!()
+        };
+        let Ok(()) = self.remember(addr, word) else {
+            unreachable!()
+        };
     }
 
     /// The instruction of a word that isn't in its slot.

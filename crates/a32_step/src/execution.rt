@@ -1,6 +1,7 @@
 //! The instruction at the PC of one guest thread as it is carried out.
 ghost use Rattle.std.specs.Prelude.{◌≡◌, ◌≢◌, ◌<◌, ◌≤◌, ◌%◌, ◌∷◌, ◌++◌, length, slice_index, []};
 ghost use Rattle.a32_instr.specs.State.{register, with_register, advanced, jumps, writes, answered, stops};
+ghost use Rattle.a32_instr.specs.Condition.{passes};
 ghost use Rattle.a32_instr.specs.Effect.{acts};
 ghost use Rattle.a32_step.specs.Progress.{progress_of, stop_of};
 ghost use Rattle.a32_step.specs.Words.{AreWords};
@@ -8,9 +9,10 @@ ghost use Rattle.a32_step.specs.ExecutionState.{Between, Inside, Awaiting, Stopp
 ghost use Rattle.a32_step.specs.Inside.{stage_held};
 ghost use Rattle.a32_step.specs.Machine.{wanted_of};
 
+use crate::conditions::passes;
 use crate::phases::{Hold, Point, Progress, Wanted};
 use crate::replies::Replies;
-use a32_instr::{Ask, Flags, Instr, Reg, Stop};
+use a32_instr::{Ask, Cond, Flags, Instr, Reg, Stop};
 use llsc_base::Image;
 use std::marker::Model;
 
@@ -21,6 +23,7 @@ mod exclusives;
 mod load_store;
 mod moves;
 mod multiply;
+mod passages;
 
 /// What is wanted by a thread that is held.
 #[inline]
@@ -114,6 +117,14 @@ impl Execution {
         self.point
     }
 
+    /// How many replies the instruction has had, 16 at most.
+    pub fn count_replies(&self) -> usize
+        ensures count { result ≡ length self.now.replies }
+        ensures most { result ≤ 16 }
+    {
+        self.replies.count()
+    }
+
     /// What is wanted: nothing where the instruction is complete, and else what holds the thread.
     #[inline]
     pub fn wanted(&self, progress: Progress) -> Wanted
@@ -126,6 +137,15 @@ impl Execution {
             Point::Between | Point::Inside => Wanted::Done,
             Point::Held => wanted_held(self.hold),
         }
+    }
+
+    /// Whether the flags meet a condition (DDI 0406C A8.3); most are the one that always holds.
+    #[inline(always)]
+    #[tactic(auto, unfolding(a32_instr::specs::Condition::passes))]
+    pub fn meets(&self, cond: Cond) -> bool
+        ensures { result ≡ passes cond self.now.state.flags }
+    {
+        cond.num() == 14 || passes(cond, self.flags)
     }
 
     /// The instruction begins, and has not done anything yet.
@@ -277,6 +297,7 @@ impl Execution {
 
 impl Execution {
     /// What the instruction does, its condition passed.
+    #[inline(always)]
     pub fn act(&mut self, instr: &Instr, image: &Image) -> Progress
         ensures progress { result ≡ progress_of (acts instr.now image.now self.old.replies self.old.state) }
         ensures state { self.new ≡ moves self.old (acts instr.now image.now self.old.replies self.old.state) }
@@ -302,5 +323,14 @@ impl Execution {
             }
             Instr::Nop { .. } | Instr::Yield { .. } | Instr::Barrier { .. } => self.advance(),
         }
+    }
+
+    /// As [`Execution::act`], apart from the way of the instructions that are frequent.
+    #[inline(never)]
+    fn act_apart(&mut self, instr: &Instr, image: &Image) -> Progress
+        ensures progress { result ≡ progress_of (acts instr.now image.now self.old.replies self.old.state) }
+        ensures state { self.new ≡ moves self.old (acts instr.now image.now self.old.replies self.old.state) }
+    {
+        self.act(instr, image)
     }
 }

@@ -5,10 +5,12 @@
 //! answers an access by [`Cpu::give`] and a call by [`Cpu::answer`]. Each of them is proved to be
 //! what the effect of the instruction says (`a32_instr`, `specs/Effect`); `specs/Machine` here says
 //! it of a machine that is in the middle of an instruction, and [`laws`] that the two agree over all
-//! replies.
+//! replies. [`Cpu::carry`] takes a whole instruction at once, over a [`Port`], which replies to its
+//! accesses, and over [`Code`], which knows the instructions of one image that were met.
 #![tactic(auto)]
 
 mod arithmetic;
+mod code;
 mod conditions;
 mod cpu;
 mod decoded;
@@ -17,11 +19,14 @@ pub mod laws;
 mod operands;
 mod parts;
 mod phases;
+mod ports;
 mod products;
 mod registers;
 mod replies;
 mod shifts;
 
 pub use a32_instr::{Ask, CallAsk, Flags, Stop};
+pub use code::Code;
 pub use cpu::Cpu;
-pub use phases::Wanted;
+pub use phases::{Passage, Wanted};
+pub use ports::Port;

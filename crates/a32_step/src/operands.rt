@@ -66,6 +66,13 @@ pub fn part_stored(byte: bool, value: u32) -> u64
     }
 }
 
+/// What of a register a halfword's store has.
+pub fn half_stored(value: u32) -> u64
+    ensures { result ≡ value % 2 ^ 16 }
+{
+    u64::from(value & 0xffff)
+}
+
 /// The target of a branch by so many words from two words after the instruction.
 #[tactic(auto, unfolding(a32_instr::specs::Branch::target_of))]
 pub fn branch_target(pc: u32, words: i32) -> u32

@@ -43,3 +43,14 @@ pub enum Progress {
     /// It isn't: it waits, or the thread has stopped.
     Held,
 }
+
+/// How far an instruction came that was carried on over a port.
+#[derive(Clone, Copy, Debug, PartialEq, Eq)]
+pub enum Passage {
+    /// It is complete.
+    Complete,
+    /// It is at its start, and has not done anything.
+    AtStart,
+    /// It is under way: it has had replies, and goes on.
+    UnderWay,
+}

@@ -46,7 +46,8 @@ impl Replies {
 
     /// How many there are.
     pub fn count(&self) -> usize
-        ensures { result ≡ length self.now }
+        ensures count { result ≡ length self.now }
+        ensures most { result ≤ 16 }
     {
         self.count
     }

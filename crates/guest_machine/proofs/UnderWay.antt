@@ -1,7 +1,8 @@
 -- A thread alone under way: what its memory has made so far, and its end.
-use Rattle.std.proofs.Common.{◌≡◌, ℕ, Bool, true, false, if◌then◌else◌, List, [], ◌∷◌, ◌++◌, refl, sym, ◌∙◌, ap, subst, inl, inr}
+use Rattle.std.proofs.Common.{◌≡◌, ℕ, ◌+◌, ◌≤◌, arith, Bool, true, false, if◌then◌else◌, List, [], ◌∷◌, ◌++◌, refl, sym, ◌∙◌, ap, subst, inl, inr}
 use Rattle.guest_calls.specs.Run.{Pair, Ends}
-use Rattle.guest_thread.specs.Ports.{EndsBy, Leads, stays, goes}
+use Rattle.guest_thread.specs.Ports.{EndsBy}
+use Rattle.a32_step.specs.Ports.{Leads, stays, goes}
 use Rattle.guest_machine.specs.Served.{IsServed}
 use Rattle.guest_machine.specs.Alone.{IsAlone}
 use Rattle.llsc_base.specs.Images.{Program}
@@ -11,6 +12,8 @@ use Rattle.history.specs.Monitor.{Monitor, accessed, at_rest_by, is_on, marked_r
 use Rattle.history.specs.declared.entry.Access.{Access}
 use Rattle.history.specs.declared.entry.Deed.TheVariants as deed
 use Rattle.history.specs.declared.entry.Entry.{Entry}
+use Rattle.history.specs.declared.entry.Entry.TheVariants as entry
+use Rattle.guest_thread.specs.Counts.{reads_in, writes_in, fails_in}
 use Rattle.history.proofs.Appends.{monitor_after-push, IsArmLegal-push}
 use Rattle.a32_instr.specs.declared.outside.Ask.{Ask}
 use Rattle.a32_instr.specs.declared.outside.Ask.TheVariants.{Load, LoadEx, Store, StoreEx, Clear}
@@ -22,7 +25,7 @@ use Rattle.history.specs.Accesses.{entry_of, entry_by}
 use Rattle.guest_thread.specs.ThreadState.{ThreadState}
 use Rattle.guest_thread.specs.Accesses.{access_by}
 use Rattle.guest_machine.specs.Alone.{FailsUnmarked, AllFailUnmarked, IsEndAlone}
-use Rattle.guest_thread.specs.Counting.{AreCounts}
+use Rattle.guest_thread.specs.Counting.{AreCounts, accesses_counted}
 use Rattle.guest_machine.specs.declared.alone.Alone.{Alone}
 use Rattle.guest_thread.proofs.Counted.{own_counted}
 use Rattle.guest_machine.proofs.Pushed.{made_by, own_asked_push}
@@ -81,6 +84,22 @@ after_access granule bytes pairs old new ask reply way served =
       memory = served.memory ∙ ap (λ m. accessed m e) way.memory ∙ sym (monitor_after-push (at_rest_by granule bytes 1) way.history e);
       counts = own_counted 0 way.history e old.counts new.counts (thread_is access ∙ made_by old.memory 0 ask) way.counts served.reads served.writes served.fails;
     }
+
+-- an access counts for one at most
+one_of : (e : Entry) → reads_in e + writes_in e + fails_in e ≤ 1
+one_of (entry.Read thread place value ex) = omega arith
+one_of (entry.Write thread place value ex) = omega arith
+one_of (entry.Fail thread place value cause) = omega arith
+one_of (entry.Clear thread) = omega arith
+one_of (entry.Watch thread place) = omega arith
+one_of (entry.Miss thread place) = omega arith
+one_of (entry.Begin thread place) = omega arith
+one_of (entry.End thread place) = omega arith
+
+pub one_counted : (old : Alone) (ask : Ask) (reply : ℕ) (new : Alone) → IsServed old ask reply new → accesses_counted new.counts ≤ accesses_counted old.counts + 1
+one_counted old ask reply new served =
+    let one = one_of (entry_of (access_by old.memory 0 ask)) in
+    omega (arith, served.reads, served.writes, served.fails, one)
 
 -- all of them
 pub after_all : (granule : ℕ) (bytes : List ℕ) (first : Alone) (pairs : List Pair) (last : Alone)

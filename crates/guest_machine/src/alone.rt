@@ -4,9 +4,9 @@ ghost use Rattle.llsc_base.specs.Limits.{most_budget};
 ghost use Rattle.guest_machine.specs.Alone.{IsSoloEnd};
 
 use crate::serving::serve;
-use a32_step::Ask;
+use a32_step::{Ask, Code, Port};
 use guest_calls::reply_of;
-use guest_thread::{Counts, Guest, GuestEnd, Port};
+use guest_thread::{Counts, Guest, GuestEnd};
 use history::PlainMemory;
 use llsc_base::{Image, MachineSize};
 use std::alloc::{AllocError, Global};
@@ -37,6 +37,9 @@ impl Port for Alone {
         self.counts.count(&access);
         Some(reply_of(&access))
     }
+
+    #[tactic(auto, using(crate::proofs::UnderWay::one_counted))]
+    fn counts_one() {}
 }
 
 /// Runs an image's one thread on a memory of its own, which begins as the image's bytes.
@@ -65,7 +68,8 @@ pub fn solo(
         memory: PlainMemory::sized(alloc, image.bytes(), size)?,
         counts: Counts::none(),
     };
-    let stop = guest.run(image, budget, &mut alone);
+    let mut code = Code::new(alloc, image)?;
+    let stop = guest.run(&mut code, budget, &mut alone);
     Ok(GuestEnd {
         thread: 0,
         stop,

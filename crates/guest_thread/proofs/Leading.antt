@@ -2,7 +2,7 @@
 use Rattle.std.proofs.Common.{ℕ, List, [], ◌∷◌, ◌++◌, sym, subst, append_assoc, append-nil}
 use Rattle.a32_instr.specs.declared.outside.Ask.{Ask}
 use Rattle.guest_calls.specs.Run.{Pair}
-use Rattle.guest_thread.specs.Ports.{Leads, stays, goes}
+use Rattle.a32_step.specs.Ports.{Leads, stays, goes}
 
 pub leads_on : {S : Type 0} (replies : S → Ask → ℕ → S → Type 0) (from at next : S) (pairs more : List Pair)
     → Leads replies from pairs at → Leads replies at more next → Leads replies from (pairs ++ more) next

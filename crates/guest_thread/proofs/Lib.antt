@@ -13,3 +13,4 @@ pub mod Counted
 pub mod OneOutcome
 pub mod SmallEnds
 pub mod SmallRuns
+pub mod Carried

@@ -1,47 +1,20 @@
 -- What a thread asks for next lies in memory, and no thread stops by itself for want of a tag.
-use Rattle.std.proofs.Common.{◌≡◌, ℕ, ◌+◌, ◌≤◌, ◌==◌, ◌||◌, ◌&&◌, ◌%◌, nat_lt, not, if◌then◌else◌, Bool, true, false, IsTrue, Some, None, List, length, refl, sym, ap, subst, arith}
-use Rattle.std.proofs.lemmas.Bool.{eq-eqb, ltb-false, not-false}
-use Rattle.llsc_base.specs.Memory.{is_aligned, size_bytes}
-use Rattle.llsc_base.specs.Images.{Program, bar_of, touches_read_only}
-use Rattle.llsc_base.specs.declared.access.Bar.TheVariants as bar
-use Rattle.llsc_base.specs.declared.access.Place.{Place}
+use Rattle.std.proofs.Common.{◌≡◌, ℕ, ◌+◌, ◌≤◌, ◌==◌, ◌||◌, ◌%◌, nat_lt, not, if◌then◌else◌, Bool, true, false, List, length, refl, sym, ap, subst, arith}
+use Rattle.std.proofs.lemmas.Bool.{eq-eqb, ltb-false}
+use Rattle.llsc_base.specs.Images.{Program}
 use Rattle.a32_instr.specs.declared.outside.Ask.{Ask}
-use Rattle.a32_instr.specs.declared.outside.Ask.TheVariants as ask
 use Rattle.a32_instr.specs.declared.outside.CallAsk.{CallAsk}
 use Rattle.a32_instr.specs.declared.outside.Stop.{Stop}
 use Rattle.a32_instr.specs.declared.outside.Stop.TheVariants as stop
 use Rattle.a32_step.specs.Phase.{Phase, Between, Inside, Awaiting, Calling, Stopped}
-use Rattle.a32_step.specs.Machine.{Machine, wanted_of, after_next, given_in, IsReady, IsAwaiting, PassesTests}
+use Rattle.a32_step.specs.Machine.{Machine, wanted_of, after_next, given_in, IsReady, IsAwaiting}
 use Rattle.a32_step.specs.declared.phases.Wanted.TheVariants as wanted
 use Rattle.a32_step.proofs.Follows.{next_follows}
 use Rattle.guest_calls.specs.Calls.{CallEffect, exits, answers, writes_bytes, call_effect, write_effect, no_call, bad_descriptor, bad_address, no_room, most_output}
 use Rattle.guest_calls.specs.Run.{Pair, Reaches, begins, accesses, steps_on, returns, prints, Ends, halts, leaves, spends, Asks, asks_access, asks_byte}
-use Rattle.guest_thread.specs.ThreadState.{IsPlaced}
+use Rattle.a32_step.specs.Ports.{IsPlaced}
+use Rattle.a32_step.proofs.Placed.{passed_placed}
 use Rattle.a32_step.proofs.Passed.{GoesOn, IsOwn, next_own, next_passes}
-
--- ---- a place that nothing bars
-
-unbarred : (unaligned past read_only : Bool)
-    → (if unaligned then Some bar.Alignment else if past then Some bar.Outside else if read_only then Some bar.ReadOnly else None) ≡ None
-    → (unaligned ≡ false) × (past ≡ false)
-unbarred true past read_only none = cc
-unbarred false true read_only none = cc
-unbarred false false read_only none = (refl, refl)
-
--- it is aligned and lies in memory
-placed_where : (program : Program) (place : Place) (store : Bool) → bar_of program place store ≡ None
-    → IsTrue (is_aligned place) × (place.addr + size_bytes place.size ≤ length program.bytes)
-placed_where program place store none =
-    let found = unbarred (not (is_aligned place)) (nat_lt (length program.bytes) (place.addr + size_bytes place.size))
-    (store && touches_read_only program.spans place.addr (place.addr + size_bytes place.size)) none in
-    (not-false (is_aligned place) found.0, ltb-false (length program.bytes) (place.addr + size_bytes place.size) found.1)
-
-passed_placed : (program : Program) (asked : Ask) → PassesTests program asked → IsPlaced (length program.bytes) asked
-passed_placed program (ask.Load place) passed = placed_where program place false passed
-passed_placed program (ask.LoadEx place) passed = placed_where program place false passed
-passed_placed program (ask.Store place value) passed = placed_where program place true passed
-passed_placed program (ask.StoreEx place value) passed = placed_where program place true passed
-passed_placed program ask.Clear passed = tt
 
 -- ---- the bytes of a write
 

@@ -1,9 +1,8 @@
 -- Where a guest thread stands between two of its accesses, and while it waits for the reply to one.
-use Rattle.std.specs.Prelude.{ℕ, ◌+◌, ◌-◌, ◌^◌, ◌<◌, ◌≤◌, IsTrue, List, length, Option, Some, None}
-use Rattle.llsc_base.specs.Memory.{is_aligned, size_bytes}
+use Rattle.std.specs.Prelude.{ℕ, ◌+◌, ◌-◌, ◌^◌, ◌<◌, ◌≤◌, List, length, Option, Some, None}
 use Rattle.a32_instr.specs.declared.outside.Ask.{Ask}
-use Rattle.a32_instr.specs.declared.outside.Ask.TheVariants.{Load, LoadEx, Store, StoreEx, Clear}
-use Rattle.a32_step.specs.Machine.{Machine, IsReady, IsAwaiting, IsCalling, ValueFits}
+use Rattle.a32_step.specs.Machine.{Machine, IsReady, IsAwaiting, IsCalling}
+use Rattle.a32_step.specs.Ports.{IsAskIn, ReplyFits}
 use Rattle.guest_calls.specs.Calls.{most_output}
 use Rattle.guest_thread.specs.declared.guests.Printing.{Printing}
 use Rattle.guest_thread.specs.declared.guests.Turn.{Turn}
@@ -44,24 +43,6 @@ IsWaitingBy mem budget standing (Some printing) = IsWriting mem budget standing 
 -- a reply may come: its core waits for one, or it is in the middle of a write, where this says the same as IsReadyIn
 abbrev pub IsWaitingIn : ℕ → ℕ → ThreadState → Type 0
 IsWaitingIn mem budget standing = IsWaitingBy mem budget standing standing.printing
-
--- the place of an access is aligned and lies in memory
-abbrev pub IsPlaced : ℕ → Ask → Type 0
-IsPlaced mem (Load place) = IsTrue (is_aligned place) × (place.addr + size_bytes place.size ≤ mem)
-IsPlaced mem (LoadEx place) = IsTrue (is_aligned place) × (place.addr + size_bytes place.size ≤ mem)
-IsPlaced mem (Store place value) = IsTrue (is_aligned place) × (place.addr + size_bytes place.size ≤ mem)
-IsPlaced mem (StoreEx place value) = IsTrue (is_aligned place) × (place.addr + size_bytes place.size ≤ mem)
-IsPlaced mem Clear = Unit {0}
-
--- an access that may be made: its place is in memory, and its value fits the place
-abbrev pub IsAskIn : ℕ → Ask → Type 0
-IsAskIn mem ask = IsPlaced mem ask × ValueFits ask
-
--- a load's reply is a value of its size
-abbrev pub ReplyFits : Ask → ℕ → Type 0
-ReplyFits (Load place) reply = reply < 256 ^ size_bytes place.size
-ReplyFits (LoadEx place) reply = reply < 256 ^ size_bytes place.size
-ReplyFits _ reply = Unit {0}
 
 abbrev pub MayGiveBy : ThreadState → Option Printing → ℕ → Type 0
 MayGiveBy standing None reply = IsAwaiting standing.cpu.phase

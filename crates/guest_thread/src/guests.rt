@@ -1,10 +1,11 @@
 //! A thread's turns.
-ghost use Rattle.std.specs.Prelude.{◌≡◌, ◌≤◌, ◌<◌, ◌+◌, ◌^◌, ℕ, List, [], None, ◌∷◌, ◌++◌, length, IfNone, IfOk, IfSome, MatchOption};
+ghost use Rattle.std.specs.Prelude.{◌≡◌, ◌≤◌, ◌<◌, ◌+◌, ◌^◌, ℕ, List, [], None, ◌∷◌, ◌++◌, length, IfNone, IfOk, IfSome, IsTrue, MatchOption};
 ghost use Rattle.llsc_base.specs.Limits.{most_budget};
 ghost use Rattle.llsc_base.specs.Images.{Program};
 ghost use Rattle.a32_instr.specs.declared.outside.Ask.{Ask};
 ghost use Rattle.a32_step.specs.Machine.{Machine, IsReady, IsCalling};
 ghost use Rattle.guest_calls.specs.Run.{Pair, byte_load, effect_of_call};
+ghost use Rattle.guest_thread.specs.Ports.{IsAtRest};
 ghost use Rattle.guest_thread.specs.Progress.{HasKept, HasMoved, IsBounded};
 ghost use Rattle.guest_thread.specs.ThreadState.{HasLeft, IsReadyIn, IsWaitingIn, IsPendingAfter, MayGive};
 ghost use Rattle.guest_thread.specs.Start.{first_state, thread_start};
@@ -37,13 +38,14 @@ pub enum Turn {
 /// A guest thread under way: its core, its steps, and its output.
 #[derive(Drop)]
 pub struct Guest {
-    cpu: Cpu,
-    steps: u64,
+    pub(crate) cpu: Cpu,
+    pub(crate) steps: u64,
     output: Output,
     printing: Option<Printing>,
 }
 
 impl Model for Guest {
+    ghost use Rattle.guest_thread.specs.Ports.{IsAtRest};
     ghost use Rattle.guest_thread.specs.Progress.{HasKept, HasMoved, IsBounded};
     ghost use Rattle.guest_thread.specs.ThreadState.{ThreadState};
 
@@ -132,8 +134,39 @@ impl Guest {
         Turn::Ended(Stop::Budget)
     }
 
-    /// One instruction goes on, or a guest call is made. `None` where it is complete.
+    /// Whether it is between two instructions, and no write is under way.
     #[inline]
+    pub(crate) fn is_at_rest(&self) -> bool
+        ensures { IsTrue result → IsAtRest self.now }
+    {
+        self.printing.is_none() && self.cpu.is_between()
+    }
+
+    /// Goes on by one instruction, or up to the thread's next access or its end, as [`Guest::next`] does. `None` where the
+    /// instruction is complete.
+    #[inline(never)]
+    pub(crate) fn one_turn(&mut self, image: &Image, budget: u64) -> Option<Turn>
+        requires ready { IsReadyIn (length image.now.bytes) budget self.old }
+        requires small { length image.now.bytes < 2 ^ 32 }
+        requires budget { budget ≤ most_budget }
+        ensures comes { (start : Machine) (pairs : List Pair) → HasCome image.now budget start pairs self.old
+            → MatchOption result (HasCome image.now budget start pairs self.new) (λ turn. ComesTo image.now budget start pairs turn self.new) }
+        ensures pending { IfSome result (λ turn. IsPendingAfter (length image.now.bytes) budget turn self.new) }
+        ensures ready { IfNone result (IsReadyIn (length image.now.bytes) budget self.new) }
+        ensures later { IfNone result ((self.old.steps < self.new.steps) × (self.new.output ≡ self.old.output)) }
+        ensures kept { IsBounded self.old → HasKept self.old self.new }
+    {
+        if let Some(printing) = self.printing {
+            return Some(Turn::Asks(byte_ask(printing)));
+        }
+        if self.steps >= budget {
+            return Some(Turn::Ended(Stop::Budget));
+        }
+        self.turn(image)
+    }
+
+    /// One instruction goes on, or a guest call is made. `None` where it is complete.
+    #[inline(always)]
     #[tactic(auto, using(crate::proofs::Kept::calling_keeps, crate::proofs::Kept::stopping_keeps))]
     fn turn(&mut self, image: &Image) -> Option<Turn>
         requires at_turn { IsAtTurn self.old }
@@ -143,6 +176,7 @@ impl Guest {
         ensures comes { (budget : ℕ) (start : Machine) (pairs : List Pair) → HasCome image.now budget start pairs self.old → self.old.steps < budget
             → MatchOption result (HasCome image.now budget start pairs self.new) (λ turn. ComesTo image.now budget start pairs turn self.new) }
         ensures pending { IfSome result (λ turn. (budget : ℕ) → self.old.steps < budget → IsPendingAfter (length image.now.bytes) budget turn self.new) }
+        ensures output { self.new.output ≡ self.old.output }
         ensures at_most { self.new.steps ≤ self.old.steps + 1 }
         ensures kept { IsBounded self.old → HasKept self.old self.new }
     {
@@ -163,6 +197,7 @@ impl Guest {
         requires few { self.old.steps < most_budget }
         requires small { length image.now.bytes < 2 ^ 32 }
         ensures made { AfterCall (length image.now.bytes) (effect_of_call image.now call (length self.old.output)) self.old result self.new }
+        ensures output { self.new.output ≡ self.old.output }
         ensures at_most { self.new.steps ≤ self.old.steps + 1 }
         ensures kept { IsBounded self.old → HasKept self.old self.new }
     {

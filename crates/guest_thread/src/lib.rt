@@ -3,8 +3,8 @@
 //! A [`Guest`] begins by [`Guest::start`] and goes on by [`Guest::next`] until it asks for an access or has ended; the
 //! caller replies by [`Guest::give`]. Instructions, guest calls and the loads of a write's bytes are all within it;
 //! what it asks, and how it ends, is the run of the thread (`guest_calls`, `specs/Run`); every reply takes it further,
-//! so that it comes to an end within its budget (`specs/Progress`). By [`Guest::run`] a [`Port`] replies, up to the
-//! end. A [`GuestEnd`] is how a thread ended. [`Counts`] are a thread's accesses, and [`tried_by`] says which access a
+//! so that it comes to an end within its budget (`specs/Progress`). By [`Guest::run`] a [`a32_step::Port`]
+//! replies, up to the end. A [`GuestEnd`] is how a thread ended. [`Counts`] are a thread's accesses, and [`tried_by`] says which access a
 //! thread tries by what it asks. [`laws`] has that no thread ends by itself for what only memory can want, and that a
 //! history has one outcome; [`worked`] and [`worked_ends`] have small cases.
 #![tactic(auto)]
@@ -21,5 +21,4 @@ pub mod worked_ends;
 pub use counts::{Counts, counts_of};
 pub use ends::GuestEnd;
 pub use guests::{Guest, Turn};
-pub use ports::Port;
 pub use tries::tried_by;

@@ -12,7 +12,7 @@ use Rattle.a32_instr.specs.declared.outside.Ask.{Ask}
 use Rattle.a32_instr.specs.declared.outside.Ask.TheVariants as ask
 use Rattle.guest_calls.specs.Pairs.{pair_of}
 use Rattle.history.specs.Accesses.{entry_by, entry_of}
-use Rattle.guest_thread.specs.ThreadState.{IsPlaced, ReplyFits}
+use Rattle.a32_step.specs.Ports.{IsPlaced, ReplyFits}
 use Rattle.run_checker.specs.Verdict.{fits, is_asked, is_place}
 
 -- ---- places

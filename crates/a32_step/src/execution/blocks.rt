@@ -1,17 +1,20 @@
 //! Loads and stores of a block of registers (DDI 0406C A5.5).
-ghost use Rattle.std.specs.Prelude.{◌≡◌, ◌<◌, ◌≤◌, length};
-ghost use Rattle.a32_instr.specs.State.{jumps};
-ghost use Rattle.a32_instr.specs.Block.{registers_of, count_of, block_size, block, block_ask, block_back, block_loaded, with_block};
+ghost use Rattle.std.specs.Prelude.{◌≡◌, ◌<◌, ◌≤◌, ◌+◌, ◌^◌, [], IsTrue, None, length, not};
+ghost use Rattle.llsc_base.specs.Images.{first_barred};
+ghost use Rattle.a32_instr.specs.State.{State, jumps};
+ghost use Rattle.a32_instr.specs.Block.{registers_of, count_of, block_size, block, block_ask, block_at, block_back, block_done, block_loaded, with_block};
 ghost use Rattle.a32_instr.specs.Effect.{acts};
 ghost use Rattle.a32_step.specs.Progress.{progress_of};
 ghost use Rattle.a32_step.specs.Classes.{instr_class, block_access};
-ghost use Rattle.a32_step.specs.ExecutionState.{moves};
+ghost use Rattle.a32_step.specs.ExecutionState.{Inside, moves, resting};
+ghost use Rattle.a32_step.specs.Passages.{IsCarried, IsGiven, word_ask};
 
 use super::Execution;
 use super::load_store::barred;
 use crate::operands::moved;
 use crate::parts::low_word;
-use crate::phases::Progress;
+use crate::phases::{Passage, Progress};
+use crate::ports::Port;
 use crate::registers::{count_of, is_listed, listed, lowest_address};
 use a32_instr::{Ask, Instr, Reg};
 use llsc_base::{Image, Place, Size};
@@ -142,6 +145,7 @@ impl Execution {
 
 impl Execution {
     /// A load or a store of a block (DDI 0406C A5.5).
+    #[inline(always)]
     pub(super) fn access_block(&mut self, instr: &Instr, image: &Image) -> Progress
         requires { instr_class instr.now ≡ block_access }
         ensures progress { result ≡ progress_of (acts instr.now image.now self.old.replies self.old.state) }
@@ -168,5 +172,140 @@ impl Execution {
             list,
         };
         self.block(image, transfer)
+    }
+}
+
+impl Execution {
+    /// The access of a block's register, whose word is at this address.
+    #[inline(always)]
+    fn word_ask(&self, load: bool, addr: u32, r: Reg) -> Ask
+        ensures { result ≡ word_ask load addr r self.now.state }
+    {
+        let place = Place {
+            addr,
+            size: Size::B4,
+        };
+        if load {
+            return Ask::Load(place);
+        }
+        Ask::Store(place, u64::from(self.operand(r)))
+    }
+
+    /// The accesses of a block whose lowest word is at this address, from the lowest register up, as far as the port replies, and
+    /// whether it did to all of them.
+    fn access_each<P: Port>(
+        &mut self,
+        image: &Image,
+        load: bool,
+        list: u16,
+        lowest: u32,
+        port: &mut P,
+    ) -> bool
+        requires begun { (self.old.stage ≡ Inside) × (self.old.replies ≡ []) }
+        requires passes { first_barred image.now (not load) lowest (count_of list) ≡ None }
+        requires mem { P.mem port.old ≡ length image.now.bytes }
+        requires few { P.counted port.old + 16 ≤ 2 ^ 63 }
+        ensures given { (back : State) → IsGiven P.replies (λ had. block_at image.now load lowest list back had self.old.state) port.old self.new.replies port.new }
+        ensures state { self.new ≡ record self.old { replies = self.new.replies } }
+        ensures all { IsTrue result → length self.new.replies ≡ count_of list }
+        ensures mem { P.mem port.new ≡ P.mem port.old }
+        ensures counted { P.counted port.new ≤ P.counted port.old + 16 }
+    {
+        let mut addr = lowest;
+        for r in 0..16u8 {
+            if !is_listed(list, r) {
+                continue;
+            }
+            let ask = self.word_ask(load, addr, Reg::new(r));
+            let Some(reply) = port.reply(ask) else {
+                return false;
+            };
+            self.replies.push(reply);
+            addr = addr.wrapping_add(4);
+        }
+        true
+    }
+
+    /// A block whose words were all accessed is complete, if its PC may be.
+    fn finish_transfer(&mut self, transfer: Transfer, count: u32) -> Progress
+        requires count { count ≡ count_of transfer.list }
+        requires most { count ≤ 16 }
+        requires all { count_of transfer.list ≤ length self.old.replies }
+        ensures progress { result ≡ progress_of (block_done transfer.load transfer.list self.old.replies (block_back transfer.wback transfer.up transfer.rn (block_size transfer.list) self.old.state)) }
+        ensures state { self.new ≡ moves self.old (block_done transfer.load transfer.list self.old.replies (block_back transfer.wback transfer.up transfer.rn (block_size transfer.list) self.old.state)) }
+    {
+        if transfer.load {
+            return self.finish_block(transfer, count);
+        }
+        self.move_base(transfer, 4 * count);
+        self.advance()
+    }
+
+    /// LDM and STM (DDI 0406C A8.8.58 to A8.8.61, A8.8.199 to A8.8.202).
+    fn carry_transfer<P: Port>(
+        &mut self,
+        image: &Image,
+        transfer: Transfer,
+        port: &mut P,
+    ) -> Passage
+        requires resting { self.old ≡ resting self.old.state }
+        requires mem { P.mem port.old ≡ length image.now.bytes }
+        requires few { P.counted port.old + 16 ≤ 2 ^ 63 }
+        ensures carried { IsCarried P.replies (λ had. block image.now transfer.load transfer.before transfer.up transfer.wback transfer.rn transfer.list had self.old.state) self.old port.old result self.new port.new }
+        ensures mem { P.mem port.new ≡ P.mem port.old }
+        ensures counted { P.counted port.new ≤ P.counted port.old + 16 }
+    {
+        let count = count_of(transfer.list);
+        let base = self.operand(transfer.rn);
+        let lowest = lowest_address(transfer.up, transfer.before, base, 4 * count);
+        if image.test_words(lowest, count, !transfer.load).is_some() {
+            return Passage::AtStart;
+        }
+        self.begin();
+        let replied = self.access_each(image, transfer.load, transfer.list, lowest, port);
+        if !replied {
+            return self.go_on();
+        }
+        let progress = self.finish_transfer(transfer, count);
+        self.after_all(progress)
+    }
+
+    /// A load or a store of a block (DDI 0406C A5.5).
+    #[inline(never)]
+    pub(super) fn carry_block<P: Port>(
+        &mut self,
+        instr: &Instr,
+        image: &Image,
+        port: &mut P,
+    ) -> Passage
+        requires class { instr_class instr.now ≡ block_access }
+        requires resting { self.old ≡ resting self.old.state }
+        requires mem { P.mem port.old ≡ length image.now.bytes }
+        requires few { P.counted port.old + 16 ≤ 2 ^ 63 }
+        ensures carried { IsCarried P.replies (λ had. acts instr.now image.now had self.old.state) self.old port.old result self.new port.new }
+        ensures mem { P.mem port.new ≡ P.mem port.old }
+        ensures counted { P.counted port.new ≤ P.counted port.old + 16 }
+    {
+        let Instr::Block {
+            load,
+            before,
+            up,
+            wback,
+            rn,
+            list,
+            ..
+        } = *instr
+        else {
+            unreachable!()
+        };
+        let transfer = Transfer {
+            load,
+            before,
+            up,
+            wback,
+            rn,
+            list,
+        };
+        self.carry_transfer(image, transfer, port)
     }
 }

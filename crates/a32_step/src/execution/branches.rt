@@ -66,6 +66,7 @@ impl Execution {
 
 impl Execution {
     /// A branch, or a supervisor call (DDI 0406C A5.5, A5.6).
+    #[inline(always)]
     pub(super) fn branch_or_call(&mut self, instr: &Instr) -> Progress
         requires { instr_class instr.now ≡ branch_or_call }
         ensures progress { (program : Program) → result ≡ progress_of (acts instr.now program self.old.replies self.old.state) }

@@ -31,6 +31,7 @@ impl Execution {
     }
 
     /// Data processing that sets the flags.
+    #[inline(always)]
     fn alu_with_flags(&mut self, op: AluOp, rd: Reg, rn: Reg, operand: Operand2) -> Progress
         ensures progress { result ≡ progress_of (alu op true rd rn operand self.old.state) }
         ensures state { self.new ≡ moves self.old (alu op true rd rn operand self.old.state) }
@@ -45,7 +46,7 @@ impl Execution {
     }
 
     /// Data processing (DDI 0406C A5.2).
-    #[inline]
+    #[inline(always)]
     pub(super) fn alu(
         &mut self,
         op: AluOp,
@@ -60,17 +61,21 @@ impl Execution {
         if sets {
             return self.alu_with_flags(op, rd, rn, operand);
         }
-        if op.is_compare() {
-            return self.advance();
-        }
         let second = self.second_operand(operand);
-        let value = value_of(op, self.operand(rn), second, self.flags);
-        self.write(self.flags, rd, value)
+        let first = self.operand(rn);
+        match op {
+            AluOp::Tst | AluOp::Teq | AluOp::Cmp | AluOp::Cmn => self.advance(),
+            _ => {
+                let value = value_of(op, first, second, self.flags);
+                self.write(self.flags, rd, value)
+            }
+        }
     }
 }
 
 impl Execution {
     /// An instruction of data processing (DDI 0406C A4.4).
+    #[inline(always)]
     pub(super) fn process_data(&mut self, instr: &Instr) -> Progress
         requires { instr_class instr.now ≡ data_processing }
         ensures progress { (program : Program) → result ≡ progress_of (acts instr.now program self.old.replies self.old.state) }

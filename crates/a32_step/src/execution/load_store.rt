@@ -1,22 +1,26 @@
 //! Loads and stores of one register (DDI 0406C A5.2.8, A5.3).
-ghost use Rattle.std.specs.Prelude.{◌≡◌, []};
+ghost use Rattle.std.specs.Prelude.{◌≡◌, ◌<◌, ◌≤◌, ◌+◌, ◌^◌, [], length};
+ghost use Rattle.llsc_base.specs.Memory.{size_bytes};
 ghost use Rattle.llsc_base.specs.Images.{bar_of};
 ghost use Rattle.a32_instr.specs.State.{State, advanced, jumps, writes};
-ghost use Rattle.a32_instr.specs.LoadStore.{half_accesses, asks_unless, barred, distance_of, moved_address, written_back};
+ghost use Rattle.a32_instr.specs.LoadStore.{access_size, half_accesses, half_size, asks_unless, barred, distance_of, loads, loads_half, moved_address, stores, written_back};
 ghost use Rattle.a32_instr.specs.Effect.{acts};
 ghost use Rattle.a32_step.specs.Progress.{progress_of};
 ghost use Rattle.a32_step.specs.Classes.{instr_class, word_access, half_access};
 ghost use Rattle.a32_step.specs.ExecutionState.{moves, resting};
+ghost use Rattle.a32_step.specs.Passages.{IsCarried};
 
 use super::Execution;
+use super::passages::reply_of;
 use crate::operands::{
-    accessed_address, is_added, moved, part_stored, size_of_access, size_of_half,
+    accessed_address, half_stored, is_added, moved, part_stored, size_of_access, size_of_half,
 };
 use crate::parts::{loaded_half, loaded_word};
-use crate::phases::Progress;
+use crate::phases::{Passage, Progress};
+use crate::ports::Port;
 use crate::shifts::shift_by_number;
 use a32_instr::{Ask, HalfKind, Index, Instr, Offset, Reg, Stop};
-use llsc_base::{Bar, Image, Place};
+use llsc_base::{Bar, Image, Place, Size};
 
 /// What becomes of the base register when a load or a store is complete.
 #[derive(Clone, Copy)]
@@ -51,6 +55,7 @@ impl Execution {
     }
 
     /// How far an offset moves.
+    #[inline(always)]
     fn distance(&self, offset: &Offset) -> u32
         ensures { result ≡ distance_of offset.now self.now.state }
     {
@@ -83,6 +88,7 @@ impl Execution {
     }
 
     /// A load is complete: the base is written back, and then the value goes to its register, which may be the PC.
+    #[inline(always)]
     fn finish_load(&mut self, back: WriteBack, rt: Reg, value: u32) -> Progress
         ensures progress { result ≡ progress_of (writes (written_back back.index back.rn back.moved self.old.state) rt value) }
         ensures state { self.new ≡ moves self.old (writes (written_back back.index back.rn back.moved self.old.state) rt value) }
@@ -110,6 +116,7 @@ impl Execution {
     }
 
     /// A store is complete: the base is written back.
+    #[inline(always)]
     fn finish_store(&mut self, back: WriteBack) -> Progress
         ensures progress { result ≡ Progress.Complete }
         ensures state { self.new ≡ resting (advanced (written_back back.index back.rn back.moved self.old.state)) }
@@ -133,6 +140,7 @@ impl Execution {
 
 impl Execution {
     /// A load or a store of a word or a byte (DDI 0406C A5.3).
+    #[inline(always)]
     pub(super) fn access_word(&mut self, instr: &Instr, image: &Image) -> Progress
         requires { instr_class instr.now ≡ word_access }
         ensures progress { result ≡ progress_of (acts instr.now image.now self.old.replies self.old.state) }
@@ -172,6 +180,7 @@ impl Execution {
 
 impl Execution {
     /// A load or a store of a halfword, or a load of a signed byte (DDI 0406C A5.2.8).
+    #[inline(always)]
     pub(super) fn access_half(&mut self, instr: &Instr, image: &Image) -> Progress
         requires { instr_class instr.now ≡ half_access }
         ensures progress { result ≡ progress_of (acts instr.now image.now self.old.replies self.old.state) }
@@ -210,9 +219,184 @@ impl Execution {
         ensures state { (back : State) → self.new ≡ moves self.old (half_accesses kind image.now place back rt [] self.old.state) }
     {
         if kind == HalfKind::Strh {
-            let value = u64::from(self.operand(rt) & 0xffff);
+            let value = half_stored(self.operand(rt));
             return self.ask(image, place, true, Ask::Store(place, value));
         }
         self.ask(image, place, false, Ask::Load(place))
+    }
+}
+
+impl Execution {
+    /// A load of a word or a byte.
+    #[inline(always)]
+    fn carry_load<P: Port>(
+        &mut self,
+        image: &Image,
+        place: Place,
+        byte: bool,
+        back: WriteBack,
+        rt: Reg,
+        port: &mut P,
+    ) -> Passage
+        requires size { place.size ≡ access_size byte }
+        requires resting { self.old ≡ resting self.old.state }
+        requires mem { P.mem port.old ≡ length image.now.bytes }
+        requires few { P.counted port.old < 2 ^ 63 }
+        ensures carried { IsCarried P.replies (λ had. loads image.now place (written_back back.index back.rn back.moved self.old.state) rt had self.old.state) self.old port.old result self.new port.new }
+        ensures mem { P.mem port.new ≡ P.mem port.old }
+        ensures counted { P.counted port.new ≤ P.counted port.old + 1 }
+    {
+        let Some(reply) = reply_of(image, Ask::Load(place), port) else {
+            return Passage::AtStart;
+        };
+        let progress = self.finish_load(back, rt, loaded_word(byte, reply));
+        self.after(reply, progress)
+    }
+
+    /// A load of a halfword, or of a signed byte.
+    #[inline(always)]
+    fn carry_load_half<P: Port>(
+        &mut self,
+        image: &Image,
+        place: Place,
+        kind: HalfKind,
+        back: WriteBack,
+        rt: Reg,
+        port: &mut P,
+    ) -> Passage
+        requires size { place.size ≡ half_size kind }
+        requires resting { self.old ≡ resting self.old.state }
+        requires mem { P.mem port.old ≡ length image.now.bytes }
+        requires few { P.counted port.old < 2 ^ 63 }
+        ensures carried { IsCarried P.replies (λ had. loads_half kind image.now place (written_back back.index back.rn back.moved self.old.state) rt had self.old.state) self.old port.old result self.new port.new }
+        ensures mem { P.mem port.new ≡ P.mem port.old }
+        ensures counted { P.counted port.new ≤ P.counted port.old + 1 }
+    {
+        let Some(reply) = reply_of(image, Ask::Load(place), port) else {
+            return Passage::AtStart;
+        };
+        let progress = self.finish_load(back, rt, loaded_half(kind, reply));
+        self.after(reply, progress)
+    }
+
+    /// A store of a value.
+    #[inline(always)]
+    fn carry_store<P: Port>(
+        &mut self,
+        image: &Image,
+        place: Place,
+        value: u64,
+        back: WriteBack,
+        port: &mut P,
+    ) -> Passage
+        requires fits { value < 256 ^ size_bytes place.size }
+        requires resting { self.old ≡ resting self.old.state }
+        requires mem { P.mem port.old ≡ length image.now.bytes }
+        requires few { P.counted port.old < 2 ^ 63 }
+        ensures carried { IsCarried P.replies (λ had. stores image.now place (written_back back.index back.rn back.moved self.old.state) value had self.old.state) self.old port.old result self.new port.new }
+        ensures mem { P.mem port.new ≡ P.mem port.old }
+        ensures counted { P.counted port.new ≤ P.counted port.old + 1 }
+    {
+        let Some(reply) = reply_of(image, Ask::Store(place, value), port) else {
+            return Passage::AtStart;
+        };
+        let progress = self.finish_store(back);
+        self.after(reply, progress)
+    }
+
+    /// A load or a store of a word or a byte (DDI 0406C A5.3).
+    #[inline(always)]
+    pub(super) fn carry_word<P: Port>(
+        &mut self,
+        instr: &Instr,
+        image: &Image,
+        port: &mut P,
+    ) -> Passage
+        requires class { instr_class instr.now ≡ word_access }
+        requires resting { self.old ≡ resting self.old.state }
+        requires mem { P.mem port.old ≡ length image.now.bytes }
+        requires few { P.counted port.old < 2 ^ 63 }
+        ensures carried { IsCarried P.replies (λ had. acts instr.now image.now had self.old.state) self.old port.old result self.new port.new }
+        ensures mem { P.mem port.new ≡ P.mem port.old }
+        ensures counted { P.counted port.new ≤ P.counted port.old + 1 }
+    {
+        let Instr::Word {
+            load,
+            byte,
+            index,
+            rn,
+            rt,
+            ref offset,
+            ..
+        } = *instr
+        else {
+            unreachable!()
+        };
+        let base = self.operand(rn);
+        let moved = moved(base, is_added(offset), self.distance(offset));
+        let addr = accessed_address(index, base, moved);
+        let back = WriteBack { index, rn, moved };
+        let (word, single) = (
+            Place {
+                addr,
+                size: Size::B4,
+            },
+            Place {
+                addr,
+                size: Size::B1,
+            },
+        );
+        if load {
+            if byte {
+                return self.carry_load(image, single, true, back, rt, port);
+            }
+            return self.carry_load(image, word, false, back, rt, port);
+        }
+        let value = self.operand(rt);
+        if byte {
+            return self.carry_store(image, single, part_stored(true, value), back, port);
+        }
+        self.carry_store(image, word, part_stored(false, value), back, port)
+    }
+
+    /// A load or a store of a halfword, or a load of a signed byte (DDI 0406C A5.2.8).
+    #[inline(always)]
+    pub(super) fn carry_half<P: Port>(
+        &mut self,
+        instr: &Instr,
+        image: &Image,
+        port: &mut P,
+    ) -> Passage
+        requires class { instr_class instr.now ≡ half_access }
+        requires resting { self.old ≡ resting self.old.state }
+        requires mem { P.mem port.old ≡ length image.now.bytes }
+        requires few { P.counted port.old < 2 ^ 63 }
+        ensures carried { IsCarried P.replies (λ had. acts instr.now image.now had self.old.state) self.old port.old result self.new port.new }
+        ensures mem { P.mem port.new ≡ P.mem port.old }
+        ensures counted { P.counted port.new ≤ P.counted port.old + 1 }
+    {
+        let Instr::Half {
+            kind,
+            index,
+            rn,
+            rt,
+            ref offset,
+            ..
+        } = *instr
+        else {
+            unreachable!()
+        };
+        let base = self.operand(rn);
+        let moved = moved(base, is_added(offset), self.distance(offset));
+        let place = Place {
+            addr: accessed_address(index, base, moved),
+            size: size_of_half(kind),
+        };
+        let back = WriteBack { index, rn, moved };
+        if kind == HalfKind::Strh {
+            let value = half_stored(self.operand(rt));
+            return self.carry_store(image, place, value, back, port);
+        }
+        self.carry_load_half(image, place, kind, back, rt, port)
     }
 }

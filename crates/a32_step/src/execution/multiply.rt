@@ -113,6 +113,7 @@ impl Execution {
 
 impl Execution {
     /// A multiplication (DDI 0406C A5.2.5).
+    #[inline(always)]
     pub(super) fn multiplication(&mut self, instr: &Instr) -> Progress
         requires { instr_class instr.now ≡ multiplication }
         ensures progress { (program : Program) → result ≡ progress_of (acts instr.now program self.old.replies self.old.state) }

@@ -24,6 +24,8 @@ impl Port for Zeros {
             _ => Some(0),
         }
     }
+
+    fn counts_one() {}
 }
 
 /// Loads the byte at r1, which is 1, and stores it there.
@@ -41,7 +43,8 @@ fn ends_where_a_store_is_refused(rt: HostRuntime) -> Result<(), Fail> {
         return Err(Fail::from("the image is longer than memory"));
     }
     let mut guest = Guest::start(rt.alloc(), &image, &size, 0)?;
-    let stop = guest.run(&image, 100, &mut Zeros);
+    let mut code = Code::new(rt.alloc(), &image)?;
+    let stop = guest.run(&mut code, 100, &mut Zeros);
     assert_eq!(rt; stop, Stop::TagLimit(1));
     assert_eq!(rt; guest.steps(), 1);
     Ok(())

@@ -1,20 +1,18 @@
--- Each access leads the thread on, and nearer to the most that it can have come.
-use Rattle.std.proofs.Common.{◌≡◌, ◌≤◌, ◌+◌, ◌-◌, ◌*◌, List, [], length}
-use Rattle.a32_step.specs.Machine.{Machine}
+-- What was carried through and each access lead the thread on, and nearer to the most that it can have come.
+use Rattle.std.proofs.Common.{◌≡◌, ◌≤◌, ◌+◌, ◌-◌, ◌*◌, length}
 use Rattle.guest_calls.specs.Calls.{most_output}
-use Rattle.guest_calls.specs.Run.{Pair}
-use Rattle.guest_thread.specs.Ports.{IsRunning, Leads}
+use Rattle.guest_thread.specs.Ports.{IsRunning}
 use Rattle.guest_thread.specs.Progress.{progress_of}
-use Rattle.guest_thread.specs.Under.{HasCome}
+use Rattle.guest_thread.proofs.Carried.{Ways}
 use Rattle.guest_thread.proofs.guests.Guest.run.Given as goal
 
 abbrev pub invariant-loop-stop : goal.invariant-loop-stop
 invariant-loop-stop g l = record {
-  running : IsRunning (length l.image.bytes) l.budget l.self;
-  mem : g.P.Port.mem l.port ≡ length l.image.bytes;
+  running : IsRunning (length l.fn.code.program.bytes) l.fn.budget l.self;
+  program : l.code.program ≡ l.fn.code.program;
+  mem : g.P.Port.mem l.port ≡ length l.fn.code.program.bytes;
   counted : g.P.Port.counted l.port ≤ progress_of l.self;
-  way : (start : Machine) → HasCome l.image l.budget start [] l.fn.self
-      → (pairs : List Pair) × (Leads g.P.Port.replies l.fn.port pairs l.port × HasCome l.image l.budget start pairs l.self);
+  way : Ways g.P.Port.replies l.fn.code.program l.fn.budget l.fn.self l.fn.port l.self l.port;
 }
 
 abbrev pub decreases-loop-stop : goal.decreases-loop-stop

@@ -1,0 +1,65 @@
+-- Loads and stores, by the address that was worked out and what is moved.
+use Rattle.std.proofs.Common.{◌≡◌, ◌^◌, ◌%◌, ℕ, Bool, List, refl, sym, ap, ◌∙◌}
+use Rattle.llsc_base.specs.Images.{Program}
+use Rattle.llsc_base.specs.declared.access.Place.{Place}
+use Rattle.llsc_base.specs.declared.access.Size.{Size}
+use Rattle.a32_instr.specs.declared.instructions.Instr.{Instr}
+use Rattle.a32_instr.specs.declared.instructions.Instr.TheVariants.{Half, Word}
+use Rattle.a32_instr.specs.declared.instructions.Index.{Index}
+use Rattle.a32_instr.specs.declared.instructions.Offset.{Offset}
+use Rattle.a32_instr.specs.declared.instructions.HalfKind.{HalfKind}
+use Rattle.a32_instr.specs.declared.instructions.HalfKind.TheVariants.{Strh, Ldrh, Ldrsb, Ldrsh}
+use Rattle.a32_instr.specs.Effect.{acts}
+use Rattle.a32_instr.specs.LoadStore.{access_size, accessed_address, accesses, half_accesses, half_by, distance_of, half_size, is_added, loads_half, moved, moved_address, stores, word_by, written_back}
+use Rattle.a32_instr.specs.State.{State, register}
+
+-- the moved address, as it was worked out
+pub moved_here : (rn : ℕ) (offset : Offset) (state : State) {base distance result : ℕ} {add : Bool}
+    → result ≡ moved base add distance → base ≡ register state rn → add ≡ is_added offset → distance ≡ distance_of offset state
+    → result ≡ moved_address rn offset state
+moved_here rn offset state {base} {distance} {result} {add} same base_is add_is distance_is =
+    same ∙ ap (λ b. moved b add distance) base_is ∙ ap (λ a. moved (register state rn) a distance) add_is ∙ ap (moved (register state rn) (is_added offset)) distance_is
+
+module _ (program : Program) (instr : Instr) (state : State) (cond : ℕ) (index : Index) (rn rt : ℕ) (offset : Offset) (addr moved : ℕ)
+    (moved_is : moved ≡ moved_address rn offset state) (addr_is : addr ≡ accessed_address index (register state rn) moved) (had : List ℕ) where
+  -- a word or a byte
+  pub word_is : (load byte to wide : Bool) → instr ≡ Word cond load byte index rn rt offset → load ≡ to → byte ≡ wide
+      → acts instr program had state
+      ≡ accesses program to wide (record { addr = addr; size = access_size wide }) (written_back index rn moved state) rt had state
+  word_is load byte to wide is load_is byte_is =
+      ap (λ i. acts i program had state) is
+      ∙ ap (λ m. word_by program load byte index rn rt m had state) (sym moved_is)
+      ∙ ap (λ a. accesses program load byte (record { addr = a; size = access_size byte }) (written_back index rn moved state) rt had state) (sym addr_is)
+      ∙ ap (λ l. accesses program l byte (record { addr = addr; size = access_size byte }) (written_back index rn moved state) rt had state) load_is
+      ∙ ap (λ b. accesses program to b (record { addr = addr; size = access_size b }) (written_back index rn moved state) rt had state) byte_is
+
+  -- a halfword or a signed byte
+  pub half_is : (kind : HalfKind) → instr ≡ Half cond kind index rn rt offset
+      → acts instr program had state ≡ half_accesses kind program (record { addr = addr; size = half_size kind }) (written_back index rn moved state) rt had state
+  half_is kind is =
+      ap (λ i. acts i program had state) is
+      ∙ ap (λ m. half_by program kind index rn rt m had state) (sym moved_is)
+      ∙ ap (λ a. half_accesses kind program (record { addr = a; size = half_size kind }) (written_back index rn moved state) rt had state) (sym addr_is)
+
+-- a halfword's store, and the loads
+pub strh_is : (program : Program) (kind : HalfKind) (addr rt : ℕ) (size : Size) (value : ℕ) (back : State) (had : List ℕ) (state : State)
+    → kind ≡ Strh → size ≡ half_size kind → value ≡ register state rt % 2 ^ 16
+    → half_accesses kind program (record { addr = addr; size = half_size kind }) back rt had state ≡ stores program (record { addr = addr; size = size }) back value had state
+strh_is program kind addr rt size value back had state is size_is value_is =
+    ap (λ k. half_accesses k program (record { addr = addr; size = half_size kind }) back rt had state) is
+    ∙ ap (λ s. stores program (record { addr = addr; size = s }) back (register state rt % 2 ^ 16) had state) (sym size_is)
+    ∙ ap (λ v. stores program (record { addr = addr; size = size }) back v had state) (sym value_is)
+
+loads_by : (program : Program) (kind : HalfKind) (place : Place) (rt : ℕ) (back : State) (had : List ℕ) (state : State) → (kind ≡ Strh → ⊥)
+    → half_accesses kind program place back rt had state ≡ loads_half kind program place back rt had state
+loads_by program Strh place rt back had state other = absurd (other refl)
+loads_by program Ldrh place rt back had state other = refl
+loads_by program Ldrsb place rt back had state other = refl
+loads_by program Ldrsh place rt back had state other = refl
+
+pub ldrh_is : (program : Program) (kind : HalfKind) (addr rt : ℕ) (size : Size) (back : State) (had : List ℕ) (state : State)
+    → (kind ≡ Strh → ⊥) → size ≡ half_size kind
+    → half_accesses kind program (record { addr = addr; size = half_size kind }) back rt had state ≡ loads_half kind program (record { addr = addr; size = size }) back rt had state
+ldrh_is program kind addr rt size back had state other size_is =
+    loads_by program kind (record { addr = addr; size = half_size kind }) rt back had state other
+    ∙ ap (λ s. loads_half kind program (record { addr = addr; size = s }) back rt had state) (sym size_is)

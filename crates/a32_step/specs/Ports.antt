@@ -1,0 +1,36 @@
+-- Who replies to the accesses of a thread: what may be asked of it, which replies fit, and where they lead.
+use Rattle.std.specs.Prelude.{ℕ, ◌+◌, ◌^◌, ◌<◌, ◌≤◌, IsTrue, List, [], ◌∷◌, ◌++◌}
+use Rattle.llsc_base.specs.Memory.{is_aligned, size_bytes}
+use Rattle.a32_instr.specs.declared.outside.Ask.{Ask}
+use Rattle.a32_instr.specs.declared.outside.Ask.TheVariants.{Load, LoadEx, Store, StoreEx, Clear}
+use Rattle.a32_step.specs.Machine.{ValueFits}
+
+-- the place of an access is aligned and lies in memory
+abbrev pub IsPlaced : ℕ → Ask → Type 0
+IsPlaced mem (Load place) = IsTrue (is_aligned place) × (place.addr + size_bytes place.size ≤ mem)
+IsPlaced mem (LoadEx place) = IsTrue (is_aligned place) × (place.addr + size_bytes place.size ≤ mem)
+IsPlaced mem (Store place value) = IsTrue (is_aligned place) × (place.addr + size_bytes place.size ≤ mem)
+IsPlaced mem (StoreEx place value) = IsTrue (is_aligned place) × (place.addr + size_bytes place.size ≤ mem)
+IsPlaced mem Clear = Unit {0}
+
+-- an access that may be made: its place is in memory, and its value fits the place
+abbrev pub IsAskIn : ℕ → Ask → Type 0
+IsAskIn mem ask = IsPlaced mem ask × ValueFits ask
+
+-- a load's reply is a value of its size
+abbrev pub ReplyFits : Ask → ℕ → Type 0
+ReplyFits (Load place) reply = reply < 256 ^ size_bytes place.size
+ReplyFits (LoadEx place) reply = reply < 256 ^ size_bytes place.size
+ReplyFits _ reply = Unit {0}
+
+-- from a port to another by accesses and the replies to them, one after another, where each reply leads on as this says
+pub data Leads {S : Type 0} (replies : S → Ask → ℕ → S → Type 0) (from : S) : List (Ask × ℕ) → S → Type 0 where
+  stays : Leads replies from [] from
+  goes : (pairs : List (Ask × ℕ)) (at next : S) (ask : Ask) (reply : ℕ)
+      → Leads replies from pairs at → replies at ask reply next
+      → Leads replies from (pairs ++ (ask, reply) ∷ []) next
+
+-- it is a store, and memory refuses one at its address; a store-exclusive fails instead
+abbrev pub IsRefused : (ℕ → Type 0) → Ask → Type 0
+IsRefused refuses (Store place value) = refuses place.addr
+IsRefused refuses _ = ⊥

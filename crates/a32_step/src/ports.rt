@@ -1,0 +1,38 @@
+//! Who replies to a thread's accesses.
+ghost use Rattle.std.specs.Prelude.{◌≡◌, ◌<◌, ◌≤◌, ◌+◌, ◌^◌, ℕ, IfNone, IfSome, MatchOption};
+ghost use Rattle.a32_instr.specs.declared.outside.Ask.{Ask};
+ghost use Rattle.a32_step.specs.Ports.{IsAskIn, IsRefused, ReplyFits};
+
+use a32_instr::Ask;
+
+/// Who replies to the accesses of a thread, each at once: a memory, say, with what is counted of it. Which replies may come is
+/// the port's to say (`replies`); what a thread does over a port it does with replies that lead from the port as it was to the
+/// port as it is (`specs/Ports`).
+pub trait Port {
+    /// Whether such a reply to an access leads from a port, the first, to another, the last.
+    ghost replies: { Self → Ask → ℕ → Self → Type 0 };
+
+    /// How many bytes of memory may be accessed.
+    ghost mem: { Self → ℕ };
+
+    /// How many accesses were made so far, or fewer.
+    ghost counted: { Self → ℕ };
+
+    /// Whether memory has no write left for a store to an address.
+    ghost refuses: { Self → ℕ → Type 0 };
+
+    /// Makes an access, and replies: the value of a load, 1 where a store-exclusive failed, and otherwise 0. `None` where
+    /// memory has no write left for a store: then it isn't made, and the port is as it was.
+    fn reply(&mut self, ask: Ask) -> Option<u64>
+        requires may { IsAskIn (mem self.old) ask }
+        requires few { counted self.old < 2 ^ 63 }
+        ensures replied { MatchOption result (self.new ≡ self.old) (λ reply. replies self.old ask reply self.new) }
+        ensures fits { IfSome result (ReplyFits ask) }
+        ensures refused { IfNone result (IsRefused (refuses self.old) ask) }
+        ensures mem { mem self.new ≡ mem self.old }
+        ensures counted { counted self.new ≤ counted self.old + 1 };
+
+    /// The law that a reply counts for one access at most.
+    fn counts_one()
+        ensures { (old : Self) (ask : Ask) (reply : ℕ) (new : Self) → replies old ask reply new → counted new ≤ counted old + 1 };
+}

@@ -1,0 +1,161 @@
+-- A thread whose instructions are carried through over a port.
+use Rattle.std.proofs.Common.{◌≡◌, ◌⊎◌, inl, inr, ℕ, ◌+◌, ◌<◌, ◌≤◌, List, [], ◌∷◌, ◌++◌, None, length, refl, sym, subst, ap, ◌∙◌, append_assoc, append-nil, arith}
+use Rattle.std.proofs.lemmas.List.{length-append}
+use Rattle.llsc_base.specs.Images.{Program}
+use Rattle.a32_instr.specs.declared.outside.Ask.{Ask}
+use Rattle.a32_step.specs.declared.phases.Passage.{Passage}
+use Rattle.a32_step.specs.declared.phases.Passage.TheVariants.{Complete, AtStart, UnderWay}
+use Rattle.a32_step.specs.declared.phases.Wanted.TheVariants as wanted
+use Rattle.a32_step.specs.Machine.{Machine, between, IsReady, IsAwaiting, after_next, given, given_in, wanted_of}
+use Rattle.a32_step.specs.Phase.{Phase, Between, Inside, Awaiting, Calling, Stopped}
+use Rattle.a32_step.specs.Passages.{Comes, starts, replied, EndsAt, IsCarriedOn}
+use Rattle.a32_step.specs.Ports.{Leads, stays, goes}
+use Rattle.a32_step.proofs.Follows.{next_follows}
+use Rattle.guest_calls.specs.Run.{Pair, Reaches, accesses, steps_on}
+use Rattle.guest_calls.specs.Calls.{most_output}
+use Rattle.guest_thread.specs.Ports.{IsAtRest, IsRunning}
+use Rattle.guest_thread.specs.Progress.{IsBounded, progress_of}
+use Rattle.guest_thread.specs.ThreadState.{ThreadState, IsReadyBy}
+use Rattle.guest_thread.specs.Under.{HasCome}
+use Rattle.guest_thread.proofs.Leading.{leads_on}
+use Rattle.guest_thread.proofs.Reached.{come_by, reached_at, reached_by}
+
+-- ---- how far its run has come
+
+pub come_on : (program : Program) (budget : ℕ) (start old : Machine) (before : List Pair) (steps : ℕ) (output : List ℕ) (pairs : List Pair) (machine : Machine)
+    → Reaches program budget start before old steps output → steps < budget → Comes program old pairs machine
+    → Reaches program budget start (before ++ pairs) machine steps output
+come_on program budget start old before steps output _ _ reached within starts =
+    subst (λ all. Reaches program budget start all old steps output) (sym (append-nil before)) reached
+come_on program budget start old before steps output _ _ reached within (replied pairs machine ask reply comes asked) =
+    subst (λ all. Reaches program budget start all (given (after_next program machine) reply) steps output) (append_assoc before pairs ((ask, reply) ∷ []))
+    (accesses (before ++ pairs) machine steps output ask reply (come_on program budget start old before steps output pairs machine reached within comes) within asked)
+
+-- ---- how many accesses it made
+
+pub leads_counted : {S : Type 0} (replies : S → Ask → ℕ → S → Type 0) (counted : S → ℕ) (from to : S) (pairs : List Pair)
+    → ((old : S) (ask : Ask) (reply : ℕ) (new : S) → replies old ask reply new → counted new ≤ counted old + 1)
+    → Leads replies from pairs to → counted to ≤ counted from + length pairs
+leads_counted replies counted from _ _ one stays = omega arith
+leads_counted replies counted from _ _ one (goes pairs at next ask reply leads served) =
+    let before : counted at ≤ counted from + length pairs = leads_counted replies counted from at pairs one leads in
+    let here : counted next ≤ counted at + 1 = one at ask reply next served in
+    let longer : length (pairs ++ (ask, reply) ∷ []) ≡ length pairs + 1 = length-append pairs ((ask, reply) ∷ []) in
+    omega (arith, before, here, longer)
+
+given_one : (machine : Machine) (reply : ℕ) (phase : Phase) → IsAwaiting phase → (given_in machine reply phase).replies ≡ machine.replies ++ reply ∷ []
+given_one machine reply Between awaits = absurd awaits
+given_one machine reply (Inside instr) awaits = absurd awaits
+given_one machine reply (Awaiting instr ask) awaits = refl
+given_one machine reply (Calling call) awaits = absurd awaits
+given_one machine reply (Stopped stop) awaits = absurd awaits
+
+given_ready : (machine : Machine) (reply : ℕ) (phase : Phase) → IsAwaiting phase → IsReady (given_in machine reply phase).phase
+given_ready machine reply Between awaits = absurd awaits
+given_ready machine reply (Inside instr) awaits = absurd awaits
+given_ready machine reply (Awaiting instr ask) awaits = tt
+given_ready machine reply (Calling call) awaits = absurd awaits
+given_ready machine reply (Stopped stop) awaits = absurd awaits
+
+-- each reply is one of its instruction's
+record HasReplies (old machine : Machine) (pairs : List Pair) : Type 0 where
+  ready : IsReady machine.phase
+  count : length machine.replies ≡ length old.replies + length pairs
+
+comes_counted : (program : Program) (old machine : Machine) (pairs : List Pair) → IsReady old.phase → Comes program old pairs machine → HasReplies old machine pairs
+comes_counted program old _ _ first starts = record { ready = first; count = omega arith }
+comes_counted program old _ _ first (replied pairs machine ask reply comes asked) =
+    let before = comes_counted program old machine pairs first comes in
+    let follows = next_follows program machine (wanted.Access ask) (after_next program machine) before.ready (ap wanted_of (sym asked)) refl in
+    let one : length (given (after_next program machine) reply).replies ≡ length machine.replies + 1 =
+    ap (λ rs. length rs) (given_one (after_next program machine) reply (after_next program machine).phase follows.0 ∙ ap (λ rs. rs ++ reply ∷ []) follows.1)
+    ∙ length-append machine.replies (reply ∷ []) in
+    let longer : length (pairs ++ (ask, reply) ∷ []) ≡ length pairs + 1 = length-append pairs ((ask, reply) ∷ []) in
+    record {
+      ready = given_ready (after_next program machine) reply (after_next program machine).phase follows.0;
+      count = omega (arith, before.count, one, longer);
+    }
+
+pub replies_counted : (program : Program) (old machine : Machine) (pairs : List Pair) → old ≡ between old.state → Comes program old pairs machine
+    → length machine.replies ≡ length pairs
+replies_counted program old machine pairs rest comes =
+    let none : length old.replies ≡ 0 = ap (λ (m : Machine). length m.replies) rest in
+    let all = comes_counted program old machine pairs (subst (λ (m : Machine). IsReady m.phase) (sym rest) tt) comes in
+    omega (arith, none, all.count)
+
+-- a step is more than the replies of an instruction
+pub further : (old new : ThreadState) → IsBounded old → old.steps < new.steps → new.output ≡ old.output → progress_of old < progress_of new
+further old new bounded more same =
+    let long : length new.output ≡ length old.output = ap (λ o. length o) same in
+    omega (arith, bounded.replies, more, long)
+
+-- ---- one instruction more, or a part of it
+
+pub part_ends : (program : Program) (machine new : Machine) (way : Passage) → (way ≡ AtStart) ⊎ (way ≡ UnderWay) → EndsAt program machine way new
+    → (new ≡ machine) × IsReady machine.phase
+part_ends program machine new way (inl is) ends = subst (λ w. EndsAt program machine w new) is ends
+part_ends program machine new way (inr is) ends = subst (λ w. EndsAt program machine w new) is ends
+
+-- a thread at rest, one instruction on
+pub at_rest_on : (program : Program) (machine : Machine) (new : ThreadState) → new.printing ≡ None → EndsAt program machine Complete new.cpu → IsAtRest new
+at_rest_on program machine new still ends =
+    record { printing = still; between = ends.3 ∙ ap between (sym (ap (λ (m : Machine). m.state) ends.3)) }
+
+pub running_at : (mem budget : ℕ) (new : ThreadState) → new.printing ≡ None → IsReady new.cpu.phase → new.steps ≤ budget
+    → length new.cpu.replies ≤ 16 → length new.output ≤ most_output → IsRunning mem budget new
+running_at mem budget new still ready within few short = record {
+  ready = subst (λ p. IsReadyBy mem budget new p) (sym still) (ready, within);
+  bounded = record { replies = few; output = short };
+}
+
+module _ {S : Type 0} (replies : S → Ask → ℕ → S → Type 0) (program : Program) (budget : ℕ) (old new : ThreadState) (from to : S)
+    (rest : IsAtRest old) (within : old.steps < budget) (same : new.output ≡ old.output) (still : new.printing ≡ None) where
+  -- it was complete
+  pub after_one : IsCarriedOn replies program old.cpu from Complete new.cpu to → new.steps ≡ old.steps + 1 → (start : Machine) (before : List Pair)
+      → HasCome program budget start before old → (pairs : List Pair) × (Leads replies from pairs to × HasCome program budget start (before ++ pairs) new)
+  after_one carried more start before come =
+      let reached = come_on program budget start old.cpu before old.steps old.output carried.pairs carried.machine (reached_by program budget start before old rest.printing come) within carried.comes in (
+        carried.pairs,
+        (
+          carried.leads,
+          come_by program budget start (before ++ carried.pairs) new still
+              (reached_at program budget start new.cpu (after_next program carried.machine) (before ++ carried.pairs) new.steps (old.steps + 1) new.output old.output
+              carried.ends.2 more same (steps_on (before ++ carried.pairs) carried.machine old.steps old.output carried.ends.0 reached within carried.ends.1)),
+        ),
+      )
+
+  -- it wasn't
+  pub after_part : (machine : Machine) (pairs : List Pair) → Leads replies from pairs to → Comes program old.cpu pairs machine → new.cpu ≡ machine → new.steps ≡ old.steps
+      → (start : Machine) (before : List Pair) → HasCome program budget start before old
+      → (pairs : List Pair) × (Leads replies from pairs to × HasCome program budget start (before ++ pairs) new)
+  after_part machine pairs leads comes is steps start before come = (
+    pairs,
+    (
+      leads,
+      come_by program budget start (before ++ pairs) new still
+          (reached_at program budget start new.cpu machine (before ++ pairs) new.steps old.steps new.output old.output is steps same
+          (come_on program budget start old.cpu before old.steps old.output pairs machine (reached_by program budget start before old rest.printing come) within comes)),
+    ),
+  )
+
+-- ---- one way after another
+
+abbrev pub Ways : {S : Type 0} → (S → Ask → ℕ → S → Type 0) → Program → ℕ → ThreadState → S → ThreadState → S → Type 0
+Ways replies program budget old from new to = (start : Machine) (before : List Pair) → HasCome program budget start before old
+    → (pairs : List Pair) × (Leads replies from pairs to × HasCome program budget start (before ++ pairs) new)
+
+pub no_way : {S : Type 0} (replies : S → Ask → ℕ → S → Type 0) (program : Program) (budget : ℕ) (old : ThreadState) (from : S) → Ways replies program budget old from old from
+no_way replies program budget old from start before come =
+    ([], (stays, subst (λ all. HasCome program budget start all old) (sym (append-nil before)) come))
+
+pub way_on : {S : Type 0} (replies : S → Ask → ℕ → S → Type 0) (program : Program) (budget : ℕ) (first old new : ThreadState) (from at to : S)
+    → Ways replies program budget first from old at → Ways replies program budget old at new to → Ways replies program budget first from new to
+way_on replies program budget first old new from at to way further start before come =
+    let here = way start before come in
+    let next = further start (before ++ here.0) here.1.1 in (
+      here.0 ++ next.0,
+      (
+        leads_on replies from at to here.0 next.0 here.1.0 next.1.0,
+        subst (λ all. HasCome program budget start all new) (append_assoc before here.0 next.0) next.1.1,
+      ),
+    )
