@@ -1,0 +1,17 @@
+pub mod Others
+pub mod Own
+pub mod Sections
+pub mod Laid
+pub mod Moves
+pub mod PlainSteps
+pub mod Ready
+pub mod Waits
+pub mod FirstWords
+pub mod Opening
+pub mod SeatSteps
+pub mod HeldMarks
+pub mod Betweens
+pub mod Closing
+pub mod AloneSteps
+pub mod Exactly
+pub mod TestPasses

@@ -1,0 +1,44 @@
+-- The rule holds of a memory that is made.
+use Rattle.std.proofs.Common.{◌≡◌, ◌+◌, ◌/◌, ◌<◌, ◌≤◌, ℕ, zero, suc, true, false, List, [], length, nat_lt, replicate, slice_index, refl, sym, ◌∙◌, inl, inr, arith}
+use Rattle.std.proofs.lemmas.Bool.{cases_lt, le-ltb, lt-ltb}
+use Rattle.row_bytes.specs.Cell.{cell_at}
+use Rattle.history.proofs.Legality.{IsMemory}
+use Rattle.atomic_table.specs.Table.{opening}
+use Rattle.shared_memory.specs.Passes.{first_view, marked}
+use Rattle.shared_memory.proofs.Closed.{opened}
+use Rattle.hst_memory.specs.declared.hands.Doing.TheVariants.{Rest}
+use Rattle.hst_memory.specs.declared.hands.Reserve.TheVariants.{Nothing}
+use Rattle.hst_memory.specs.declared.plans.Plan.{Plan}
+use Rattle.hst_memory.specs.Hands.{hand}
+use Rattle.hst_memory.specs.Knowledge.{Knows}
+use Rattle.hst_memory.specs.Kept.{KeptBy, words_of}
+use Rattle.history.specs.Standing.{standing_of}
+
+pub opens : (plan : Plan) (words : List ℕ) → IsMemory plan.size plan.image.value.bytes → length words ≡ words_of plan.size
+    → ((i : ℕ) → i < 1 + plan.size.classes → slice_index words i ≡ 0)
+    → ((i : ℕ) → i < plan.size.mem / 8 → slice_index words (1 + plan.size.classes + i) ≡ cell_at plan.image.value.bytes i)
+    → KeptBy plan (opening words [] (first_view plan.size.threads (hand Rest Nothing)))
+opens plan words memory long zeros cells = record {
+  history = [];
+  standing = standing_of plan.image.value.bytes;
+  tells = opened (Knows plan.size) plan.size plan.image.value.bytes (hand Rest Nothing) memory (λ t. record { at = refl; reserve = refl; agrees = tt });
+  laid = record { long = long; tags = λ c h. zeros (1 + c) (omega arith); cells = cells };
+  section = record { counts = zeros 0 (omega arith); few = inl (omega arith) };
+}
+
+marked-here : (n t : ℕ) → t < n → marked (replicate n true) t ≡ true
+marked-here zero t h = absurd (omega arith)
+marked-here (suc n) zero h = refl
+marked-here (suc n) (suc t) h = marked-here n t (omega arith)
+
+marked-past : (n t : ℕ) → n ≤ t → marked (replicate n true) t ≡ false
+marked-past zero t h = refl
+marked-past (suc n) zero h = absurd (omega arith)
+marked-past (suc n) (suc t) h = marked-past n t (omega arith)
+
+-- the numbers of the first pass
+pub marked-first : (n t : ℕ) → marked (replicate n true) t ≡ nat_lt t n
+marked-first n t = elim (cases_lt t n) [
+  | inl below ↦ marked-here n t below ∙ sym (lt-ltb t n below)
+  | inr above ↦ marked-past n t above ∙ sym (le-ltb t n above)
+]

@@ -1,0 +1,6 @@
+use Rattle.hst_memory.specs.Kept.{origin_of}
+use Rattle.hst_memory.specs.Told.{ask}
+use Rattle.hst_memory.proofs.sharing.HstMemorySharedMemory.load.Given as goal
+
+abbrev pub ghosts-load_cell : goal.ghosts-load_cell
+ghosts-load_cell a = record { ask = ask (origin_of a.shared.now.key) a.place 0 }

@@ -1,0 +1,6 @@
+use Rattle.hst_memory.specs.Kept.{origin_of}
+use Rattle.hst_memory.specs.Told.{ask}
+use Rattle.hst_memory.proofs.sharing.HstMemorySharedMemory.load_ex.Given as goal
+
+abbrev pub ghosts-load_ex_cell : goal.ghosts-load_ex_cell
+ghosts-load_ex_cell g a = record { ask = ask (origin_of a.shared.now.key) a.target.place a.target.value }

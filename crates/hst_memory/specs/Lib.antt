@@ -1,0 +1,8 @@
+pub mod Hands
+pub mod Knowledge
+pub mod Kept
+pub mod Exact
+pub mod Told
+pub mod Passes
+pub mod Memory
+pub mod Worked

@@ -1,0 +1,21 @@
+//! A shared memory by names and a section: the hash-table store test (HST).
+#![tactic(auto)]
+
+mod alone;
+mod hands;
+mod making;
+mod marks;
+mod memory;
+mod passes;
+mod plain;
+mod plans;
+mod plays;
+mod seats;
+mod sharing;
+mod targets;
+
+pub use memory::HstMemory;
+pub use passes::{HstPass, HstStory};
+
+#[cfg(test)]
+mod tests;

@@ -1,0 +1,88 @@
+//! A memory is made.
+ghost use Rattle.std.specs.Prelude.{◌≡◌, ◌+◌, ◌/◌, ◌%◌, ◌*◌, ◌<◌, ◌≤◌, ℕ, [], false, IfOk, length, nat_lt, slice_index, take, vec_len};
+ghost use Rattle.llsc_base.specs.Memory.{number_of};
+ghost use Rattle.row_bytes.specs.Cell.{cell_at};
+ghost use Rattle.shared_memory.specs.Passes.{marked};
+ghost use Rattle.hst_memory.specs.Memory.{memory_id, memory_origin, pass_home, pass_numbers, pass_seen};
+
+use crate::memory::HstMemory;
+use crate::passes::HstPass;
+use crate::plans::{HstTable, Plan};
+use llsc_base::{Image, MachineSize, Place, Size};
+use std::alloc::{AllocError, Global};
+use std::snapshot::Snapshot;
+
+/// The cell of the first eight bytes.
+fn first_cell(bytes: &[u8]) -> u64
+    requires { 8 ≤ length bytes.now }
+    ensures { result ≡ number_of (take 8 bytes.now) }
+{
+    let place = Place {
+        addr: 0,
+        size: Size::B8,
+    };
+    llsc_base::load(bytes, place)
+}
+
+/// The words of the table at first: so many that are 0, and then the cells that spell these bytes.
+fn first_words(alloc: Global, bytes: &[u8], zeros: usize) -> Result<Vec<u64>, AllocError>
+    requires { zeros ≤ 5000 }
+    ensures long { IfOk result (λ words. vec_len words ≡ zeros + length bytes.now / 8) }
+    ensures zeros { IfOk result (λ words. (i : ℕ) → i < zeros → slice_index words.items i ≡ 0) }
+    ensures cells { IfOk result (λ words. (i : ℕ) → i < length bytes.now / 8 → slice_index words.items (zeros + i) ≡ cell_at bytes.now i) }
+    ensures bytes { (k : ℕ) → slice_index bytes.now k < 256 }
+{
+    let mut words = vec![in alloc; 0; zeros]?;
+    for i in 0..bytes.len() / 8 {
+        words.push(first_cell(&bytes[8 * i..]))?;
+    }
+    Ok(words)
+}
+
+/// The marks of the first numbers.
+fn first_marks(threads: u32) -> [bool; 16]
+    requires { threads ≤ 16 }
+    ensures { (t : ℕ) → marked result t ≡ nat_lt t threads }
+{
+    let mut has = [false; 16];
+    for t in 0..threads as usize {
+        has[t] = true;
+    }
+    has
+}
+
+impl HstMemory {
+    /// A memory of these bytes at first, as many as the machine has, with the pass that holds the numbers of all its threads.
+    ///
+    /// # Errors
+    ///
+    /// `AllocError` is want of memory.
+    pub fn new(
+        alloc: Global,
+        image: &Image,
+        size: &MachineSize,
+    ) -> Result<(HstMemory, HstPass), AllocError>
+        requires { length image.now.bytes ≡ size.now.mem }
+        ensures origin { IfOk result (λ made. memory_origin made.0 ≡ record { size = size.now; first = size.now.threads; bytes = image.now.bytes; spends = false }) }
+        ensures pass { IfOk result (λ made. pass_home made.1 ≡ memory_id made.0) }
+        ensures numbers { IfOk result (λ made. (t : ℕ) → pass_numbers made.1 t ≡ nat_lt t size.now.threads) }
+        ensures seen { IfOk result (λ made. pass_seen made.1 ≡ []) }
+    {
+        let (threads, mem) = (size.threads(), size.mem());
+        prove!(mem % 8 == 0);
+        let words = first_words(alloc, image.bytes(), 1 + size.classes() as usize)?;
+        let plan = Plan {
+            size: *size,
+            image: Snapshot::of(image),
+        };
+        let (table, seat) = HstTable::of_words(alloc, words.as_slice(), &plan)?;
+        let memory = HstMemory { table, size: *size };
+        let pass = HstPass {
+            seat,
+            has: first_marks(threads),
+            number: 0,
+            reserved: None,
+        };
+        Ok((memory, pass))
+    }
+}

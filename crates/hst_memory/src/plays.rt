@@ -1,0 +1,182 @@
+//! What each step tells its caller.
+use crate::hands::HstView;
+use atomic_table::Play;
+use std::marker::{Brand, PhantomData};
+
+/// What a call is about: a call picks it, and the steps that it makes speak of it.
+pub trait Asks {
+    ghost use Rattle.hst_memory.specs.Told.{Ask};
+
+    ghost ask: { Ask };
+}
+
+impl Asks for Brand {
+    ghost use Rattle.hst_memory.specs.Told.{no_ask};
+
+    ghost ask = { no_ask };
+}
+
+/// A load of a cell, as a load of the place.
+pub struct Load<J> {
+    of: PhantomData<J>,
+}
+
+impl<J: Asks> Play<(), HstView> for Load<J> {
+    ghost use Rattle.hst_memory.specs.Told.{loaded};
+
+    ghost then = { loaded J.ask };
+}
+
+/// A load that is no access.
+pub struct Look<J> {
+    of: PhantomData<J>,
+}
+
+impl<J: Asks> Play<(), HstView> for Look<J> {
+    ghost use Rattle.hst_memory.specs.Told.{looked_at};
+
+    ghost then = { looked_at J.ask };
+}
+
+/// A store comes into the shared section.
+pub struct Enter<J> {
+    of: PhantomData<J>,
+}
+
+impl<J: Asks> Play<(), HstView> for Enter<J> {
+    ghost use Rattle.hst_memory.specs.Told.{entered};
+
+    ghost then = { entered J.ask };
+}
+
+/// It begins: its name goes into the tag of its class.
+pub struct Tag<J> {
+    of: PhantomData<J>,
+}
+
+impl<J: Asks> Play<(), HstView> for Tag<J> {
+    ghost use Rattle.hst_memory.specs.Told.{tagged};
+
+    ghost then = { tagged J.ask };
+}
+
+/// It changes the cell.
+pub struct Change<J> {
+    of: PhantomData<J>,
+}
+
+impl<J: Asks> Play<(), HstView> for Change<J> {
+    ghost use Rattle.hst_memory.specs.Told.{changed};
+
+    ghost then = { changed J.ask };
+}
+
+/// It leaves the section.
+pub struct Leave<J> {
+    of: PhantomData<J>,
+}
+
+impl<J: Asks> Play<(), HstView> for Leave<J> {
+    ghost use Rattle.hst_memory.specs.Told.{left_shared};
+
+    ghost then = { left_shared J.ask };
+}
+
+/// A thread comes in alone.
+pub struct EnterAlone<J> {
+    of: PhantomData<J>,
+}
+
+impl<J: Asks> Play<(), HstView> for EnterAlone<J> {
+    ghost use Rattle.hst_memory.specs.Told.{entered_alone};
+
+    ghost then = { entered_alone J.ask };
+}
+
+/// Its load-exclusive begins: its name goes into the tag of the class.
+pub struct Watch<J> {
+    of: PhantomData<J>,
+}
+
+impl<J: Asks> Play<(), HstView> for Watch<J> {
+    ghost use Rattle.hst_memory.specs.Told.{watched};
+
+    ghost then = { watched J.ask };
+}
+
+/// And loads the cell.
+pub struct ReadEx<J> {
+    of: PhantomData<J>,
+}
+
+impl<J: Asks> Play<(), HstView> for ReadEx<J> {
+    ghost use Rattle.hst_memory.specs.Told.{read_ex};
+
+    ghost then = { read_ex J.ask };
+}
+
+/// It leaves.
+pub struct LeaveAlone<J> {
+    of: PhantomData<J>,
+}
+
+impl<J: Asks> Play<(), HstView> for LeaveAlone<J> {
+    ghost use Rattle.hst_memory.specs.Told.{left_alone};
+
+    ghost then = { left_alone J.ask };
+}
+
+/// Its store-exclusive is decided by the tag.
+pub struct Test<J> {
+    of: PhantomData<J>,
+}
+
+impl<J: Asks> Play<(), HstView> for Test<J> {
+    ghost use Rattle.hst_memory.specs.Told.{tested};
+
+    ghost then = { tested J.ask };
+}
+
+/// It changes the cell.
+pub struct ChangeAlone<J> {
+    of: PhantomData<J>,
+}
+
+impl<J: Asks> Play<(), HstView> for ChangeAlone<J> {
+    ghost use Rattle.hst_memory.specs.Told.{changed_alone};
+
+    ghost then = { changed_alone J.ask };
+}
+
+/// And leaves.
+pub struct LeaveWritten<J> {
+    of: PhantomData<J>,
+}
+
+impl<J: Asks> Play<(), HstView> for LeaveWritten<J> {
+    ghost use Rattle.hst_memory.specs.Told.{left_written};
+
+    ghost then = { left_written J.ask };
+}
+
+/// A store-exclusive fails for want of a reservation.
+pub struct Absent<J> {
+    of: PhantomData<J>,
+}
+
+impl<J: Asks> Play<(), HstView> for Absent<J> {
+    ghost use Rattle.hst_memory.specs.Told.{absent};
+
+    ghost then = { absent J.ask };
+}
+
+/// CLREX.
+pub struct Clear<J> {
+    of: PhantomData<J>,
+}
+
+impl<J: Asks> Play<(), HstView> for Clear<J> {
+    ghost use Rattle.hst_memory.specs.Told.{cleared};
+
+    ghost then = { cleared J.ask };
+}

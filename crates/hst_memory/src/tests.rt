@@ -1,0 +1,456 @@
+//! Accesses of two threads, and of threads beside each other.
+ghost use Rattle.std.specs.Prelude.{◌≡◌, ◌+◌, ◌^◌, ◌<◌, ◌≤◌, ℕ, IfOk, IsTrue, length};
+ghost use Rattle.llsc_base.specs.Memory.{is_aligned, size_bytes};
+ghost use Rattle.hst_memory.specs.Worked.{AreFour, AreWords, IsPassOf, IsSmall, MayCount, MayCountBoth};
+ghost use Rattle.hst_memory.specs.Memory.{pass_home, pass_numbers};
+ghost use Rattle.shared_memory.specs.Seen.{IsSingle};
+
+use super::*;
+use llsc_base::{Image, MachineSize, Place, Size};
+use shared_memory::SharedMemory;
+use std::alloc::Global;
+use std::sync::Wait;
+use std::test::Fail;
+use std::thread::{Threads, join};
+
+/// What a thread does, with what memory is to answer.
+#[derive(Clone, Copy)]
+enum Deed {
+    Load(u64),
+    LoadEx(u64),
+    Store(u64),
+    StoreEx(u64, bool),
+    Clear,
+}
+
+/// An access of one of two threads.
+#[derive(Clone, Copy)]
+struct Case {
+    other: bool,
+    place: Place,
+    deed: Deed,
+}
+
+/// Whether the place may be accessed, and the value is one of its size.
+fn may(place: Place, value: u64) -> bool
+    ensures { IsTrue result → IsTrue (is_aligned place) × (place.addr + size_bytes place.size ≤ 65536) × (value < 256 ^ size_bytes place.size) }
+{
+    let inside = place.addr < 65_536 && place.addr + place.size.bytes() <= 65_536;
+    let fits = match place.size {
+        Size::B1 => value < 0x100,
+        Size::B2 => value < 0x1_0000,
+        Size::B4 => value < 0x1_0000_0000,
+        Size::B8 => true,
+    };
+    place.is_aligned() && inside && fits
+}
+
+/// Makes an access, and says whether memory answers as it is to.
+fn answers<R: Wait>(
+    rt: &R,
+    memory: &HstMemory,
+    pass: &mut HstPass,
+    place: Place,
+    deed: Deed,
+) -> bool
+    requires small { IsSmall memory.now }
+    requires pass { (t : ℕ) × IsPassOf memory.now t pass.old × (t < 2) }
+    ensures pass { (t : ℕ) → IsPassOf memory.now t pass.old → IsPassOf memory.now t pass.new }
+{
+    let value = match deed {
+        Deed::Store(value) | Deed::StoreEx(value, _) => value,
+        _ => 0,
+    };
+    if !may(place, value) {
+        return false;
+    }
+    match deed {
+        Deed::Load(answer) => memory.load(pass, place) == answer,
+        Deed::LoadEx(answer) => memory.load_ex(rt, pass, place) == answer,
+        Deed::Store(_) => memory.store(rt, pass, place, value).is_ok(),
+        Deed::StoreEx(_, answer) => memory.store_ex(rt, pass, place, value) == answer,
+        Deed::Clear => {
+            memory.clear_ex(pass);
+            true
+        }
+    }
+}
+
+/// The same of one of two passes.
+fn answers_of_two<R: Wait>(
+    rt: &R,
+    memory: &HstMemory,
+    one: &mut HstPass,
+    other: &mut HstPass,
+    case: Case,
+) -> bool
+    requires small { IsSmall memory.now }
+    requires passes { IsPassOf memory.now 0 one.old × IsPassOf memory.now 1 other.old }
+    ensures { IsPassOf memory.now 0 one.new × IsPassOf memory.now 1 other.new }
+{
+    if case.other {
+        return answers(rt, memory, other, case.place, case.deed);
+    }
+    answers(rt, memory, one, case.place, case.deed)
+}
+
+/// A memory of zeros, of so many classes and this granule, and the passes of its two threads.
+fn two(alloc: Global, classes: u64, granule: u64) -> Result<(HstMemory, HstPass, HstPass), Fail>
+    ensures { IfOk result (λ t. IsSmall t.0 × IsPassOf t.0 0 t.1 × IsPassOf t.0 1 t.2) }
+{
+    let size = MachineSize::new(65_536, 2, classes, 1)?.with_granule(granule)?;
+    let bytes = vec![in alloc; 0; 65_536]?;
+    let image = Image::of(bytes, Vec::new(alloc), 0);
+    let (memory, mut one) = HstMemory::new(alloc, &image, &size)?;
+    let other = memory.split(&mut one, 1);
+    Ok((memory, one, other))
+}
+
+/// Whether memory answers all accesses as it is to, one after the other, and what one thread loads then.
+fn all_answer<R: Wait>(
+    rt: &R,
+    alloc: Global,
+    classes: u64,
+    granule: u64,
+    cases: &[Case],
+) -> Result<bool, Fail> {
+    let (memory, mut one, mut other) = two(alloc, classes, granule)?;
+    for case in cases {
+        if !answers_of_two(rt, &memory, &mut one, &mut other, *case) {
+            return Ok(false);
+        }
+    }
+    Ok(true)
+}
+
+const X: Place = Place {
+    addr: 0x2000,
+    size: Size::B4,
+};
+
+/// An access of thread 0 to `X`.
+fn at_x(deed: Deed) -> Case {
+    Case {
+        other: false,
+        place: X,
+        deed,
+    }
+}
+
+/// An access of thread 1.
+fn beside(addr: u32, size: Size, deed: Deed) -> Case {
+    Case {
+        other: true,
+        place: Place { addr, size },
+        deed,
+    }
+}
+
+#[test]
+fn a_change_that_is_undone_is_a_change(rt: HostRuntime) -> Result<(), Fail> {
+    let cases = [
+        at_x(Deed::LoadEx(0)),
+        beside(0x2000, Size::B4, Deed::Store(5)),
+        beside(0x2000, Size::B4, Deed::Store(0)),
+        at_x(Deed::StoreEx(9, false)),
+        at_x(Deed::Load(0)),
+    ];
+    assert!(rt; all_answer(&rt, rt.alloc(), 4096, 0, &cases)?);
+    Ok(())
+}
+
+/// An access of thread 0.
+fn of_one(addr: u32, size: Size, deed: Deed) -> Case {
+    Case {
+        other: false,
+        place: Place { addr, size },
+        deed,
+    }
+}
+
+#[test]
+fn a_store_disturbs_its_row_and_class(rt: HostRuntime) -> Result<(), Fail> {
+    // The classes, what thread 1 does after a load-exclusive of thread 0, and whether thread 0 succeeds then.
+    let cases = [
+        (4096, 0x2007, Size::B1, false),
+        (4096, 0x2008, Size::B8, true),
+        (1, 0x3000, Size::B4, false),
+        (4096, 0x3000, Size::B4, true),
+    ];
+    for (classes, addr, size, succeeds) in cases {
+        let accesses = [
+            at_x(Deed::LoadEx(0)),
+            beside(addr, size, Deed::Store(1)),
+            at_x(Deed::StoreEx(9, succeeds)),
+        ];
+        assert!(rt; all_answer(&rt, rt.alloc(), classes, 0, &accesses)?);
+    }
+    Ok(())
+}
+
+#[test]
+fn an_own_store_gives_the_reservation_up(rt: HostRuntime) -> Result<(), Fail> {
+    let accesses = [
+        at_x(Deed::LoadEx(0)),
+        beside(0x2000, Size::B4, Deed::Store(4)),
+        of_one(0x2004, Size::B4, Deed::Store(1)),
+        at_x(Deed::StoreEx(9, false)),
+    ];
+    assert!(rt; all_answer(&rt, rt.alloc(), 4096, 0, &accesses)?);
+    Ok(())
+}
+
+#[test]
+fn bytes_of_one_cell_are_kept(rt: HostRuntime) -> Result<(), Fail> {
+    let accesses = [
+        of_one(0x2000, Size::B8, Deed::LoadEx(0)),
+        beside(0x2006, Size::B2, Deed::Store(0xbeef)),
+        of_one(0x2000, Size::B8, Deed::StoreEx(1, false)),
+        of_one(0x2000, Size::B8, Deed::Load(0xbeef_0000_0000_0000)),
+        of_one(0x2004, Size::B4, Deed::Load(0xbeef_0000)),
+        of_one(0x2000, Size::B8, Deed::LoadEx(0xbeef_0000_0000_0000)),
+        of_one(0x2000, Size::B8, Deed::StoreEx(1, true)),
+        of_one(0x2000, Size::B8, Deed::Load(1)),
+    ];
+    assert!(rt; all_answer(&rt, rt.alloc(), 4096, 0, &accesses)?);
+    Ok(())
+}
+
+#[test]
+fn a_load_exclusive_of_another_disturbs(rt: HostRuntime) -> Result<(), Fail> {
+    let accesses = [
+        at_x(Deed::LoadEx(0)),
+        beside(0x2000, Size::B4, Deed::LoadEx(0)),
+        beside(0x2000, Size::B4, Deed::Load(0)),
+        beside(0x2000, Size::B4, Deed::Clear),
+        at_x(Deed::StoreEx(9, false)),
+    ];
+    assert!(rt; all_answer(&rt, rt.alloc(), 4096, 0, &accesses)?);
+    Ok(())
+}
+
+#[test]
+fn rows_are_as_wide_as_the_granule(rt: HostRuntime) -> Result<(), Fail> {
+    // The granule, where thread 1 stores after a load-exclusive of thread 0, and whether thread 0 succeeds then.
+    for (granule, addr, succeeds) in [(1, 0x2008, false), (1, 0x2010, true)] {
+        let accesses = [
+            at_x(Deed::LoadEx(0)),
+            beside(addr, Size::B8, Deed::Store(1)),
+            at_x(Deed::StoreEx(9, succeeds)),
+        ];
+        assert!(rt; all_answer(&rt, rt.alloc(), 4096, granule, &accesses)?);
+    }
+    // And whether a store-exclusive to the next cell finds the reservation.
+    for (granule, succeeds) in [(1, true), (0, false)] {
+        let accesses = [
+            at_x(Deed::LoadEx(0)),
+            of_one(0x2008, Size::B4, Deed::StoreEx(9, succeeds)),
+        ];
+        assert!(rt; all_answer(&rt, rt.alloc(), 4096, granule, &accesses)?);
+    }
+    Ok(())
+}
+
+/// Stores a value by one thread, loads it by the other, and says whether it was stored, what was loaded, and the cell at
+/// closing.
+fn handed_over<R: Wait>(rt: &R, alloc: Global) -> Result<(bool, u64, u64), Fail> {
+    let (memory, mut one, mut other) = two(alloc, 4096, 0)?;
+    let stored = memory.store(rt, &mut one, X, 5).is_ok();
+    let loaded = memory.load(&mut other, X);
+    memory.join(&mut one, other);
+    let (rows, story) = memory.close(one);
+    drop(story);
+    Ok((stored, loaded, rows.row(1024)))
+}
+
+#[test]
+fn what_one_thread_stored_another_loads(rt: HostRuntime) -> Result<(), Fail> {
+    assert_eq!(rt; handed_over(&rt, rt.alloc())?, (true, 5, 5));
+    Ok(())
+}
+
+/// Stores 1 to a word, and loads another.
+fn store_then_load<M: SharedMemory, R: Wait>(
+    rt: &R,
+    memory: &M,
+    mut pass: M::Pass,
+    mine: Place,
+    yours: Place,
+) -> (u64, M::Pass)
+    requires memory { M.home pass ≡ M.id memory.now }
+    requires single { (t : ℕ) × IsSingle t (M.numbers pass) × (t < (M.origin memory.now).first) }
+    requires size { (M.origin memory.now).size.mem ≡ 65536 }
+    requires mine { IsTrue (is_aligned mine) × (mine.addr + size_bytes mine.size ≤ 65536) }
+    requires yours { IsTrue (is_aligned yours) × (yours.addr + size_bytes yours.size ≤ 65536) }
+    ensures memory { M.home result.1 ≡ M.home pass }
+    ensures numbers { M.numbers result.1 ≡ M.numbers pass }
+{
+    match memory.store(rt, &mut pass, mine, 1) {
+        Ok(()) => (memory.load(&mut pass, yours), pass),
+        Err(_) => (0, pass),
+    }
+}
+
+/// A double word, by its number.
+fn double_word(k: u32) -> Place
+    requires { k < 8192 }
+    ensures aligned { IsTrue (is_aligned result) }
+    ensures inside { result.addr + size_bytes result.size ≤ 65536 }
+    ensures wide { result.size ≡ Size.B8 }
+{
+    Place {
+        addr: 8 * k,
+        size: Size::B8,
+    }
+}
+
+/// Each of two threads stores to its own word and loads the other's, beside each other: how many of the loads gave 1.
+fn crossed<R: Threads + Wait + Sync>(
+    rt: &R,
+    memory: &HstMemory,
+    one: HstPass,
+    other: HstPass,
+    k: u32,
+) -> (u64, HstPass, HstPass)
+    requires small { IsSmall memory.now }
+    requires passes { IsPassOf memory.now 0 one × IsPassOf memory.now 1 other }
+    requires word { k < 4096 }
+    ensures { IsPassOf memory.now 0 result.1 × IsPassOf memory.now 1 result.2 }
+{
+    let (x, y) = (double_word(2 * k), double_word(2 * k + 1));
+    let ((a, one), (b, other)) = join(
+        rt,
+        move ||
+            requires { IsSmall memory.now × IsPassOf memory.now 0 one × AreWords x y }
+            ensures { IsPassOf memory.entry.now 0 result.1 }
+        { store_then_load(rt, memory, one, x, y) },
+        move ||
+            requires { IsSmall memory.now × IsPassOf memory.now 1 other × AreWords y x }
+            ensures { IsPassOf memory.entry.now 1 result.1 }
+        { store_then_load(rt, memory, other, y, x) },
+    );
+    (a.wrapping_add(b), one, other)
+}
+
+#[test]
+fn one_of_two_sees_the_other(rt: HostRuntime) -> Result<(), Fail> {
+    let (memory, mut one, mut other) = two(rt.alloc(), 4096, 0)?;
+    for k in 0..1000u32 {
+        let (seen, next_one, next_other) = crossed(&rt, &memory, one, other, k);
+        one = next_one;
+        other = next_other;
+        assert!(rt; seen == 1 || seen == 2);
+    }
+    Ok(())
+}
+
+/// How often a thread has added 1 to a word by exclusive accesses, beside plain accesses to a word of its own, each of which
+/// is to load what was stored; `None` where one didn't.
+fn count_up<M: SharedMemory, R: Wait>(
+    rt: &R,
+    memory: &M,
+    mut pass: M::Pass,
+    own: Place,
+    rounds: u32,
+) -> (Option<u64>, M::Pass)
+    requires memory { M.home pass ≡ M.id memory.now }
+    requires single { (t : ℕ) × IsSingle t (M.numbers pass) × (t < (M.origin memory.now).first) }
+    requires size { (M.origin memory.now).size.mem ≡ 65536 }
+    requires own { IsTrue (is_aligned own) × (own.addr + size_bytes own.size ≤ 65536) }
+    requires wide { own.size ≡ Size.B8 }
+    ensures memory { M.home result.1 ≡ M.home pass }
+    ensures numbers { M.numbers result.1 ≡ M.numbers pass }
+{
+    let shared = double_word(1024);
+    let mut added = 0u64;
+    let mut right = true;
+    for round in 0..rounds {
+        let stored = memory.store(rt, &mut pass, own, u64::from(round)).is_ok();
+        right = right && stored && memory.load(&mut pass, own) == u64::from(round);
+        let seen = memory.load_ex(rt, &mut pass, shared);
+        if memory.store_ex(rt, &mut pass, shared, seen.wrapping_add(1)) {
+            added = added.wrapping_add(1);
+        }
+        memory.clear_ex(&mut pass);
+    }
+    (if right { Some(added) } else { None }, pass)
+}
+
+/// A memory of zeros for four threads, and their passes.
+fn four(alloc: Global) -> Result<(HstMemory, (HstPass, HstPass), (HstPass, HstPass)), Fail>
+    ensures { IfOk result (λ t. AreFour t.0 t.1.0 t.1.1 t.2.0 t.2.1) }
+{
+    let size = MachineSize::new(65_536, 4, 4096, 1)?;
+    let bytes = vec![in alloc; 0; 65_536]?;
+    let image = Image::of(bytes, Vec::new(alloc), 0);
+    let (memory, mut zero) = HstMemory::new(alloc, &image, &size)?;
+    let one = memory.split(&mut zero, 1);
+    let two = memory.split(&mut zero, 2);
+    let three = memory.split(&mut zero, 3);
+    Ok((memory, (zero, one), (two, three)))
+}
+
+/// Two threads count up beside each other: how often they added 1 in all, and the pass of the first.
+fn count_both<R: Threads + Wait + Sync>(
+    rt: &R,
+    memory: &HstMemory,
+    passes: (HstPass, HstPass),
+    own: u32,
+    rounds: u32,
+) -> (Option<u64>, HstPass)
+    requires passes { (t : ℕ) × MayCountBoth memory.now t passes.0 passes.1 }
+    requires own { own < 100 }
+    ensures { (pass_home result.1 ≡ pass_home passes.0) × (pass_numbers result.1 ≡ pass_numbers passes.0) }
+{
+    let (first, second) = passes;
+    let (x, y) = (double_word(16 * own), double_word(16 * own + 1));
+    let ((a, first), (b, second)) = join(
+        rt,
+        move ||
+            requires { MayCount memory.now first x }
+            ensures { (pass_home result.1 ≡ pass_home first) × (pass_numbers result.1 ≡ pass_numbers first) }
+        { count_up(rt, memory, first, x, rounds) },
+        move ||
+            requires { MayCount memory.now second y }
+        { count_up(rt, memory, second, y, rounds) },
+    );
+    drop(second);
+    match (a, b) {
+        (Some(a), Some(b)) => (Some(a.wrapping_add(b)), first),
+        _ => (None, first),
+    }
+}
+
+/// Four threads count up beside each other: how often they added 1 in all, and what the word has then.
+fn count_all<R: Threads + Wait + Sync>(
+    rt: &R,
+    alloc: Global,
+    rounds: u32,
+) -> Result<(Option<u64>, u64), Fail> {
+    let (memory, left, right) = four(alloc)?;
+    let shared = &memory;
+    let ((a, mut zero), (b, two)) = join(
+        rt,
+        move ||
+            requires { MayCountBoth shared.now 0 left.0 left.1 }
+            ensures { (pass_home result.1 ≡ pass_home left.0) × (pass_numbers result.1 ≡ pass_numbers left.0) }
+        { count_both(rt, shared, left, 0, rounds) },
+        move ||
+            requires { MayCountBoth shared.now 2 right.0 right.1 }
+        { count_both(rt, shared, right, 1, rounds) },
+    );
+    drop(two);
+    let value = memory.load(&mut zero, double_word(1024));
+    match (a, b) {
+        (Some(a), Some(b)) => Ok((Some(a.wrapping_add(b)), value)),
+        _ => Ok((None, value)),
+    }
+}
+
+#[test]
+fn four_threads_lose_no_count(rt: HostRuntime) -> Result<(), Fail> {
+    let (added, value) = count_all(&rt, rt.alloc(), 20_000)?;
+    assert_eq!(rt; added, Some(value));
+    assert!(rt; value > 0);
+    Ok(())
+}

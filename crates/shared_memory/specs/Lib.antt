@@ -1,0 +1,4 @@
+pub mod Origin
+pub mod Seen
+pub mod Passes
+pub mod Rule

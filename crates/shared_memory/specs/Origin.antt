@@ -1,0 +1,19 @@
+-- What a shared memory was made with, and which histories are legal of it: this project's own.
+use Rattle.std.specs.Prelude.{◌≡◌, ℕ, ◌≤◌, Bool, List, []}
+use Rattle.llsc_base.specs.Sizes.{Numbers}
+use Rattle.history.specs.Parts.{entries_of}
+use Rattle.history.specs.Legal.{IsLegal}
+use Rattle.history.specs.declared.entry.Entry.{Entry}
+
+-- the machine's numbers, how many threads begin by themselves, the bytes of memory at first, and whether a store may be
+-- refused because its class has had all of its writes
+pub record Origin : Type 0 where
+  pub size : Numbers
+  pub first : ℕ
+  pub bytes : List ℕ
+  pub spends : Bool
+
+-- a history of such a memory: it is legal, and no thread that the machine doesn't have stands in it
+pub record IsLegalFrom (origin : Origin) (history : List Entry) : Type 0 where
+  pub legal : IsLegal origin.size origin.bytes history
+  pub known : (thread : ℕ) → origin.size.threads ≤ thread → entries_of thread history ≡ []

@@ -1,0 +1,67 @@
+//! Memory as it is left when it is closed.
+ghost use Rattle.std.specs.Prelude.{◌≡◌, ◌+◌, ◌<◌, ◌≤◌, [], drop, length, slice_index, take};
+ghost use Rattle.std.specs.Mem.Slots.{IsFull, slots_items, slots_len};
+
+use atomic_table::Closed;
+use std::alloc::Global;
+use std::marker::Model;
+
+/// The cells of a memory that was closed, eight bytes each, from address 0 up. A contract sees them as a list.
+pub struct Rows {
+    closed: Closed<(), Global>,
+    first: usize,
+    count: u32,
+}
+
+impl Model for Rows {
+    ghost use Rattle.std.specs.Prelude.{ℕ, List, drop, take, ◌+◌, ◌≤◌, ◌≡◌};
+    ghost use Rattle.std.specs.Mem.Slots.{IsFull, slots_items, slots_len};
+
+    ghost Value = { List ℕ };
+
+    ghost view = { λ r. take r.count (drop r.first (slots_items r.closed.words)) };
+
+    ghost invariant = { λ r. IsFull r.closed.words × (r.first + r.count ≤ slots_len r.closed.words) × (slots_len r.closed.slots ≡ 0) };
+}
+
+impl Rows {
+    /// So many words of a table that was closed, from one on.
+    pub fn new(closed: Closed<(), Global>, first: usize, count: u32) -> Rows
+        requires full { IsFull closed.words }
+        requires within { first + count ≤ slots_len closed.words }
+        requires none { slots_len closed.slots ≡ 0 }
+        ensures { result ≡ take count (drop first (slots_items closed.words)) }
+    {
+        Rows {
+            closed,
+            first,
+            count,
+        }
+    }
+
+    /// How many cells there are.
+    pub fn count(&self) -> u32
+        ensures { result ≡ length self.now }
+    {
+        self.count
+    }
+
+    /// The cell of this index, from 0 up to the count.
+    pub fn row(&self, i: u32) -> u64
+        requires { i < length self.now }
+        ensures { result ≡ slice_index self.now i }
+    {
+        self.closed.word(self.first + i as usize)
+    }
+}
+
+impl Drop for Rows {
+    fn drop(self) {
+        let Self {
+            closed,
+            first: _,
+            count: _,
+        } = self;
+        closed.free();
+    }
+}
