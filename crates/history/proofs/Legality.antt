@@ -1,11 +1,12 @@
 -- A history is legal exactly where each of its entries may come as things stand.
-use Rattle.std.proofs.Common.{Some, ◌≡◌, ◌≢◌, ℕ, ◌*◌, ◌/◌, ◌%◌, ◌<◌, true, false, List, [], ◌∷◌, ◌++◌, Option, None, length, nat_eq, slice_index, refl, sym, ap, subst, ◌∙◌, inl, inr, arith}
+use Rattle.std.proofs.Common.{Some, ◌≡◌, ◌≢◌, ℕ, ◌*◌, ◌/◌, true, false, List, [], ◌∷◌, ◌++◌, Option, None, length, nat_eq, refl, sym, ap, subst, ◌∙◌, inl, inr, arith}
 use Rattle.std.proofs.lemmas.List.{length-replicate}
 use Rattle.std.proofs.lemmas.Bool.{cases_Bool, eq-eqb, eqb-true, eqb-false}
 use Rattle.llsc_base.specs.Memory.{cell_of, row_of, value_at}
 use Rattle.llsc_base.specs.Sizes.{Numbers}
 use Rattle.llsc_base.specs.declared.access.Place.{Place}
 use Rattle.row_bytes.specs.Cell.{value_in_cell}
+use Rattle.history.specs.Memory.{IsMemory}
 use Rattle.history.specs.Entry.{thread_of}
 use Rattle.history.specs.Parts.{entries_of}
 use Rattle.history.specs.Monitor.{Monitor, at_rest_by, marked_row, monitor_after}
@@ -27,12 +28,6 @@ use Rattle.history.proofs.Flags.{overtaken-standing, passed-standing, writes_in_
 use Rattle.history.proofs.CellLaws.{CellsAre, CellsAre-standing, value_at-CellsAre}
 use Rattle.history.proofs.Stages.{AreStaged, AreStaged-MayFollow, MayJoin-stage, joined-stage, last_stage, last_stage-standing, stage_after, stage_before}
 use Rattle.history.proofs.Operations.{AreFinished-AreStaged, AreOperations-AreStaged, AreStaged-AreOperations, last_stage-AreFinished}
-
--- memory of a machine's size, in whole cells of bytes
-pub record IsMemory (size : Numbers) (bytes : List ℕ) : Type 0 where
-  pub sized : length bytes ≡ size.mem
-  pub whole : size.mem % 8 ≡ 0
-  pub small : (k : ℕ) → slice_index bytes k < 256
 
 -- ---- the monitor and how things stand
 

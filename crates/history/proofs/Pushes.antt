@@ -2,6 +2,7 @@
 use Rattle.std.proofs.Common.{◌≡◌, ◌≢◌, ℕ, true, false, List, [], ◌∷◌, ◌++◌, refl, ap, ◌∙◌, append-nil}
 use Rattle.std.proofs.lemmas.Bool.{eq-eqb, ne_eqb}
 use Rattle.llsc_base.specs.Sizes.{Numbers}
+use Rattle.history.specs.Memory.{IsMemory}
 use Rattle.history.specs.Entry.{is_access, thread_of}
 use Rattle.history.specs.Parts.{accesses_of, entries_of}
 use Rattle.history.specs.Legal.{IsLegal}
@@ -9,7 +10,7 @@ use Rattle.history.specs.Standing.{standing_after, standing_of}
 use Rattle.history.specs.Follow.{MayJoin}
 use Rattle.history.specs.declared.entry.Entry.{Entry}
 use Rattle.history.proofs.Appends.{MayFollow-last, MayFollow-push, accesses_of-append, entries_of-append}
-use Rattle.history.proofs.Legality.{IsLegal-MayFollow, IsMemory, MayFollow-IsLegal}
+use Rattle.history.proofs.Legality.{IsLegal-MayFollow, MayFollow-IsLegal}
 
 -- one more access
 pub accesses_of-access : (history : List Entry) (e : Entry) → is_access e ≡ true → accesses_of (history ++ e ∷ []) ≡ accesses_of history ++ e ∷ []

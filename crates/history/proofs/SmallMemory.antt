@@ -20,9 +20,9 @@ sound_next_row t known = record { known = known; aligned = refl; inside = lit≤
 pub plain : (mark : Option ℕ) (row : ℕ) → false ≡ true → mark ≡ Some row
 plain mark row h = absurd (let f : ⊥ = cc in f)
 
--- what is marked nowhere isn't marked on a row
-pub nowhere : (row : ℕ) (mark : Option ℕ) → mark ≡ None → mark ≡ Some row → ⊥
-nowhere row mark none some = let h : None ≡ Some row = sym none ∙ some in cc
+-- what is unmarked isn't marked on a row
+pub unmarked : (row : ℕ) (mark : Option ℕ) → mark ≡ None → mark ≡ Some row → ⊥
+unmarked row mark none some = let h : None ≡ Some row = sym none ∙ some in cc
 
 -- two numbers that the test tells apart
 pub apart : (m n : ℕ) → (m == n) ≡ false → m ≡ n → ⊥

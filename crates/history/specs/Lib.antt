@@ -1,6 +1,7 @@
 pub mod Entry
 pub mod Parts
 pub mod Accesses
+pub mod Memory
 pub mod Monitor
 pub mod Made
 pub mod ArmLegal

@@ -10,8 +10,8 @@ ghost use Rattle.history.specs.Monitor.{IsAsLarge, accessed, at_rest, at_rest_by
 ghost use Rattle.history.specs.declared.entry.Cause.{Cause};
 
 use crate::entry::{Access, Deed, Entry};
-use llsc_base::{MachineSize, Place, Size};
-use row_bytes::{put, take};
+use llsc_base::{MachineSize, Place};
+use row_bytes::{first_cell, put, take};
 use std::alloc::{AllocError, Global};
 use std::marker::Model;
 
@@ -221,18 +221,6 @@ fn cells_of(alloc: Global, bytes: &[u8]) -> Result<Vec<u64>, AllocError>
         cells.push(first_cell(&bytes[8 * i..]))?;
     }
     Ok(cells)
-}
-
-/// The cell of the first eight bytes.
-fn first_cell(bytes: &[u8]) -> u64
-    requires { 8 ≤ length bytes.now }
-    ensures { result ≡ number_of (take 8 bytes.now) }
-{
-    let place = Place {
-        addr: 0,
-        size: Size::B8,
-    };
-    llsc_base::load(bytes, place)
 }
 
 /// The value of a place in the memory that cells make.

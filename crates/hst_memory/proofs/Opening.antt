@@ -2,7 +2,6 @@
 use Rattle.std.proofs.Common.{◌≡◌, ◌+◌, ◌/◌, ◌<◌, ◌≤◌, ℕ, zero, suc, true, false, List, [], length, nat_lt, replicate, slice_index, refl, sym, ◌∙◌, inl, inr, arith}
 use Rattle.std.proofs.lemmas.Bool.{cases_lt, le-ltb, lt-ltb}
 use Rattle.row_bytes.specs.Cell.{cell_at}
-use Rattle.history.proofs.Legality.{IsMemory}
 use Rattle.atomic_table.specs.Table.{opening}
 use Rattle.shared_memory.specs.Passes.{first_view, marked}
 use Rattle.shared_memory.proofs.Closed.{opened}
@@ -12,6 +11,7 @@ use Rattle.hst_memory.specs.declared.plans.Plan.{Plan}
 use Rattle.hst_memory.specs.Hands.{hand}
 use Rattle.hst_memory.specs.Knowledge.{Knows}
 use Rattle.hst_memory.specs.Kept.{KeptBy, words_of}
+use Rattle.history.specs.Memory.{IsMemory}
 use Rattle.history.specs.Standing.{standing_of}
 
 pub opens : (plan : Plan) (words : List ℕ) → IsMemory plan.size plan.image.value.bytes → length words ≡ words_of plan.size

@@ -1,8 +1,8 @@
 -- What holds of the memory and the passes of a test.
-use Rattle.std.specs.Prelude.{◌≡◌, ◌+◌, ◌<◌, ◌≤◌, ℕ, IsTrue}
+use Rattle.std.specs.Prelude.{◌≡◌, ◌+◌, ◌<◌, ◌≤◌, ℕ, IsTrue, length}
 use Rattle.llsc_base.specs.Memory.{is_aligned, size_bytes}
 use Rattle.llsc_base.specs.declared.access.Place.{Place}
-use Rattle.llsc_base.specs.declared.access.Size.TheVariants.{B8}
+use Rattle.history.specs.Monitor.{Monitor}
 use Rattle.shared_memory.specs.Seen.{IsSingle}
 use Rattle.hst_memory.specs.declared.memory.HstMemory.{HstMemory}
 use Rattle.hst_memory.specs.declared.passes.HstPass.{HstPass}
@@ -29,25 +29,26 @@ pub record AreWords (one other : Place) : Type 0 where
 -- a machine of four threads, and their passes
 pub record AreFour (memory : HstMemory) (zero one two three : HstPass) : Type 0 where
   pub mem : (memory_origin memory).size.mem ≡ 65536
+  pub threads : (memory_origin memory).size.threads ≡ 4
   pub first : (memory_origin memory).first ≡ 4
   pub has_zero : IsPassOf memory 0 zero
   pub has_one : IsPassOf memory 1 one
   pub has_two : IsPassOf memory 2 two
   pub has_three : IsPassOf memory 3 three
 
--- a pass may count up beside a double word of its own
-pub record MayCount (memory : HstMemory) (pass : HstPass) (own : Place) : Type 0 where
+-- a pass of one thread of such a machine may make accesses
+pub record MayLog (memory : HstMemory) (thread : ℕ) (pass : HstPass) : Type 0 where
   pub mem : (memory_origin memory).size.mem ≡ 65536
-  pub home_is : pass_home pass ≡ memory_id memory
-  pub single : (t : ℕ) × IsSingle t (pass_numbers pass) × (t < (memory_origin memory).first)
-  pub aligned : IsTrue (is_aligned own)
-  pub inside : own.addr + size_bytes own.size ≤ 65536
-  pub wide : own.size ≡ B8
+  pub first : (memory_origin memory).first ≡ 4
+  pub below : thread < 4
+  pub has : IsPassOf memory thread pass
 
--- two passes of threads one behind the other may count up
-pub record MayCountBoth (memory : HstMemory) (t : ℕ) (first second : HstPass) : Type 0 where
-  pub mem : (memory_origin memory).size.mem ≡ 65536
-  pub threads : (memory_origin memory).first ≡ 4
-  pub below : t < 3
-  pub has_first : IsPassOf memory t first
-  pub has_second : IsPassOf memory (t + 1) second
+-- and two passes, of one thread and the next
+pub record MayLogBoth (memory : HstMemory) (thread : ℕ) (first second : HstPass) : Type 0 where
+  pub has_first : MayLog memory thread first
+  pub has_second : MayLog memory (thread + 1) second
+
+-- Arm's memory and monitors for such a machine
+pub record IsOfFour (monitor : Monitor) : Type 0 where
+  pub bytes : length monitor.memory ≡ 65536
+  pub threads : length monitor.marks ≡ 4

@@ -8,21 +8,10 @@ ghost use Rattle.hst_memory.specs.Memory.{memory_id, memory_origin, pass_home, p
 use crate::memory::HstMemory;
 use crate::passes::HstPass;
 use crate::plans::{HstTable, Plan};
-use llsc_base::{Image, MachineSize, Place, Size};
+use llsc_base::{Image, MachineSize};
+use row_bytes::first_cell;
 use std::alloc::{AllocError, Global};
 use std::snapshot::Snapshot;
-
-/// The cell of the first eight bytes.
-fn first_cell(bytes: &[u8]) -> u64
-    requires { 8 ≤ length bytes.now }
-    ensures { result ≡ number_of (take 8 bytes.now) }
-{
-    let place = Place {
-        addr: 0,
-        size: Size::B8,
-    };
-    llsc_base::load(bytes, place)
-}
 
 /// The words of the table at first: so many that are 0, and then the cells that spell these bytes.
 fn first_words(alloc: Global, bytes: &[u8], zeros: usize) -> Result<Vec<u64>, AllocError>

@@ -53,22 +53,20 @@ impl HstMemory {
 
     /// The word of the tag of the class of a row.
     #[inline]
-    #[tactic(auto, unfolding(llsc_base::specs::Memory::class_of))]
     fn tag_word(&self, row: u32) -> usize
         ensures { result ≡ tag_word (class_of self.now.table.shared.key.size.classes row) }
     {
-        1 + (row % self.size.classes()) as usize
+        1 + self.size.class_of(row) as usize
     }
 
     /// A reservation after the thread's own store to a place, which ends it where the place falls into its class.
     #[inline]
-    #[tactic(auto, unfolding(llsc_base::specs::Memory::class_of))]
     fn reserved_after(&self, reserved: Option<u32>, place: Place) -> Option<u32>
         ensures { result ≡ row_after self.now.table.shared.key.size place reserved }
     {
         let kept = reserved?;
-        let classes = self.size.classes();
-        if place.row(self.size.granule()) % classes == kept % classes {
+        let row = place.row(self.size.granule());
+        if self.size.class_of(row) == self.size.class_of(kept) {
             return None;
         }
         reserved

@@ -1,9 +1,12 @@
-//! Accesses of two threads, and of threads beside each other.
-ghost use Rattle.std.specs.Prelude.{◌≡◌, ◌+◌, ◌^◌, ◌<◌, ◌≤◌, ℕ, IfOk, IsTrue, length};
+//! Accesses of two threads, one after the other and beside each other.
+ghost use Rattle.std.specs.Prelude.{◌≡◌, ◌+◌, ◌^◌, ◌<◌, ◌≤◌, ℕ, IfOk, IsTrue};
 ghost use Rattle.llsc_base.specs.Memory.{is_aligned, size_bytes};
-ghost use Rattle.hst_memory.specs.Worked.{AreFour, AreWords, IsPassOf, IsSmall, MayCount, MayCountBoth};
-ghost use Rattle.hst_memory.specs.Memory.{pass_home, pass_numbers};
+ghost use Rattle.hst_memory.specs.Worked.{AreWords, IsPassOf, IsSmall};
 ghost use Rattle.shared_memory.specs.Seen.{IsSingle};
+
+mod four_threads;
+mod logged;
+mod order;
 
 use super::*;
 use llsc_base::{Image, MachineSize, Place, Size};
@@ -341,116 +344,5 @@ fn one_of_two_sees_the_other(rt: HostRuntime) -> Result<(), Fail> {
         other = next_other;
         assert!(rt; seen == 1 || seen == 2);
     }
-    Ok(())
-}
-
-/// How often a thread has added 1 to a word by exclusive accesses, beside plain accesses to a word of its own, each of which
-/// is to load what was stored; `None` where one didn't.
-fn count_up<M: SharedMemory, R: Wait>(
-    rt: &R,
-    memory: &M,
-    mut pass: M::Pass,
-    own: Place,
-    rounds: u32,
-) -> (Option<u64>, M::Pass)
-    requires memory { M.home pass ≡ M.id memory.now }
-    requires single { (t : ℕ) × IsSingle t (M.numbers pass) × (t < (M.origin memory.now).first) }
-    requires size { (M.origin memory.now).size.mem ≡ 65536 }
-    requires own { IsTrue (is_aligned own) × (own.addr + size_bytes own.size ≤ 65536) }
-    requires wide { own.size ≡ Size.B8 }
-    ensures memory { M.home result.1 ≡ M.home pass }
-    ensures numbers { M.numbers result.1 ≡ M.numbers pass }
-{
-    let shared = double_word(1024);
-    let mut added = 0u64;
-    let mut right = true;
-    for round in 0..rounds {
-        let stored = memory.store(rt, &mut pass, own, u64::from(round)).is_ok();
-        right = right && stored && memory.load(&mut pass, own) == u64::from(round);
-        let seen = memory.load_ex(rt, &mut pass, shared);
-        if memory.store_ex(rt, &mut pass, shared, seen.wrapping_add(1)) {
-            added = added.wrapping_add(1);
-        }
-        memory.clear_ex(&mut pass);
-    }
-    (if right { Some(added) } else { None }, pass)
-}
-
-/// A memory of zeros for four threads, and their passes.
-fn four(alloc: Global) -> Result<(HstMemory, (HstPass, HstPass), (HstPass, HstPass)), Fail>
-    ensures { IfOk result (λ t. AreFour t.0 t.1.0 t.1.1 t.2.0 t.2.1) }
-{
-    let size = MachineSize::new(65_536, 4, 4096, 1)?;
-    let bytes = vec![in alloc; 0; 65_536]?;
-    let image = Image::of(bytes, Vec::new(alloc), 0);
-    let (memory, mut zero) = HstMemory::new(alloc, &image, &size)?;
-    let one = memory.split(&mut zero, 1);
-    let two = memory.split(&mut zero, 2);
-    let three = memory.split(&mut zero, 3);
-    Ok((memory, (zero, one), (two, three)))
-}
-
-/// Two threads count up beside each other: how often they added 1 in all, and the pass of the first.
-fn count_both<R: Threads + Wait + Sync>(
-    rt: &R,
-    memory: &HstMemory,
-    passes: (HstPass, HstPass),
-    own: u32,
-    rounds: u32,
-) -> (Option<u64>, HstPass)
-    requires passes { (t : ℕ) × MayCountBoth memory.now t passes.0 passes.1 }
-    requires own { own < 100 }
-    ensures { (pass_home result.1 ≡ pass_home passes.0) × (pass_numbers result.1 ≡ pass_numbers passes.0) }
-{
-    let (first, second) = passes;
-    let (x, y) = (double_word(16 * own), double_word(16 * own + 1));
-    let ((a, first), (b, second)) = join(
-        rt,
-        move ||
-            requires { MayCount memory.now first x }
-            ensures { (pass_home result.1 ≡ pass_home first) × (pass_numbers result.1 ≡ pass_numbers first) }
-        { count_up(rt, memory, first, x, rounds) },
-        move ||
-            requires { MayCount memory.now second y }
-        { count_up(rt, memory, second, y, rounds) },
-    );
-    drop(second);
-    match (a, b) {
-        (Some(a), Some(b)) => (Some(a.wrapping_add(b)), first),
-        _ => (None, first),
-    }
-}
-
-/// Four threads count up beside each other: how often they added 1 in all, and what the word has then.
-fn count_all<R: Threads + Wait + Sync>(
-    rt: &R,
-    alloc: Global,
-    rounds: u32,
-) -> Result<(Option<u64>, u64), Fail> {
-    let (memory, left, right) = four(alloc)?;
-    let shared = &memory;
-    let ((a, mut zero), (b, two)) = join(
-        rt,
-        move ||
-            requires { MayCountBoth shared.now 0 left.0 left.1 }
-            ensures { (pass_home result.1 ≡ pass_home left.0) × (pass_numbers result.1 ≡ pass_numbers left.0) }
-        { count_both(rt, shared, left, 0, rounds) },
-        move ||
-            requires { MayCountBoth shared.now 2 right.0 right.1 }
-        { count_both(rt, shared, right, 1, rounds) },
-    );
-    drop(two);
-    let value = memory.load(&mut zero, double_word(1024));
-    match (a, b) {
-        (Some(a), Some(b)) => Ok((Some(a.wrapping_add(b)), value)),
-        _ => Ok((None, value)),
-    }
-}
-
-#[test]
-fn four_threads_lose_no_count(rt: HostRuntime) -> Result<(), Fail> {
-    let (added, value) = count_all(&rt, rt.alloc(), 20_000)?;
-    assert_eq!(rt; added, Some(value));
-    assert!(rt; value > 0);
     Ok(())
 }

@@ -33,6 +33,12 @@ pub struct Place {
 }
 
 impl Place {
+    /// The place of an access that has none, as a CLREX: one byte at address 0.
+    pub const NOWHERE: Place = Place {
+        addr: 0,
+        size: Size::B1,
+    };
+
     /// Whether the address is a multiple of the size.
     #[inline(always)]
     pub fn is_aligned(self) -> bool

@@ -1,5 +1,6 @@
 ghost use Rattle.std.specs.Prelude.{◌≡◌, ◌+◌, ◌*◌, ◌%◌, ◌^◌, ◌≤◌, ◌<◌, MatchResult, IfOk, IfErr, Some, None, IsTrue};
 ghost use Rattle.std.specs.Int.{is_power_of_two};
+ghost use Rattle.llsc_base.specs.Memory.{class_of};
 ghost use Rattle.llsc_base.specs.Sizes.{AreInRange, numbers, room_of, size_fault, size_fault_name};
 
 use std::marker::Model;
@@ -142,6 +143,16 @@ impl MachineSize {
         ensures most { result ≤ 4096 }
     {
         self.classes
+    }
+
+    /// The class of a row: below [`MachineSize::classes`].
+    #[inline]
+    #[tactic(auto, unfolding(crate::specs::Memory::class_of))]
+    pub fn class_of(&self, row: u32) -> u32
+        ensures class { result ≡ class_of self.now.classes row }
+        ensures below { result < self.now.classes }
+    {
+        row % self.classes
     }
 
     /// How many writes a class of rows takes: 1 to 4,611,686,018,427,387,904 (2 to the 62).

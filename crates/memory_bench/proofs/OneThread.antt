@@ -1,5 +1,5 @@
 -- The number of one thread alone.
-use Rattle.std.proofs.Common.{◌≡◌, ℕ, Bool, true, nat_lt, refl, sym, ◌∙◌, arith}
+use Rattle.std.proofs.Common.{◌≡◌, ℕ, Bool, nat_lt, sym, ◌∙◌, arith}
 use Rattle.std.proofs.lemmas.Bool.{ltb-true}
 use Rattle.shared_memory.specs.Seen.{IsSingle}
 

@@ -1,5 +1,5 @@
 -- A memory of one thread, and its pass.
-use Rattle.std.specs.Prelude.{◌≡◌, ℕ}
+use Rattle.std.specs.Prelude.{◌≡◌}
 use Rattle.shared_memory.specs.Seen.{IsSingle}
 use Rattle.hst_memory.specs.declared.memory.HstMemory.{HstMemory}
 use Rattle.hst_memory.specs.declared.passes.HstPass.{HstPass}

@@ -7,8 +7,8 @@
 
 pub mod laws;
 
-ghost use Rattle.std.specs.Prelude.{◌≡◌, ◌*◌, ◌/◌, ◌%◌, ◌-◌, ◌^◌, ◌<◌, IsTrue};
-ghost use Rattle.llsc_base.specs.Memory.{is_aligned, size_bytes};
+ghost use Rattle.std.specs.Prelude.{◌≡◌, ◌*◌, ◌/◌, ◌%◌, ◌-◌, ◌^◌, ◌<◌, ◌≤◌, IsTrue, length, take};
+ghost use Rattle.llsc_base.specs.Memory.{is_aligned, number_of, size_bytes};
 ghost use Rattle.row_bytes.specs.Cell.{cell_with, value_in_cell};
 
 use llsc_base::{Place, Size};
@@ -35,6 +35,18 @@ pub fn put(cell: u64, place: Place, value: u64) -> u64
     let shift = shift(place);
     // The place's bits go out and others come in: nothing is borrowed or carried past them.
     cell - (take(cell, place) << shift) + (value << shift)
+}
+
+/// The cell of the first eight bytes.
+pub fn first_cell(bytes: &[u8]) -> u64
+    requires { 8 ≤ length bytes.now }
+    ensures { result ≡ number_of (take 8 bytes.now) }
+{
+    let place = Place {
+        addr: 0,
+        size: Size::B8,
+    };
+    llsc_base::load(bytes, place)
 }
 
 /// How many bits of a cell lie below a place.

@@ -21,12 +21,6 @@ pub struct Told {
     pub value: u64,
 }
 
-/// The place of a clear.
-const NOWHERE: Place = Place {
-    addr: 0,
-    size: Size::B1,
-};
-
 /// The deed of a word.
 fn deed_of(word: &[u8]) -> Option<Deed>
     ensures { result ≡ deed_of word.now }
@@ -69,6 +63,7 @@ fn size_of(word: &[u8]) -> Option<Size>
 }
 
 /// Whether a value has no more bytes than a size.
+#[inline(always)]
 fn fits(value: u64, size: Size) -> bool
     ensures { result ≡ nat_lt value (256 ^ size_bytes size) }
 {
@@ -81,6 +76,7 @@ fn fits(value: u64, size: Size) -> bool
 }
 
 /// Whether the place is aligned and the value fits.
+#[inline(always)]
 fn is_whole(told: Told) -> bool
     ensures { result ≡ is_whole (told_access told) }
 {
@@ -153,7 +149,7 @@ fn thread_access(thread: u64, bytes: &[u8]) -> Option<(Told, &[u8])>
     let told = Told {
         thread,
         deed: Deed::Clear,
-        place: NOWHERE,
+        place: Place::NOWHERE,
         value: 0,
     };
     Some((told, rest))

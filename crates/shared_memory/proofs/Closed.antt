@@ -5,6 +5,7 @@ use lib.ListN.{get_elem?}
 use Rattle.std.proofs.lemmas.Bool.{cases_lt}
 use Rattle.llsc_base.specs.Sizes.{Numbers}
 use Rattle.row_bytes.specs.Cell.{cell_at}
+use Rattle.history.specs.Memory.{IsMemory}
 use Rattle.history.specs.Parts.{accesses_of, entries_of}
 use Rattle.history.specs.Legal.{IsComplete}
 use Rattle.history.specs.Monitor.{Monitor, at_rest_by, monitor_after}
@@ -12,7 +13,7 @@ use Rattle.history.specs.Standing.{Standing, rests, standing_of}
 use Rattle.history.specs.declared.entry.Entry.{Entry}
 use Rattle.history.proofs.Appends.{monitor_after-accesses_of}
 use Rattle.history.proofs.CellLaws.{CellsAre-standing}
-use Rattle.history.proofs.Legality.{IsArmLegal-MayFollow, IsComplete-rests, IsMemory}
+use Rattle.history.proofs.Legality.{IsArmLegal-MayFollow, IsComplete-rests}
 use Rattle.history.proofs.Marks.{IsAsLarge-monitor_after}
 use Rattle.shared_memory.specs.declared.views.View.{View}
 use Rattle.shared_memory.specs.Seen.{IsFront, IsOneOf}

@@ -1,7 +1,7 @@
 -- Lists of marks, read as tests of numbers.
 use Rattle.std.proofs.Common.{◌≡◌, ◌≢◌, ℕ, zero, suc, ◌<◌, ◌&&◌, ◌||◌, not, Bool, true, false, nat_eq, List, [], ◌∷◌, length, set, refl, ap, sym, ◌∙◌, get_or-set_other, inl, inr, arith}
 use Rattle.std.proofs.lemmas.Bool.{cases_eq, eq-eqb, ne_eqb}
-use Rattle.shared_memory.specs.Seen.{IsOneOf, IsSingle, joint, without}
+use Rattle.shared_memory.specs.Seen.{IsOneOf, IsSingle, all_but, joint}
 use Rattle.shared_memory.specs.Passes.{marked, merged, one_mark}
 
 -- a number at which a mark stands is within
@@ -34,7 +34,7 @@ marked-merged (x ∷ xs) (y ∷ ys) zero = refl
 marked-merged (x ∷ xs) (y ∷ ys) (suc u) = marked-merged xs ys u
 
 -- a mark taken away
-pub marked-taken : (marks : List Bool) (t u : ℕ) → marked (set marks t false) u ≡ without t (marked marks) u
+pub marked-taken : (marks : List Bool) (t u : ℕ) → marked (set marks t false) u ≡ all_but t (marked marks) u
 marked-taken marks t u = elim (cases_eq u t) [
   | inl same ↦ ap (marked (set marks t false)) same ∙ taken-here marks t ∙ sym (ap (λ (b : Bool). marked marks u && not b) (eq-eqb u t same) ∙ and-none (marked marks u))
   | inr other ↦ get_or-set_other marks t u false false other ∙ sym (ap (λ (b : Bool). marked marks u && not b) (ne_eqb u t other) ∙ and-all (marked marks u))

@@ -3,11 +3,11 @@ use Rattle.std.specs.Prelude.{◌≡◌, ℕ, ◌<◌, ◌≤◌, Bool, List, []
 use mathlib.Core.Option.{some}
 use lib.ListN.{get_elem?}
 use Rattle.llsc_base.specs.Sizes.{Numbers}
+use Rattle.history.specs.Memory.{IsMemory}
 use Rattle.history.specs.Parts.{entries_of}
 use Rattle.history.specs.Standing.{Standing, standing_after, standing_of}
 use Rattle.history.specs.Follow.{MayFollow}
 use Rattle.history.specs.declared.entry.Entry.{Entry}
-use Rattle.history.proofs.Legality.{IsMemory}
 use Rattle.shared_memory.specs.declared.views.View.{View}
 use Rattle.shared_memory.specs.Seen.{IsFront, IsOneOf, SaysAllOf}
 use Rattle.shared_memory.specs.Passes.{marked}

@@ -32,8 +32,8 @@ pub record IsSingle (thread : ℕ) (numbers : ℕ → Bool) : Type 0 where
   pub only : (other : ℕ) → IsOneOf other numbers → other ≡ thread
 
 -- all of them but one
-abbrev pub without : ℕ → (ℕ → Bool) → ℕ → Bool
-without thread numbers = λ other. numbers other && not (other == thread)
+abbrev pub all_but : ℕ → (ℕ → Bool) → ℕ → Bool
+all_but thread numbers = λ other. numbers other && not (other == thread)
 
 -- those of both
 abbrev pub joint : (ℕ → Bool) → (ℕ → Bool) → ℕ → Bool

@@ -12,7 +12,7 @@ ghost use Rattle.history.specs.Operation.{clear, entries_of_operation, fail, loa
 ghost use Rattle.history.specs.declared.entry.Cause.{Cause};
 ghost use Rattle.history.specs.declared.entry.Entry.{Entry};
 ghost use Rattle.shared_memory.specs.Origin.{Origin, IsLegalFrom};
-ghost use Rattle.shared_memory.specs.Seen.{IsFront, IsOneOf, IsSingle, IsUsedUp, SaysAllOf, Sees, joint, longer, without};
+ghost use Rattle.shared_memory.specs.Seen.{IsFront, IsOneOf, IsSingle, IsUsedUp, SaysAllOf, Sees, all_but, joint, longer};
 
 use crate::rows::Rows;
 use llsc_base::{MachineSize, Place};
@@ -150,7 +150,7 @@ pub trait SharedMemory: Sync + Drop {
         requires one { IsOneOf t (numbers pass.old) }
         requires several { (other : ℕ) × (other ≢ t) × IsOneOf other (numbers pass.old) }
         requires fresh { (u : ℕ) → IsOneOf u (numbers pass.old) → entries_of u (seen pass.old) ≡ [] }
-        ensures rest { numbers pass.new ≡ without t (numbers pass.old) }
+        ensures rest { numbers pass.new ≡ all_but t (numbers pass.old) }
         ensures single { IsSingle t (numbers result) }
         ensures seen { (seen pass.new ≡ seen pass.old) × (seen result ≡ seen pass.old) }
         ensures memory { (home pass.new ≡ home pass.old) × (home result ≡ home pass.old) };

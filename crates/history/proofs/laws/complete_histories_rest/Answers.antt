@@ -1,5 +1,6 @@
 use Rattle.std.proofs.Math.Facts.{Fits-lt-pow}
-use Rattle.history.proofs.Legality.{IsComplete-rests, IsMemory, MayFollow-IsLegal, rests-IsComplete}
+use Rattle.history.specs.Memory.{IsMemory}
+use Rattle.history.proofs.Legality.{IsComplete-rests, MayFollow-IsLegal, rests-IsComplete}
 use Rattle.history.proofs.laws.complete_histories_rest.Goals as goal
 
 pub returns : goal.returns

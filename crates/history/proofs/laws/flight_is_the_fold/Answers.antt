@@ -1,5 +1,6 @@
 use Rattle.std.proofs.Math.Facts.{Fits-lt-pow}
-use Rattle.history.proofs.Legality.{IsMemory, MayFollow-IsLegal, flight_of-standing}
+use Rattle.history.specs.Memory.{IsMemory}
+use Rattle.history.proofs.Legality.{MayFollow-IsLegal, flight_of-standing}
 use Rattle.history.proofs.laws.flight_is_the_fold.Goals as goal
 
 pub returns : goal.returns

@@ -1,5 +1,6 @@
 use Rattle.std.proofs.Math.Facts.{Fits-lt-pow}
-use Rattle.history.proofs.Legality.{IsLegal-MayFollow, IsMemory, MayFollow-IsLegal}
+use Rattle.history.specs.Memory.{IsMemory}
+use Rattle.history.proofs.Legality.{IsLegal-MayFollow, MayFollow-IsLegal}
 use Rattle.history.proofs.laws.legality_is_the_fold.Goals as goal
 
 pub returns : goal.returns

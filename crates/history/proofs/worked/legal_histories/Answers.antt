@@ -5,7 +5,7 @@ use Rattle.history.specs.Worked.{small_machine, word}
 use Rattle.history.specs.declared.entry.Entry.TheVariants.{Fail}
 use Rattle.history.specs.declared.entry.Cause.TheVariants.{Lost}
 use Rattle.history.proofs.SmallHistories.{pair, pair_operations, quiet_causes, not_begun}
-use Rattle.history.proofs.SmallMemory.{nowhere, sound_word}
+use Rattle.history.proofs.SmallMemory.{sound_word, unmarked}
 use Rattle.history.proofs.worked.legal_histories.Goals as goal
 
 pub returns-clause-legal : goal.returns-clause-legal
@@ -18,7 +18,7 @@ returns-clause-legal c = record {
 
 pub returns-clause-overtaken : goal.returns-clause-overtaken
 unfolding row_of
-returns-clause-overtaken c = λ legal. nowhere 1 _ refl (legal.accesses.1.1.0.1 refl)
+returns-clause-overtaken c = λ legal. unmarked 1 _ refl (legal.accesses.1.1.0.1 refl)
 
 pub returns-clause-not_begun : goal.returns-clause-not_begun
 returns-clause-not_begun c = λ legal.

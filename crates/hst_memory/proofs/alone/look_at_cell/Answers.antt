@@ -1,4 +1,3 @@
-use Rattle.std.proofs.Common.{◌<◌}
 use Rattle.hst_memory.proofs.Ready.{cell_word-below}
 use Rattle.hst_memory.proofs.alone.look_at_cell.Goals as goal
 

@@ -1,4 +1,4 @@
-use Rattle.std.proofs.Common.{rules, ◌≡◌, ℕ, nat_lt, refl, ap, ◌∙◌}
+use Rattle.std.proofs.Common.{rules, ◌≡◌, nat_lt, refl, ap, ◌∙◌}
 use Rattle.llsc_base.specs.Sizes.{Numbers}
 use Rattle.shared_memory.specs.Origin.{Origin}
 use Rattle.hst_memory.specs.Memory.{pass_numbers}

@@ -1,6 +1,6 @@
 use Rattle.std.proofs.Common.{◌≡◌, length, ap, ◌∙◌, arith}
 use Rattle.llsc_base.specs.Images.{Program}
-use Rattle.history.proofs.Legality.{IsMemory}
+use Rattle.history.specs.Memory.{IsMemory}
 use Rattle.hst_memory.proofs.Opening.{opens}
 use Rattle.hst_memory.proofs.memory.HstMemory.new.Goals as goal
 

@@ -1,16 +1,15 @@
 use Rattle.std.proofs.Common.{rules, ◌≡◌, ◌&&◌, ℕ, Bool, true, nat_lt, refl, ap, ◌∙◌, arith}
-use Rattle.llsc_base.specs.Sizes.{Numbers}
 use Rattle.shared_memory.specs.Origin.{Origin}
 use Rattle.hst_memory.specs.Memory.{pass_numbers}
 use Rattle.hst_memory.proofs.TestPasses.{zero-of-four}
-use Rattle.hst_memory.proofs.tests.four.Goals as goal
-use Rattle.hst_memory.proofs.tests.four.Goals.{In_ok-memory}
+use Rattle.hst_memory.proofs.tests.four_threads.four.Goals as goal
+use Rattle.hst_memory.proofs.tests.four_threads.four.Goals.{In_ok-memory}
 
 pub of-image-requires : goal.of-image-requires
-of-image-requires c = rw c.new-2.ensures.items (record { aligned = refl; spans = search rules; apart = search rules })
+of-image-requires c = rw c.new.ensures.items (record { aligned = refl; spans = search rules; apart = search rules })
 
 threads : (c : In_ok-memory) → c.in_ok-size.size.threads ≡ 4
-threads c = ap (λ (n : Numbers). n.threads) c.in_ok-size.ensures.1
+threads c = c.in_ok-size.ensures.1
 
 numbers-four : (c : In_ok-memory) (t : ℕ) → pass_numbers c.in_ok-memory.zero t ≡ nat_lt t 4
 numbers-four c t = c.in_ok-memory.ensures.numbers t ∙ ap (nat_lt t) (threads c)
@@ -51,7 +50,8 @@ returns c =
     let origin = c.in_ok-memory.ensures.origin in
     let home = c.in_ok-memory.ensures.pass in
     record {
-      mem = ap (λ (o : Origin). o.size.mem) origin ∙ ap (λ (n : Numbers). n.mem) c.in_ok-size.ensures.1;
+      mem = ap (λ (o : Origin). o.size.mem) origin ∙ c.in_ok-size.ensures.0;
+      threads = ap (λ (o : Origin). o.size.threads) origin ∙ threads d;
       first = ap (λ (o : Origin). o.first) origin ∙ threads d;
       has_zero = record {
         home_is = c.split-three.ensures.memory.0 ∙ c.split-two.ensures.memory.0 ∙ c.split-one.ensures.memory.0 ∙ home;

@@ -1,8 +1,8 @@
 use Rattle.std.proofs.Common.{◌≡◌}
-use Rattle.hst_memory.proofs.tests.count_up.Given as goal
+use Rattle.hst_memory.proofs.tests.logged.log_accesses.Given as goal
 
-abbrev pub invariant-loop-round : goal.invariant-loop-round
-invariant-loop-round g l = record {
+abbrev pub invariant-loop-access : goal.invariant-loop-access
+invariant-loop-access g l = record {
   home : g.M.SharedMemory.home l.pass ≡ g.M.SharedMemory.home l.fn.pass;
   numbers : g.M.SharedMemory.numbers l.pass ≡ g.M.SharedMemory.numbers l.fn.pass;
 }
