@@ -1,5 +1,5 @@
 -- A block's words that are accessed one after another.
-use Rattle.std.proofs.Common.{◌≡◌, ◌≢◌, suc, ◌<◌, ◌≤◌, ◌+◌, ◌*◌, ◌-◌, ◌%◌, ◌^◌, ℕ, Bool, true, false, if◌then◌else◌, not, None, List, [], length, slice_index, arith, sym, ap, subst, ◌∙◌}
+use Rattle.std.proofs.Common.{◌≡◌, ◌≢◌, suc, ◌<◌, ◌≤◌, ◌+◌, ◌*◌, ◌-◌, ◌%◌, ◌^◌, ℕ, Bool, true, false, if◌then◌else◌, not, Option, None, List, [], length, slice_index, arith, sym, ap, subst, ◌∙◌}
 use Rattle.std.proofs.lemmas.Bool.{le-ltb, lt-ltb}
 use Rattle.llsc_base.specs.declared.access.Size.TheVariants.{B4}
 use Rattle.llsc_base.specs.Images.{Program, first_barred}
@@ -102,7 +102,7 @@ module _ (program : Program) (load : Bool) (lowest list r number addr : ℕ) (st
 
 -- ---- a block, by its accesses
 
-module _ {S : Type 0} (replies : S → Ask → ℕ → S → Type 0) (program : Program) (load before up wback : Bool) (rn list lowest : ℕ) (old begun standing : ExecutionState) (from to : S)
+module _ {S : Type 0} (replies : S → Ask → Option ℕ → S → Type 0) (program : Program) (load before up wback : Bool) (rn list lowest : ℕ) (old begun standing : ExecutionState) (from to : S)
     (rest : old ≡ resting old.state) (lowest_is : lowest ≡ lowest_address up before (register old.state rn) (block_size list))
     (begun_is : begun ≡ record old { stage = Inside }) (standing_is : standing ≡ record begun { replies = standing.replies })
     (passes : first_barred program (not load) lowest (count_of list) ≡ None)
@@ -143,7 +143,7 @@ module _ {S : Type 0} (replies : S → Ask → ℕ → S → Type 0) (program : 
   pub all_carried : (after new : ExecutionState) (p : Progress) (way : Passage) → length standing.replies ≡ count_of list
       → p ≡ progress_of (block_done load list standing.replies (block_back wback up rn (block_size list) standing.state))
       → after ≡ moves standing (block_done load list standing.replies (block_back wback up rn (block_size list) standing.state))
-      → (p ≡ progress.Complete → (way ≡ Complete) × (new ≡ after))
+      → (p ≡ progress.Complete → (way ≡ Complete) × (new ≡ resting after.state))
       → (p ≡ progress.Held → after.replies ≡ [] → (way ≡ AtStart) × (new ≡ resting after.state))
       → (p ≡ progress.Held → after.replies ≢ [] → (way ≡ UnderWay) × (new ≡ record after { stage = Inside }))
       → IsCarried replies effect old from way new to

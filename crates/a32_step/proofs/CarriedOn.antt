@@ -1,5 +1,5 @@
 -- A machine whose instruction was carried on over a port.
-use Rattle.std.proofs.Common.{◌≡◌, ◌≢◌, ℕ, true, false, if◌then◌else◌, List, [], ◌∷◌, ◌++◌, Ok, refl, sym, ap, subst, ◌∙◌}
+use Rattle.std.proofs.Common.{◌≡◌, ◌≢◌, ℕ, true, false, if◌then◌else◌, Option, List, [], ◌∷◌, ◌++◌, Ok, refl, sym, ap, subst, ◌∙◌}
 use Rattle.llsc_base.specs.Images.{Program}
 use Rattle.a32_instr.specs.declared.instructions.Instr.{Instr}
 use Rattle.a32_instr.specs.declared.outside.Ask.{Ask}
@@ -13,8 +13,8 @@ use Rattle.a32_step.specs.ExecutionState as stage
 use Rattle.a32_step.specs.Machine.{Machine, between, instr_at, IsReady, moved_on, next_effect, after_next, given}
 use Rattle.a32_step.specs.Phase.{Phase}
 use Rattle.a32_step.specs.Phase as phase
-use Rattle.a32_step.specs.Ports.{Leads, stays, goes}
-use Rattle.a32_step.specs.Passages.{IsGiven, begins, one_more, StandsAt, IsCarried, Comes, starts, replied, EndsAt, IsCarriedOn}
+use Rattle.a32_step.specs.Ports.{Leads, goes, refused, stays}
+use Rattle.a32_step.specs.Passages.{IsGiven, begins, none_made, one_more, StandsAt, IsCarried, Comes, starts, replied, EndsAt, IsCarriedOn}
 use Rattle.a32_step.proofs.Replied.{inside, first_effect, first_after}
 
 -- ---- between two instructions
@@ -44,7 +44,7 @@ rests instr standing state is =
 
 -- ---- the machine after some replies
 
-module _ {S : Type 0} (replies : S → Ask → ℕ → S → Type 0) (program : Program) (instr : Instr) (state : State)
+module _ {S : Type 0} (replies : S → Ask → Option ℕ → S → Type 0) (program : Program) (instr : Instr) (state : State)
     (known : instr_at program state.pc ≡ Ok instr) (passed : passes (condition_of instr) state.flags ≡ true) where
   abbrev effect : List ℕ → Effect
   effect had = acts instr program had state
@@ -88,6 +88,9 @@ module _ {S : Type 0} (replies : S → Ask → ℕ → S → Type 0) (program : 
         comes = subst (λ m. Comes program (between state) (before.pairs ++ (ask, reply) ∷ []) m) (given_on had ask reply asked)
             (replied before.pairs (after had) ask reply before.comes (next_is had ∙ asked));
       }
+  reached from _ _ (none_made had at next ask way asked served) =
+      let before = reached from at had way in
+      record { pairs = before.pairs; leads = refused before.pairs at next ask before.leads served; comes = before.comes }
 
   inside_after : (had : List ℕ) → had ≢ [] → inside instr state had ≡ after had
   inside_after [] other = absurd (other refl)
@@ -122,7 +125,7 @@ module _ {S : Type 0} (replies : S → Ask → ℕ → S → Type 0) (program : 
 
 -- ---- one that isn't carried on, and one whose condition fails
 
-pub not_on : {S : Type 0} (replies : S → Ask → ℕ → S → Type 0) (program : Program) (old : Machine) (from to : S) → old ≡ between old.state → to ≡ from
+pub not_on : {S : Type 0} (replies : S → Ask → Option ℕ → S → Type 0) (program : Program) (old : Machine) (from to : S) → old ≡ between old.state → to ≡ from
     → IsCarriedOn replies program old from AtStart old to
 not_on replies program old from to rest same = record {
   pairs = [];
@@ -132,7 +135,7 @@ not_on replies program old from to rest same = record {
   ends = (refl, subst (λ (m : Machine). IsReady m.phase) (sym rest) tt);
 }
 
-pub passed_over : {S : Type 0} (replies : S → Ask → ℕ → S → Type 0) (program : Program) (instr : Instr) (state : State) (from : S) (now : Machine)
+pub passed_over : {S : Type 0} (replies : S → Ask → Option ℕ → S → Type 0) (program : Program) (instr : Instr) (state : State) (from : S) (now : Machine)
     → instr_at program state.pc ≡ Ok instr → passes (condition_of instr) state.flags ≡ false → now ≡ between (advanced state)
     → IsCarriedOn replies program (between state) from Complete now from
 passed_over replies program instr state from now known failed now_is =

@@ -9,7 +9,7 @@ use Rattle.a32_step.specs.declared.phases.Progress.{Progress}
 use Rattle.a32_step.specs.declared.phases.Wanted.{Wanted}
 use Rattle.a32_step.specs.Progress.{progress_of}
 use Rattle.a32_step.specs.Slots.{instr_for}
-use Rattle.a32_step.specs.ExecutionState.{ExecutionState, Stage, Between, Inside, Awaiting, Calling, Stopped, HasRoom, IsAwaited, moves, wanted_at, phase_of, machine_in}
+use Rattle.a32_step.specs.ExecutionState.{ExecutionState, Stage, Between, Inside, Awaiting, Calling, Stopped, HasRoom, IsAwaited, moves, settled, wanted_at, phase_of, machine_in}
 use Rattle.a32_step.specs.Machine.{Machine, given, next_effect, next_in, after_in, after_next, moved_on, wanted_of, HasBegun, IsAwaiting, IsInside}
 
 -- one that is awaited has room
@@ -40,8 +40,12 @@ pub replied : (instr : Instr) (standing : ExecutionState) (reply : ℕ) → IsAw
     → machine_in instr (record standing { stage = Inside; replies = standing.replies ++ reply ∷ [] }) ≡ given (machine_in instr standing) reply
 replied instr standing reply awaiting = replied_at instr standing reply standing.stage awaiting
 
+-- how an execution stands after an effect, once one that is complete is over
+abbrev settles : ExecutionState → Effect → ExecutionState
+settles standing effect = settled (progress_of effect) (moves standing effect)
+
 -- the machine after an effect of the instruction in hand
-moves_is : (instr : Instr) (standing : ExecutionState) (effect : Effect) → machine_in instr (moves standing effect) ≡ moved_on instr (machine_in instr standing) effect
+moves_is : (instr : Instr) (standing : ExecutionState) (effect : Effect) → machine_in instr (settles standing effect) ≡ moved_on instr (machine_in instr standing) effect
 moves_is instr standing (asks ask) = refl
 moves_is instr standing (calls call) = refl
 moves_is instr standing (completes state) = refl
@@ -49,7 +53,7 @@ moves_is instr standing (stops stop) = refl
 
 -- the instruction is the one in the slot of a PC, which an effect that isn't complete leaves as it was
 slot_stays : (slots : List Slot) (standing : ExecutionState) (effect : Effect)
-    → machine_in (instr_for slots (moves standing effect).state.pc) (moves standing effect) ≡ machine_in (instr_for slots standing.state.pc) (moves standing effect)
+    → machine_in (instr_for slots (settles standing effect).state.pc) (settles standing effect) ≡ machine_in (instr_for slots standing.state.pc) (settles standing effect)
 slot_stays slots standing (asks ask) = refl
 slot_stays slots standing (calls call) = refl
 slot_stays slots standing (completes state) = refl
@@ -91,13 +95,14 @@ acted_wants program old now slots pc instr before after p w same begun at held s
     same_w ∙ ap (λ q. wanted_at q after.stage) same_p ∙ ap (λ s. wanted_at (progress_of effect) s.stage) same_after ∙ effect_wants before effect
     ∙ ap wanted_of (sym (inside_acts program instr before before.stage known.0) ∙ known.1)
 
-pub acted_stands : (program : Program) (old now : Machine) (slots : List Slot) (pc : ℕ) (instr : Instr) (before after : ExecutionState)
+pub acted_stands : (program : Program) (old now : Machine) (slots : List Slot) (pc : ℕ) (instr : Instr) (before after new : ExecutionState) (p : Progress)
     → now ≡ machine_in (instr_for slots before.state.pc) before → HasBegun program old now → pc ≡ before.state.pc → instr ≡ instr_for slots pc
-    → after ≡ moves before (acts instr program before.replies before.state)
-    → machine_in (instr_for slots after.state.pc) after ≡ after_next program old
-acted_stands program old now slots pc instr before after same begun at held same_after =
+    → p ≡ progress_of (acts instr program before.replies before.state) → after ≡ moves before (acts instr program before.replies before.state) → new ≡ settled p after
+    → machine_in (instr_for slots new.state.pc) new ≡ after_next program old
+acted_stands program old now slots pc instr before after new p same begun at held same_p same_after same_new =
     let here : instr_for slots before.state.pc ≡ instr = sym (held ∙ ap (λ a. instr_for slots a) at) in
     let known : HasBegun program old (machine_in instr before) = subst (λ m. HasBegun program old m) (same ∙ ap (λ i. machine_in i before) here) begun in
     let effect : Effect = acts instr program before.replies before.state in
-    ap (λ s. machine_in (instr_for slots s.state.pc) s) same_after ∙ slot_stays slots before effect ∙ ap (λ i. machine_in i (moves before effect)) here
+    let over : new ≡ settles before effect = same_new ∙ ap (λ q. settled q after) same_p ∙ ap (settled (progress_of effect)) same_after in
+    ap (λ s. machine_in (instr_for slots s.state.pc) s) over ∙ slot_stays slots before effect ∙ ap (λ i. machine_in i (settles before effect)) here
     ∙ moves_is instr before effect ∙ sym (inside_moves program instr before before.stage known.0) ∙ known.2

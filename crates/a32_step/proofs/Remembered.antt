@@ -3,6 +3,7 @@ use Rattle.std.proofs.Common.{◌≡◌, ℕ, List, All, Ok, replicate, refl}
 use Rattle.std.proofs.lemmas.List.Elements.{All-replicate, All-set}
 use lib.ListN.{set}
 use Rattle.a32_instr.specs.Fields.{alu_op, alu_fits, alu_unpredictable, index_fits, half_fits}
+use Rattle.a32_instr.specs.Effect.{condition_of}
 use Rattle.a32_instr.specs.Table.{meaning, table}
 use Rattle.a32_instr.specs.declared.instructions.Instr.TheVariants.{Nop}
 use Rattle.a32_step.specs.declared.decoded.Slot.{Slot}
@@ -21,3 +22,14 @@ all_the_same n slot right = All-replicate IsRight n slot right
 pub one_more : (slots : List Slot) (at : ℕ) (slot : Slot) → meaning table slot.word ≡ Ok slot.instr → All (λ slot. meaning table slot.word ≡ Ok slot.instr) slots
     → All (λ slot. meaning table slot.word ≡ Ok slot.instr) (set slots at slot)
 one_more slots at slot right all = All-set IsRight slots at slot right all
+
+-- and what it has is under the condition of its instruction
+abbrev HasCond : Slot → Type 0
+HasCond slot = slot.cond ≡ condition_of slot.instr
+
+pub all_under_one : (n : ℕ) (slot : Slot) → slot.cond ≡ condition_of slot.instr → All (λ slot. slot.cond ≡ condition_of slot.instr) (replicate n slot)
+all_under_one n slot has = All-replicate HasCond n slot has
+
+pub one_more_cond : (slots : List Slot) (at : ℕ) (slot : Slot) → slot.cond ≡ condition_of slot.instr → All (λ slot. slot.cond ≡ condition_of slot.instr) slots
+    → All (λ slot. slot.cond ≡ condition_of slot.instr) (set slots at slot)
+one_more_cond slots at slot has all = All-set HasCond slots at slot has all

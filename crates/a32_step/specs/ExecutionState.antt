@@ -31,12 +31,17 @@ pub record ExecutionState : Type 0 where
 abbrev pub resting : State → ExecutionState
 resting state = record { state = state; stage = Between; replies = [] }
 
--- after an effect
+-- after an effect; where it is complete the instruction's stage and replies are left to `settled`
 abbrev pub moves : ExecutionState → Effect → ExecutionState
 moves standing (asks ask) = record standing { stage = Awaiting ask }
 moves standing (calls call) = record standing { stage = Calling call }
-moves standing (completes state) = resting state
+moves standing (completes state) = record standing { state = state }
 moves standing (stops stop) = record standing { stage = Stopped stop }
+
+-- an instruction that is complete is over
+abbrev pub settled : Progress → ExecutionState → ExecutionState
+settled Complete standing = resting standing.state
+settled Held standing = standing
 
 -- an access is awaited
 abbrev pub IsAwaited : Stage → Type 0

@@ -1,5 +1,5 @@
 -- An instruction that is carried through over a port.
-use Rattle.std.specs.Prelude.{◌≡◌, ◌≢◌, ℕ, Bool, true, false, List, [], ◌∷◌, ◌++◌}
+use Rattle.std.specs.Prelude.{◌≡◌, ◌≢◌, ◌⊎◌, ℕ, Bool, true, false, Option, Some, None, List, [], ◌∷◌, ◌++◌}
 use Rattle.llsc_base.specs.Images.{Program}
 use Rattle.a32_instr.specs.declared.outside.Ask.{Ask}
 use Rattle.llsc_base.specs.declared.access.Size.TheVariants.{B4}
@@ -8,17 +8,24 @@ use Rattle.a32_instr.specs.State.{State, Effect, asks, completes, register}
 use Rattle.a32_step.specs.declared.phases.Passage.{Passage}
 use Rattle.a32_step.specs.declared.phases.Passage.TheVariants.{Complete, AtStart, UnderWay}
 use Rattle.a32_step.specs.ExecutionState.{ExecutionState, Inside, resting}
-use Rattle.a32_step.specs.Machine.{Machine, next_effect, after_next, given, between, IsReady}
+use Rattle.a32_step.specs.Machine.{Machine, next_effect, after_next, given, between, IsReady, PassesTests}
 use Rattle.a32_step.specs.Ports.{Leads}
 
 -- ---- an instruction, by its effect over all replies
 
--- a port is led on by replies, each to what the effect asks for after those before it
-pub data IsGiven {S : Type 0} (replies : S → Ask → ℕ → S → Type 0) (effect : List ℕ → Effect) (from : S) : List ℕ → S → Type 0 where
+-- a port is led on by replies, each to what the effect asks for after those before it, and by refused stores
+pub data IsGiven {S : Type 0} (replies : S → Ask → Option ℕ → S → Type 0) (effect : List ℕ → Effect) (from : S) : List ℕ → S → Type 0 where
   begins : IsGiven replies effect from [] from
   one_more : (had : List ℕ) (at next : S) (ask : Ask) (reply : ℕ)
-      → IsGiven replies effect from had at → effect had ≡ asks ask → replies at ask reply next
+      → IsGiven replies effect from had at → effect had ≡ asks ask → replies at ask (Some reply) next
       → IsGiven replies effect from (had ++ reply ∷ []) next
+  none_made : (had : List ℕ) (at next : S) (ask : Ask)
+      → IsGiven replies effect from had at → effect had ≡ asks ask → replies at ask None next
+      → IsGiven replies effect from had next
+
+-- a port that replied to no access: something bars it, so that the port wasn't asked, or memory refused it
+abbrev pub IsUnmade : {S : Type 0} → (S → Ask → Option ℕ → S → Type 0) → Program → S → Ask → S → Type 0
+IsUnmade replies program from ask to = (to ≡ from) ⊎ (PassesTests program ask × replies from ask None to)
 
 -- where an instruction stands that came so far with these replies: it is complete, or at its start with none, or under way
 abbrev pub StandsAt : (List ℕ → Effect) → List ℕ → ExecutionState → Passage → ExecutionState → Type 0
@@ -27,7 +34,7 @@ StandsAt effect had old AtStart new = (had ≡ []) × (new ≡ old)
 StandsAt effect had old UnderWay new = (had ≢ []) × (new ≡ record old { stage = Inside; replies = had })
 
 -- an instruction of this effect was carried on over a port
-pub record IsCarried {S : Type 0} (replies : S → Ask → ℕ → S → Type 0) (effect : List ℕ → Effect) (old : ExecutionState) (from : S) (passage : Passage)
+pub record IsCarried {S : Type 0} (replies : S → Ask → Option ℕ → S → Type 0) (effect : List ℕ → Effect) (old : ExecutionState) (from : S) (passage : Passage)
     (new : ExecutionState) (to : S) : Type 0 where
   pub had : List ℕ
   pub given : IsGiven replies effect from had to
@@ -55,7 +62,7 @@ EndsAt program machine AtStart new = (new ≡ machine) × IsReady machine.phase
 EndsAt program machine UnderWay new = (new ≡ machine) × IsReady machine.phase
 
 -- a machine between two instructions was carried on over a port, through an instruction or as far as it came
-pub record IsCarriedOn {S : Type 0} (replies : S → Ask → ℕ → S → Type 0) (program : Program) (old : Machine) (from : S) (passage : Passage)
+pub record IsCarriedOn {S : Type 0} (replies : S → Ask → Option ℕ → S → Type 0) (program : Program) (old : Machine) (from : S) (passage : Passage)
     (new : Machine) (to : S) : Type 0 where
   pub pairs : List (Ask × ℕ)
   pub machine : Machine

@@ -1,5 +1,5 @@
 -- Who replies to the accesses of a thread: what may be asked of it, which replies fit, and where they lead.
-use Rattle.std.specs.Prelude.{ℕ, ◌+◌, ◌^◌, ◌<◌, ◌≤◌, IsTrue, List, [], ◌∷◌, ◌++◌}
+use Rattle.std.specs.Prelude.{ℕ, ◌+◌, ◌^◌, ◌<◌, ◌≤◌, IsTrue, Option, Some, None, List, [], ◌∷◌, ◌++◌}
 use Rattle.llsc_base.specs.Memory.{is_aligned, size_bytes}
 use Rattle.a32_instr.specs.declared.outside.Ask.{Ask}
 use Rattle.a32_instr.specs.declared.outside.Ask.TheVariants.{Load, LoadEx, Store, StoreEx, Clear}
@@ -23,12 +23,16 @@ ReplyFits (Load place) reply = reply < 256 ^ size_bytes place.size
 ReplyFits (LoadEx place) reply = reply < 256 ^ size_bytes place.size
 ReplyFits _ reply = Unit {0}
 
--- from a port to another by accesses and the replies to them, one after another, where each reply leads on as this says
-pub data Leads {S : Type 0} (replies : S → Ask → ℕ → S → Type 0) (from : S) : List (Ask × ℕ) → S → Type 0 where
+-- From a port to another by accesses and the replies to them, one after another, where each reply leads on as this says. A store
+-- that is refused leads on too, and stands for nothing.
+pub data Leads {S : Type 0} (replies : S → Ask → Option ℕ → S → Type 0) (from : S) : List (Ask × ℕ) → S → Type 0 where
   stays : Leads replies from [] from
   goes : (pairs : List (Ask × ℕ)) (at next : S) (ask : Ask) (reply : ℕ)
-      → Leads replies from pairs at → replies at ask reply next
+      → Leads replies from pairs at → replies at ask (Some reply) next
       → Leads replies from (pairs ++ (ask, reply) ∷ []) next
+  refused : (pairs : List (Ask × ℕ)) (at next : S) (ask : Ask)
+      → Leads replies from pairs at → replies at ask None next
+      → Leads replies from pairs next
 
 -- it is a store, and memory refuses one at its address; a store-exclusive fails instead
 abbrev pub IsRefused : (ℕ → Type 0) → Ask → Type 0

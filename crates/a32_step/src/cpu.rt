@@ -7,7 +7,6 @@ ghost use Rattle.a32_step.specs.Phase as phase;
 ghost use Rattle.a32_step.specs.Machine.{start_of, given, next_effect, wanted_of, after_next, after_instr, begins, instr_at, decoded, between, Follows, HasBegun, IsReady, IsTested, IsAwaiting, IsCalling};
 
 use crate::code::Code;
-use crate::conditions::{condition, passes};
 use crate::decoded::Decoded;
 use crate::execution::Execution;
 use crate::phases::{Passage, Point, Progress, Wanted};
@@ -147,7 +146,7 @@ impl Cpu {
         }
         let instr = self.decoded.at(self.execution.pc());
         let progress = self.execution.act(instr, image);
-        self.execution.wanted(progress)
+        self.execution.settle(progress)
     }
 
     /// The next instruction begins where none is in hand. What is wanted, where none has anything to do.
@@ -163,7 +162,7 @@ impl Cpu {
         match self.execution.point() {
             Point::Between => self.begin_next(image),
             Point::Inside => None,
-            Point::Held => Some(self.execution.wanted(Progress::Held)),
+            Point::Held => Some(self.execution.wanted()),
         }
     }
 
@@ -186,8 +185,8 @@ impl Cpu {
         if let Err(fault) = self.decoded.remember(pc, word) {
             return Some(self.execution.stop_wanted(stop_at(pc, fault)));
         }
-        let cond = condition(self.decoded.at(pc));
-        if !passes(cond, self.execution.flags()) {
+        let cond = self.decoded.cond(pc);
+        if !self.execution.meets(cond) {
             self.execution.advance();
             return Some(Wanted::Done);
         }

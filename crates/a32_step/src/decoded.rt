@@ -3,8 +3,10 @@ ghost use Rattle.std.specs.Prelude.{◌≡◌, ◌<◌, ◌%◌, IfOk, IfErr, Ok
 ghost use Rattle.a32_step.specs.Slots.{instr_of, instr_for};
 ghost use Rattle.a32_instr.specs.declared.instructions.Instr.{Instr};
 ghost use Rattle.a32_step.specs.Machine.{instr_at};
+ghost use Rattle.a32_instr.specs.Effect.{condition_of};
 ghost use Rattle.a32_instr.specs.Table.{meaning, table};
 
+use crate::conditions::condition;
 use a32_decode::decode;
 use a32_instr::{Cond, DecodeFault, Instr};
 use llsc_base::Image;
@@ -17,10 +19,11 @@ const SLOTS: usize = 256;
 /// The word NOP, which every slot has at first (DDI 0406C A8.8.119).
 const NOP: u32 = 0xe320_f000;
 
-/// A word and its instruction.
+/// A word, its instruction, and the condition of that.
 #[derive(Clone, Copy)]
 pub struct Slot {
     word: u32,
+    cond: Cond,
     instr: Instr,
 }
 
@@ -34,6 +37,7 @@ impl Model for Decoded {
     ghost use Rattle.std.specs.Prelude.{◌≡◌, All, List, Ok, length};
     ghost use Rattle.a32_instr.specs.declared.instructions.Instr.{Instr};
     ghost use Rattle.a32_step.specs.Machine.{instr_at};
+    ghost use Rattle.a32_instr.specs.Effect.{condition_of};
     ghost use Rattle.a32_instr.specs.Table.{meaning, table};
     ghost use Rattle.a32_step.specs.declared.decoded.Slot.{Slot};
 
@@ -41,7 +45,8 @@ impl Model for Decoded {
 
     ghost view = { λ d. d.slots };
 
-    ghost invariant = { λ d. (length d.slots ≡ 256) × All (λ slot. meaning table slot.word ≡ Ok slot.instr) d.slots };
+    ghost invariant = { λ d. (length d.slots ≡ 256) × All (λ slot. meaning table slot.word ≡ Ok slot.instr) d.slots
+        × All (λ slot. slot.cond ≡ condition_of slot.instr) d.slots };
 }
 
 impl fmt::Debug for Decoded {
@@ -55,6 +60,7 @@ impl Decoded {
     pub fn new() -> Decoded {
         let slot = Slot {
             word: NOP,
+            cond: Cond::ALWAYS,
             instr: Instr::Nop { cond: Cond::ALWAYS },
         };
         Decoded {
@@ -68,6 +74,14 @@ impl Decoded {
         ensures { result.now ≡ instr_for self.now addr }
     {
         &self.slots[(addr / 4) as usize % SLOTS].instr
+    }
+
+    /// The condition of the instruction in the slot of an address.
+    #[inline]
+    pub fn cond(&self, addr: u32) -> Cond
+        ensures { result ≡ condition_of (instr_for self.now addr) }
+    {
+        self.slots[(addr / 4) as usize % SLOTS].cond
     }
 
     /// Sees to it that the slot of an address has the instruction of this word, or says why the word is none.
@@ -100,14 +114,18 @@ impl Decoded {
     }
 
     /// The instruction of a word that isn't in its slot.
-    #[tactic(auto, using(crate::proofs::Remembered::one_more))]
+    #[tactic(auto, using(crate::proofs::Remembered::one_more, crate::proofs::Remembered::one_more_cond))]
     fn decode(&mut self, at: usize, word: u32) -> Result<(), DecodeFault>
         requires { at < 256 }
         ensures known { IfOk result (λ done. meaning table word ≡ Ok (instr_of (slice_get self.new at))) }
         ensures refused { IfErr result (λ fault. meaning table word ≡ Err fault) }
     {
         let instr = decode(word)?;
-        self.slots[at] = Slot { word, instr };
+        self.slots[at] = Slot {
+            word,
+            cond: condition(&instr),
+            instr,
+        };
         Ok(())
     }
 }

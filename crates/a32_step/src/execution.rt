@@ -5,7 +5,7 @@ ghost use Rattle.a32_instr.specs.Condition.{passes};
 ghost use Rattle.a32_instr.specs.Effect.{acts};
 ghost use Rattle.a32_step.specs.Progress.{progress_of, stop_of};
 ghost use Rattle.a32_step.specs.Words.{AreWords};
-ghost use Rattle.a32_step.specs.ExecutionState.{Between, Inside, Awaiting, Stopped, IsAwaited, resting, moves, wanted_at};
+ghost use Rattle.a32_step.specs.ExecutionState.{Between, Inside, Awaiting, Stopped, IsAwaited, resting, moves, settled, wanted_at};
 ghost use Rattle.a32_step.specs.Inside.{stage_held};
 ghost use Rattle.a32_step.specs.Machine.{wanted_of};
 
@@ -125,17 +125,29 @@ impl Execution {
         self.replies.count()
     }
 
-    /// What is wanted: nothing where the instruction is complete, and else what holds the thread.
+    /// What holds the thread, if anything does.
     #[inline]
-    pub fn wanted(&self, progress: Progress) -> Wanted
-        ensures { result ≡ wanted_at progress self.now.stage }
+    pub fn wanted(&self) -> Wanted
+        ensures { result ≡ wanted_at Progress.Held self.now.stage }
     {
-        if progress == Progress::Complete {
-            return Wanted::Done;
-        }
         match self.point {
             Point::Between | Point::Inside => Wanted::Done,
             Point::Held => wanted_held(self.hold),
+        }
+    }
+
+    /// What is wanted: nothing where the instruction is complete, which is over then, and else what holds the thread.
+    #[inline(always)]
+    pub fn settle(&mut self, progress: Progress) -> Wanted
+        ensures wanted { result ≡ wanted_at progress self.old.stage }
+        ensures state { self.new ≡ settled progress self.old }
+    {
+        match progress {
+            Progress::Complete => {
+                self.finish();
+                Wanted::Done
+            }
+            Progress::Held => self.wanted(),
         }
     }
 
@@ -244,10 +256,9 @@ impl Execution {
     /// The instruction is complete, and wrote no PC.
     pub fn advance(&mut self) -> Progress
         ensures progress { result ≡ Progress.Complete }
-        ensures state { self.new ≡ resting (advanced self.old.state) }
+        ensures state { self.new ≡ record self.old { state = advanced self.old.state } }
     {
         self.pc = self.pc.wrapping_add(4);
-        self.finish();
         Progress::Complete
     }
 
@@ -275,7 +286,6 @@ impl Execution {
         }
         self.flags = flags;
         self.pc = value;
-        self.finish();
         Progress::Complete
     }
 

@@ -1,5 +1,5 @@
 //! Who replies to a thread's accesses.
-ghost use Rattle.std.specs.Prelude.{◌≡◌, ◌<◌, ◌≤◌, ◌+◌, ◌^◌, ℕ, IfNone, IfSome, MatchOption};
+ghost use Rattle.std.specs.Prelude.{◌≡◌, ◌<◌, ◌≤◌, ◌+◌, ◌^◌, ℕ, IfNone, IfSome, Option, Some, None};
 ghost use Rattle.a32_instr.specs.declared.outside.Ask.{Ask};
 ghost use Rattle.a32_step.specs.Ports.{IsAskIn, IsRefused, ReplyFits};
 
@@ -9,8 +9,8 @@ use a32_instr::Ask;
 /// the port's to say (`replies`); what a thread does over a port it does with replies that lead from the port as it was to the
 /// port as it is (`specs/Ports`).
 pub trait Port {
-    /// Whether such a reply to an access leads from a port, the first, to another, the last.
-    ghost replies: { Self → Ask → ℕ → Self → Type 0 };
+    /// Whether such an answer to an access, a reply or none, leads from a port, the first, to another, the last.
+    ghost replies: { Self → Ask → Option ℕ → Self → Type 0 };
 
     /// How many bytes of memory may be accessed.
     ghost mem: { Self → ℕ };
@@ -22,17 +22,18 @@ pub trait Port {
     ghost refuses: { Self → ℕ → Type 0 };
 
     /// Makes an access, and replies: the value of a load, 1 where a store-exclusive failed, and otherwise 0. `None` where
-    /// memory has no write left for a store: then it isn't made, and the port is as it was.
+    /// memory has no write left for a store: then it isn't made.
     fn reply(&mut self, ask: Ask) -> Option<u64>
         requires may { IsAskIn (mem self.old) ask }
         requires few { counted self.old < 2 ^ 63 }
-        ensures replied { MatchOption result (self.new ≡ self.old) (λ reply. replies self.old ask reply self.new) }
+        ensures replied { replies self.old ask result self.new }
         ensures fits { IfSome result (ReplyFits ask) }
-        ensures refused { IfNone result (IsRefused (refuses self.old) ask) }
+        ensures refused { IfNone result (IsRefused (refuses self.new) ask) }
         ensures mem { mem self.new ≡ mem self.old }
         ensures counted { counted self.new ≤ counted self.old + 1 };
 
-    /// The law that a reply counts for one access at most.
+    /// The law that a reply counts for one access at most, and a refused store for none.
     fn counts_one()
-        ensures { (old : Self) (ask : Ask) (reply : ℕ) (new : Self) → replies old ask reply new → counted new ≤ counted old + 1 };
+        ensures one { (old : Self) (ask : Ask) (reply : ℕ) (new : Self) → replies old ask (Some reply) new → counted new ≤ counted old + 1 }
+        ensures none { (old : Self) (ask : Ask) (new : Self) → replies old ask None new → counted new ≤ counted old };
 }

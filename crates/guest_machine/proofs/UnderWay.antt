@@ -2,8 +2,8 @@
 use Rattle.std.proofs.Common.{◌≡◌, ℕ, ◌+◌, ◌≤◌, arith, Bool, true, false, if◌then◌else◌, List, [], ◌∷◌, ◌++◌, refl, sym, ◌∙◌, ap, subst, inl, inr}
 use Rattle.guest_calls.specs.Run.{Pair, Ends}
 use Rattle.guest_thread.specs.Ports.{EndsBy}
-use Rattle.a32_step.specs.Ports.{Leads, stays, goes}
-use Rattle.guest_machine.specs.Served.{IsServed}
+use Rattle.a32_step.specs.Ports.{Leads, goes, refused, stays}
+use Rattle.guest_machine.specs.Served.{IsServed, IsServedBy}
 use Rattle.guest_machine.specs.Alone.{IsAlone}
 use Rattle.llsc_base.specs.Images.{Program}
 use Rattle.llsc_base.specs.Memory.{row_of}
@@ -103,16 +103,17 @@ one_counted old ask reply new served =
 
 -- all of them
 pub after_all : (granule : ℕ) (bytes : List ℕ) (first : Alone) (pairs : List Pair) (last : Alone)
-    → IsMade granule bytes [] first → Leads IsServed first pairs last → IsMade granule bytes pairs last
+    → IsMade granule bytes [] first → Leads IsServedBy first pairs last → IsMade granule bytes pairs last
 after_all granule bytes first _ _ begun stays = begun
 after_all granule bytes first _ _ begun (goes pairs between next ask reply leads served) =
     after_access granule bytes pairs between next ask reply (after_all granule bytes first pairs between begun leads) served
+after_all granule bytes first _ _ begun (refused pairs between next ask leads none) = absurd none
 
 -- where no store is refused a thread ends by itself
 ended_by_itself : (program : Program) (budget : ℕ) (start : Machine) (pairs : List Pair) (stop : Stop) (steps : ℕ) (out : List ℕ)
     → EndsBy (λ addr. ⊥) program budget start pairs stop steps out → Ends program budget start pairs stop steps out
 ended_by_itself program budget start pairs stop steps out (inl ends) = ends
-ended_by_itself program budget start pairs stop steps out (inr refused) = absurd refused.1.0
+ended_by_itself program budget start pairs stop steps out (inr limit) = absurd limit.1.0
 
 -- at the end
 pub end_of : (program : Program) (budget : ℕ) (start : Machine) (granule : ℕ) (bytes : List ℕ) (pairs : List Pair) (stop : Stop) (alone : Alone) (guest : ThreadState) (steps : ℕ) (out : List ℕ)

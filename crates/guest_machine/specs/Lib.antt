@@ -4,3 +4,4 @@ pub mod Traces
 pub mod Alone
 pub mod Served
 pub mod Worked
+pub mod Crews

@@ -1,5 +1,5 @@
 -- How the memory of a thread alone answers it.
-use Rattle.std.specs.Prelude.{◌≡◌, ◌+◌, ℕ}
+use Rattle.std.specs.Prelude.{◌≡◌, ◌+◌, ℕ, Option, Some, None}
 use Rattle.history.specs.Accesses.{entry_of}
 use Rattle.history.specs.ArmLegal.{MayAccess}
 use Rattle.history.specs.Monitor.{accessed}
@@ -17,3 +17,8 @@ pub record IsServed (old : Alone) (ask : Ask) (reply : ℕ) (new : Alone) : Type
   pub reads : new.counts.reads ≡ old.counts.reads + reads_in (entry_of (access_by old.memory 0 ask))
   pub writes : new.counts.writes ≡ old.counts.writes + writes_in (entry_of (access_by old.memory 0 ask))
   pub fails : new.counts.fails ≡ old.counts.fails + fails_in (entry_of (access_by old.memory 0 ask))
+
+-- it replies to each access: it refuses none
+abbrev pub IsServedBy : Alone → Ask → Option ℕ → Alone → Type 0
+IsServedBy old ask (Some reply) new = IsServed old ask reply new
+IsServedBy old ask None new = ⊥

@@ -21,9 +21,9 @@ pub(crate) struct Alone {
 
 impl Port for Alone {
     ghost use Rattle.guest_thread.specs.Counting.{accesses_counted};
-    ghost use Rattle.guest_machine.specs.Served.{IsServed};
+    ghost use Rattle.guest_machine.specs.Served.{IsServedBy};
 
-    ghost replies = { λ old ask reply new. IsServed old ask reply new };
+    ghost replies = { IsServedBy };
 
     ghost mem = { λ alone. length alone.memory.memory };
 

@@ -1,16 +1,22 @@
-//! The guest threads of a program on one host thread: one alone, or all in an order that a number fixes.
+//! The guest threads of a program: one alone, all beside each other on host threads, or all on one in an order that a
+//! number fixes.
 //!
-//! [`solo`] runs a program's one thread on a memory of its own; `specs/Alone.antt` says what its end is. [`trace`] gives
-//! the accesses of a run of all threads as a record, and how each thread ended; `specs/Turns.antt` says whose turn it is
-//! and what a turn does. [`laws`] has that there is one end of a thread alone, and one trace at most for a program, a
-//! machine, a number and a budget, and that one thread's trace ends as the thread alone; [`worked`] and [`worked_alone`]
-//! have small cases.
+//! [`prepare`] makes a [`Job`] of each thread on a memory that threads share, and [`run_all`] runs them beside each
+//! other up to their ends; `specs/Crews.antt` says when a [`Crew`] of jobs is ready, and how its threads have ended.
+//!
+//! [`solo`] runs a program's one thread on a memory of its own; `specs/Alone.antt` says what its end is. [`trace`]
+//! gives the accesses of a run of all threads as a record, and how each thread ended; `specs/Turns.antt` says whose
+//! turn it is and what a turn does. [`laws`] has that there is one end of a thread alone, and one trace at most for a
+//! program, a machine, a number and a budget, and that one thread's trace ends as the thread alone; [`worked`] and
+//! [`worked_alone`] have small cases.
 #![tactic(auto)]
 
 mod alone;
+mod crews;
 mod drawing;
 mod ends;
 pub mod laws;
+mod runs;
 mod seats;
 mod serving;
 mod traces;
@@ -19,4 +25,6 @@ pub mod worked;
 pub mod worked_alone;
 
 pub use alone::solo;
+pub use crews::{Crew, Job, prepare};
+pub use runs::{Ran, run_all};
 pub use traces::{TraceFault, Traced, trace};

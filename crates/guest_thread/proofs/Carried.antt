@@ -1,5 +1,5 @@
 -- A thread whose instructions are carried through over a port.
-use Rattle.std.proofs.Common.{◌≡◌, ◌⊎◌, inl, inr, ℕ, ◌+◌, ◌<◌, ◌≤◌, List, [], ◌∷◌, ◌++◌, None, length, refl, sym, subst, ap, ◌∙◌, append_assoc, append-nil, arith}
+use Rattle.std.proofs.Common.{◌≡◌, ◌⊎◌, inl, inr, ℕ, ◌+◌, ◌<◌, ◌≤◌, List, [], ◌∷◌, ◌++◌, Option, Some, None, length, refl, sym, subst, ap, ◌∙◌, append_assoc, append-nil, arith}
 use Rattle.std.proofs.lemmas.List.{length-append}
 use Rattle.llsc_base.specs.Images.{Program}
 use Rattle.a32_instr.specs.declared.outside.Ask.{Ask}
@@ -9,7 +9,7 @@ use Rattle.a32_step.specs.declared.phases.Wanted.TheVariants as wanted
 use Rattle.a32_step.specs.Machine.{Machine, between, IsReady, IsAwaiting, after_next, given, given_in, wanted_of}
 use Rattle.a32_step.specs.Phase.{Phase, Between, Inside, Awaiting, Calling, Stopped}
 use Rattle.a32_step.specs.Passages.{Comes, starts, replied, EndsAt, IsCarriedOn}
-use Rattle.a32_step.specs.Ports.{Leads, stays, goes}
+use Rattle.a32_step.specs.Ports.{Leads, goes, refused, stays}
 use Rattle.a32_step.proofs.Follows.{next_follows}
 use Rattle.guest_calls.specs.Run.{Pair, Reaches, accesses, steps_on}
 use Rattle.guest_calls.specs.Calls.{most_output}
@@ -33,15 +33,20 @@ come_on program budget start old before steps output _ _ reached within (replied
 
 -- ---- how many accesses it made
 
-pub leads_counted : {S : Type 0} (replies : S → Ask → ℕ → S → Type 0) (counted : S → ℕ) (from to : S) (pairs : List Pair)
-    → ((old : S) (ask : Ask) (reply : ℕ) (new : S) → replies old ask reply new → counted new ≤ counted old + 1)
+pub leads_counted : {S : Type 0} (replies : S → Ask → Option ℕ → S → Type 0) (counted : S → ℕ) (from to : S) (pairs : List Pair)
+    → ((old : S) (ask : Ask) (reply : ℕ) (new : S) → replies old ask (Some reply) new → counted new ≤ counted old + 1)
+    → ((old : S) (ask : Ask) (new : S) → replies old ask None new → counted new ≤ counted old)
     → Leads replies from pairs to → counted to ≤ counted from + length pairs
-leads_counted replies counted from _ _ one stays = omega arith
-leads_counted replies counted from _ _ one (goes pairs at next ask reply leads served) =
-    let before : counted at ≤ counted from + length pairs = leads_counted replies counted from at pairs one leads in
+leads_counted replies counted from _ _ one none stays = omega arith
+leads_counted replies counted from _ _ one none (goes pairs at next ask reply leads served) =
+    let before : counted at ≤ counted from + length pairs = leads_counted replies counted from at pairs one none leads in
     let here : counted next ≤ counted at + 1 = one at ask reply next served in
     let longer : length (pairs ++ (ask, reply) ∷ []) ≡ length pairs + 1 = length-append pairs ((ask, reply) ∷ []) in
     omega (arith, before, here, longer)
+leads_counted replies counted from _ _ one none (refused pairs at next ask leads served) =
+    let before : counted at ≤ counted from + length pairs = leads_counted replies counted from at pairs one none leads in
+    let here : counted next ≤ counted at = none at ask next served in
+    omega (arith, before, here)
 
 given_one : (machine : Machine) (reply : ℕ) (phase : Phase) → IsAwaiting phase → (given_in machine reply phase).replies ≡ machine.replies ++ reply ∷ []
 given_one machine reply Between awaits = absurd awaits
@@ -108,7 +113,7 @@ running_at mem budget new still ready within few short = record {
   bounded = record { replies = few; output = short };
 }
 
-module _ {S : Type 0} (replies : S → Ask → ℕ → S → Type 0) (program : Program) (budget : ℕ) (old new : ThreadState) (from to : S)
+module _ {S : Type 0} (replies : S → Ask → Option ℕ → S → Type 0) (program : Program) (budget : ℕ) (old new : ThreadState) (from to : S)
     (rest : IsAtRest old) (within : old.steps < budget) (same : new.output ≡ old.output) (still : new.printing ≡ None) where
   -- it was complete
   pub after_one : IsCarriedOn replies program old.cpu from Complete new.cpu to → new.steps ≡ old.steps + 1 → (start : Machine) (before : List Pair)
@@ -140,15 +145,15 @@ module _ {S : Type 0} (replies : S → Ask → ℕ → S → Type 0) (program : 
 
 -- ---- one way after another
 
-abbrev pub Ways : {S : Type 0} → (S → Ask → ℕ → S → Type 0) → Program → ℕ → ThreadState → S → ThreadState → S → Type 0
+abbrev pub Ways : {S : Type 0} → (S → Ask → Option ℕ → S → Type 0) → Program → ℕ → ThreadState → S → ThreadState → S → Type 0
 Ways replies program budget old from new to = (start : Machine) (before : List Pair) → HasCome program budget start before old
     → (pairs : List Pair) × (Leads replies from pairs to × HasCome program budget start (before ++ pairs) new)
 
-pub no_way : {S : Type 0} (replies : S → Ask → ℕ → S → Type 0) (program : Program) (budget : ℕ) (old : ThreadState) (from : S) → Ways replies program budget old from old from
+pub no_way : {S : Type 0} (replies : S → Ask → Option ℕ → S → Type 0) (program : Program) (budget : ℕ) (old : ThreadState) (from : S) → Ways replies program budget old from old from
 no_way replies program budget old from start before come =
     ([], (stays, subst (λ all. HasCome program budget start all old) (sym (append-nil before)) come))
 
-pub way_on : {S : Type 0} (replies : S → Ask → ℕ → S → Type 0) (program : Program) (budget : ℕ) (first old new : ThreadState) (from at to : S)
+pub way_on : {S : Type 0} (replies : S → Ask → Option ℕ → S → Type 0) (program : Program) (budget : ℕ) (first old new : ThreadState) (from at to : S)
     → Ways replies program budget first from old at → Ways replies program budget old at new to → Ways replies program budget first from new to
 way_on replies program budget first old new from at to way further start before come =
     let here = way start before come in

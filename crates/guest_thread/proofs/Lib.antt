@@ -11,6 +11,8 @@ pub mod Pushed
 pub mod Placed
 pub mod Counted
 pub mod OneOutcome
+pub mod Finishing
+pub mod Shared
 pub mod SmallEnds
 pub mod SmallRuns
 pub mod Carried

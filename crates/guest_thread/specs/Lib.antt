@@ -8,6 +8,7 @@ pub mod Outcome
 pub mod Ports
 pub mod Progress
 pub mod ThreadState
+pub mod Sharing
 pub mod Start
 pub mod Turns
 pub mod Under

@@ -12,6 +12,7 @@ ghost use Rattle.guest_thread.specs.Start.{first_state, thread_start};
 ghost use Rattle.guest_thread.specs.Turns.{AfterCall, IsAtTurn, IsOneStepOn, after_byte};
 ghost use Rattle.guest_thread.specs.Under.{HasCome, Awaits, ComesTo};
 
+use crate::starts::start_cpu;
 use a32_step::{Ask, CallAsk, Cpu, Stop, Wanted};
 use guest_calls::{CallStep, Output, guest_call};
 use llsc_base::{Image, MachineSize, Place, Size};
@@ -55,8 +56,7 @@ impl Model for Guest {
 }
 
 impl Guest {
-    /// A thread of a program at its start: at the program's entry, with its number in r0, how many threads there are in
-    /// r1, and its stack pointer at the end of its own 4096 bytes at the top of memory. `t` is below the machine's threads.
+    /// A thread of a program at its start, whose core is [`start_cpu`]'s. `t` is below the machine's threads.
     ///
     /// # Errors
     ///
@@ -72,14 +72,12 @@ impl Guest {
         ensures ready { IfOk result (λ guest. (mem budget : ℕ) → IsReadyIn mem budget guest) }
         ensures comes { IfOk result (λ guest. (budget : ℕ) → HasCome image.now budget (thread_start image.now size.now size.now.threads t) [] guest) }
     {
-        let stack = size.room() + 4096 * (t + 1);
-        let cpu = Cpu::start(image.entry(), t, size.threads(), stack);
         let output = Output::new(alloc)?;
-        Ok(Guest::new(cpu, output))
+        Ok(Guest::new(start_cpu(image, size, t), output))
     }
 
     /// A thread whose core is between two instructions, and that has written nothing.
-    fn new(cpu: Cpu, output: Output) -> Guest
+    pub(crate) fn new(cpu: Cpu, output: Output) -> Guest
         ensures state { result ≡ record { cpu = cpu; steps = 0; output = output; printing = None } }
         ensures ready { IsReady cpu.phase → (mem budget : ℕ) → IsReadyIn mem budget result }
         ensures comes { output ≡ [] → (program : Program) (budget : ℕ) → HasCome program budget cpu [] result }

@@ -1,7 +1,8 @@
 //! The run of a thread over a port, which replies to its accesses.
-ghost use Rattle.std.specs.Prelude.{◌≡◌, ◌<◌, ◌≤◌, ◌+◌, ◌*◌, ◌^◌, ◌++◌, [], ℕ, List, IfNone, IsTrue, MatchOption, length};
+ghost use Rattle.std.specs.Prelude.{◌≡◌, ◌<◌, ◌≤◌, ◌+◌, ◌*◌, ◌^◌, ◌++◌, [], ℕ, List, IfNone, IfSome, IsTrue, MatchOption, length};
 ghost use Rattle.llsc_base.specs.Images.{Program};
 ghost use Rattle.llsc_base.specs.Limits.{most_budget};
+ghost use Rattle.guest_calls.specs.Calls.{most_output};
 ghost use Rattle.a32_step.specs.Machine.{Machine};
 ghost use Rattle.a32_step.specs.Ports.{Leads};
 ghost use Rattle.guest_calls.specs.Run.{Pair};
@@ -26,9 +27,10 @@ impl Guest {
         ensures later { IfNone result (progress_of self.old < progress_of self.new) }
         ensures mem { P.mem port.new ≡ P.mem port.old }
         ensures counted { IfNone result (P.counted port.new ≤ progress_of self.new) }
+        ensures no_more { IfSome result (λ stop. P.counted port.new ≤ P.counted port.old) }
         ensures comes { (start : Machine) (before : List Pair) → HasCome image.now budget start before self.old
             → MatchOption result ((pairs : List Pair) × (Leads P.replies port.old pairs port.new × HasCome image.now budget start (before ++ pairs) self.new))
-            (λ stop. (port.new ≡ port.old) × EndsBy (P.refuses port.old) image.now budget start before stop self.new.steps self.new.output) }
+            (λ stop. Leads P.replies port.old [] port.new × EndsBy (P.refuses port.new) image.now budget start before stop self.new.steps self.new.output) }
     {
         let Some(turn) = self.one_turn(image, budget) else {
             return None;
@@ -41,6 +43,7 @@ impl Guest {
             self.give(reply);
             return None;
         }
+        P::counts_one();
         match ask {
             Ask::Store(place, _) => Some(Stop::TagLimit(place.addr)),
             _ => unreachable!(),
@@ -84,7 +87,8 @@ impl Guest {
     /// each access. The budget is at most 1,000,000,000,000 steps.
     ///
     /// The core waits for no reply, the code is of the image of the start, whose length 32 bits hold, and the port's memory has
-    /// as many bytes.
+    /// as many bytes. An instruction makes 16 accesses at most, and a byte of output is loaded by one, so that the port counts
+    /// no more than these.
     pub fn run<P: Port>(&mut self, code: &mut Code, budget: u64, port: &mut P) -> Stop
         requires running { IsRunning (length code.old.program.bytes) budget self.old }
         requires mem { P.mem port.old ≡ length code.old.program.bytes }
@@ -92,6 +96,8 @@ impl Guest {
         requires small { length code.old.program.bytes < 2 ^ 32 }
         requires budget { budget ≤ most_budget }
         ensures program { code.new.program ≡ code.old.program }
+        ensures mem { P.mem port.new ≡ P.mem port.old }
+        ensures few { P.counted port.new ≤ 17 * budget + most_output + 16 }
         ensures ends { (start : Machine) → HasCome code.old.program budget start [] self.old
             → (pairs : List Pair) × (Leads P.replies port.old pairs port.new × EndsBy (P.refuses port.new) code.old.program budget start pairs result self.new.steps self.new.output) }
     {

@@ -4,13 +4,7 @@ ghost use Rattle.guest_thread.specs.Accesses.{tried_by};
 
 use a32_step::Ask;
 use history::{Access, Deed};
-use llsc_base::{Place, Size};
-
-/// The place of a CLREX.
-const NOWHERE: Place = Place {
-    addr: 0,
-    size: Size::B1,
-};
+use llsc_base::Place;
 
 /// The access that a thread tries by what it asks: a load without a value, a store with its own, a CLREX of the place of one
 /// byte at address 0.
@@ -23,7 +17,7 @@ pub fn tried_by(thread: u32, ask: Ask) -> Access
         Ask::LoadEx(place) => (Deed::LoadEx, place, 0),
         Ask::Store(place, value) => (Deed::Store, place, value),
         Ask::StoreEx(place, value) => (Deed::StoreEx, place, value),
-        Ask::Clear => (Deed::Clear, NOWHERE, 0),
+        Ask::Clear => (Deed::Clear, Place::NOWHERE, 0),
     };
     Access {
         thread,

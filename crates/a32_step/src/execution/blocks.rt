@@ -111,7 +111,6 @@ impl Execution {
         self.move_base(transfer, 4 * count);
         self.set_listed(list);
         self.pc = value;
-        self.finish();
         Progress::Complete
     }
 

@@ -6,7 +6,7 @@ ghost use Rattle.a32_instr.specs.Branch.{branched, branches_by_register, call_of
 ghost use Rattle.a32_instr.specs.Effect.{acts};
 ghost use Rattle.a32_step.specs.Progress.{progress_of};
 ghost use Rattle.a32_step.specs.Classes.{instr_class, branch_or_call};
-ghost use Rattle.a32_step.specs.ExecutionState.{resting, moves};
+ghost use Rattle.a32_step.specs.ExecutionState.{moves};
 
 use super::Execution;
 use crate::operands::branch_target;
@@ -18,13 +18,12 @@ impl Execution {
     #[tactic(auto, using(crate::proofs::Words::words_set))]
     pub(super) fn branch(&mut self, link: bool, words: i32) -> Progress
         ensures progress { result ≡ Progress.Complete }
-        ensures state { self.new ≡ resting (branched link words self.old.state) }
+        ensures state { self.new ≡ record self.old { state = branched link words self.old.state } }
     {
         if link {
             self.regs[14] = self.pc.wrapping_add(4);
         }
         self.pc = branch_target(self.pc, words);
-        self.finish();
         Progress::Complete
     }
 
@@ -42,7 +41,6 @@ impl Execution {
             self.regs[14] = self.pc.wrapping_add(4);
         }
         self.pc = address;
-        self.finish();
         Progress::Complete
     }
 

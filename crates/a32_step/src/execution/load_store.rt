@@ -111,7 +111,6 @@ impl Execution {
         }
         self.write_back(back.index, back.rn, back.moved);
         self.pc = value;
-        self.finish();
         Progress::Complete
     }
 
@@ -119,7 +118,7 @@ impl Execution {
     #[inline(always)]
     fn finish_store(&mut self, back: WriteBack) -> Progress
         ensures progress { result ≡ Progress.Complete }
-        ensures state { self.new ≡ resting (advanced (written_back back.index back.rn back.moved self.old.state)) }
+        ensures state { self.new ≡ record self.old { state = advanced (written_back back.index back.rn back.moved self.old.state) } }
     {
         self.write_back(back.index, back.rn, back.moved);
         self.advance()

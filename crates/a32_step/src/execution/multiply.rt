@@ -5,7 +5,7 @@ ghost use Rattle.a32_instr.specs.Multiply.{joined, multiplied, multiplies, multi
 ghost use Rattle.a32_instr.specs.Effect.{acts};
 ghost use Rattle.a32_step.specs.Progress.{progress_of};
 ghost use Rattle.a32_step.specs.Classes.{instr_class, multiplication};
-ghost use Rattle.a32_step.specs.ExecutionState.{moves, resting};
+ghost use Rattle.a32_step.specs.ExecutionState.{moves};
 
 use super::Execution;
 use crate::parts::low_word;
@@ -100,7 +100,7 @@ impl Execution {
         rm: Reg,
     ) -> Progress
         ensures progress { result ≡ Progress.Complete }
-        ensures state { self.new ≡ resting (after_long kind sets lo hi rn rm self.old.state) }
+        ensures state { self.new ≡ record self.old { state = after_long kind sets lo hi rn rm self.old.state } }
     {
         let old = self.pair(hi, lo);
         let value = wide(kind, self.operand(rn), self.operand(rm), old);

@@ -1,9 +1,9 @@
 //! An instruction that is carried through over a port, which replies to its accesses at once.
-ghost use Rattle.std.specs.Prelude.{◌≡◌, ◌≢◌, ◌<◌, ◌≤◌, ◌+◌, ◌^◌, ◌∷◌, [], IfSome, IsTrue, MatchOption, length};
+ghost use Rattle.std.specs.Prelude.{◌≡◌, ◌≢◌, ◌<◌, ◌≤◌, ◌+◌, ◌^◌, ◌∷◌, [], IfSome, IsTrue, MatchOption, Some, length};
 ghost use Rattle.a32_instr.specs.Effect.{acts};
 ghost use Rattle.a32_step.specs.ExecutionState.{Inside, resting};
 ghost use Rattle.a32_step.specs.Machine.{PassesTests, ValueFits};
-ghost use Rattle.a32_step.specs.Passages.{IsCarried};
+ghost use Rattle.a32_step.specs.Passages.{IsCarried, IsUnmade};
 
 use super::Execution;
 use crate::phases::{Passage, Point, Progress};
@@ -32,7 +32,7 @@ pub(super) fn reply_of<P: Port>(image: &Image, ask: Ask, port: &mut P) -> Option
     requires mem { P.mem port.old ≡ length image.now.bytes }
     requires few { P.counted port.old < 2 ^ 63 }
     ensures passes { IfSome result (λ reply. PassesTests image.now ask) }
-    ensures replied { MatchOption result (port.new ≡ port.old) (λ reply. P.replies port.old ask reply port.new) }
+    ensures replied { MatchOption result (IsUnmade P.replies image.now port.old ask port.new) (λ reply. P.replies port.old ask (Some reply) port.new) }
     ensures mem { P.mem port.new ≡ P.mem port.old }
     ensures counted { P.counted port.new ≤ P.counted port.old + 1 }
 {
@@ -85,11 +85,12 @@ impl Execution {
     /// The instruction is complete with all of its replies, or it goes on from there.
     #[inline(always)]
     pub(super) fn after_all(&mut self, progress: Progress) -> Passage
-        ensures complete { progress ≡ Progress.Complete → (result ≡ Passage.Complete) × (self.new ≡ self.old) }
+        ensures complete { progress ≡ Progress.Complete → (result ≡ Passage.Complete) × (self.new ≡ resting self.old.state) }
         ensures none { progress ≡ Progress.Held → self.old.replies ≡ [] → (result ≡ Passage.AtStart) × (self.new ≡ resting self.old.state) }
         ensures some { progress ≡ Progress.Held → self.old.replies ≢ [] → (result ≡ Passage.UnderWay) × (self.new ≡ record self.old { stage = Inside }) }
     {
         if progress == Progress::Complete {
+            self.finish();
             return Passage::Complete;
         }
         self.go_on()

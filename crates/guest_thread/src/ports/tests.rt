@@ -1,5 +1,5 @@
 //! A guest over memory that refuses each store.
-ghost use Rattle.std.specs.Prelude.{◌≡◌};
+ghost use Rattle.std.specs.Prelude.{◌≡◌, IfSome};
 
 use super::*;
 use llsc_base::{Image, MachineSize};
@@ -10,7 +10,7 @@ use std::test::Fail;
 struct Zeros;
 
 impl Port for Zeros {
-    ghost replies = { λ old ask reply new. reply ≡ 0 };
+    ghost replies = { λ old ask reply new. IfSome reply (λ value. value ≡ 0) };
 
     ghost mem = { λ zeros. 65536 };
 

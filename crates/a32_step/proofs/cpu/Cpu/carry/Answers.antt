@@ -3,6 +3,7 @@ use Rattle.llsc_base.specs.Images.{Program}
 use Rattle.a32_instr.specs.declared.instructions.Instr.{Instr}
 use Rattle.a32_instr.specs.Condition.{passes}
 use Rattle.a32_instr.specs.Effect.{acts, condition_of}
+use Rattle.a32_instr.specs.State.{advanced}
 use Rattle.a32_step.specs.declared.phases.Passage.TheVariants.{Complete, AtStart, UnderWay}
 use Rattle.a32_step.specs.ExecutionState.{ExecutionState, machine_in, resting}
 use Rattle.a32_step.specs.Machine.{Machine, between, instr_at}
@@ -28,7 +29,8 @@ returns-then-not-meets-clause-carried g c =
     c.meets.ensures ∙ ap (λ n. passes n exec.state.flags) c.at-known.ensures.cond in
     subst (λ m. IsCarriedOn g.P.Port.replies program m c.args.port.now Complete (machine_in (instr_for c.self.inside.decoded c.advance.new.self.state.pc) c.advance.new.self) c.args.port.now) (sym old)
     (passed_over g.P.Port.replies program instr exec.state c.args.port.now _ known (sym met ∙ c.if-not-meets.true)
-    (ap (λ (s : ExecutionState). machine_in (instr_for c.self.inside.decoded s.state.pc) s) c.advance.ensures.state))
+    (ap (λ (s : ExecutionState). machine_in (instr_for c.self.inside.decoded s.state.pc) s)
+    (c.advance.ensures.state ∙ ap (λ (s : ExecutionState). record s { state = advanced exec.state }) rest)))
 
 pub keep-requires-clause-one : goal.keep-requires-clause-one
 keep-requires-clause-one g c =

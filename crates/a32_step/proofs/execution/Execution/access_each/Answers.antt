@@ -1,10 +1,10 @@
 -- Each word is the one that the block asks for next.
-use Rattle.std.proofs.Common.{rules, ◌≡◌, ◌+◌, [], ◌∷◌, ◌++◌, List, ℕ, length, refl, sym, ap, subst, ◌∙◌, arith}
+use Rattle.std.proofs.Common.{rules, ◌≡◌, ◌+◌, [], ◌∷◌, ◌++◌, List, ℕ, Some, None, length, refl, sym, ap, subst, ◌∙◌, arith}
 use Rattle.a32_step.specs.ExecutionState.{ExecutionState}
 use Rattle.std.proofs.lemmas.List.{length-append}
 use Rattle.a32_instr.specs.Block.{block_at}
 use Rattle.a32_step.specs.Ports.{IsAskIn}
-use Rattle.a32_step.specs.Passages.{IsGiven, begins, one_more, word_ask}
+use Rattle.a32_step.specs.Passages.{IsGiven, begins, none_made, one_more, word_ask}
 use Rattle.a32_step.proofs.BlockPassages.{AreLeft, asked, left_end, left_first, left_next, left_none, may, next_at}
 use Rattle.a32_step.proofs.execution.Execution.access_each.Goals as goal
 
@@ -45,7 +45,13 @@ reply-requires-clause-may g c =
 
 pub returns-in_default-clause-given : goal.returns-in_default-clause-given
 returns-in_default-clause-given g c = λ back.
-    subst (λ port. IsGiven g.P.Port.replies (λ had. block_at c.args.image.now c.args.load c.args.lowest c.args.list back had c.args.self.now.state) c.args.port.now c.loop-r.self.replies port) (sym c.in_default.ensures.replied) (c.loop-r.invariant.given back)
+    let inv = c.loop-r.invariant in
+    let had : List ℕ = c.loop-r.self.replies in
+    none_made had c.loop-r.port c.reply.new.self (word_ask c.args.load c.loop-r.addr c.loop-r.r c.args.self.now.state) (inv.given back)
+    (asked c.args.image.now c.args.load c.args.lowest c.args.list c.loop-r.r (length had) c.loop-r.addr c.args.self.now.state had
+    (search rules) (search rules) inv.left refl inv.at c.requires.passes back)
+    (subst (λ a. g.P.Port.replies c.loop-r.port a None c.reply.new.self) (search rules)
+    (subst (λ r. g.P.Port.replies c.loop-r.port c.word_ask-ask.result r c.reply.new.self) c.in_default.is c.reply.ensures.replied))
 
 pub loop-r-preserved : goal.loop-r-preserved
 loop-r-preserved g c =
@@ -61,7 +67,8 @@ loop-r-preserved g c =
           (one_more had c.loop-r.port c.reply.new.self (word_ask c.args.load c.loop-r.addr c.loop-r.r c.args.self.now.state) c.in-Some.reply (inv.given back)
           (asked c.args.image.now c.args.load c.args.lowest c.args.list c.loop-r.r (length had) c.loop-r.addr c.args.self.now.state had
           (search rules) (search rules) inv.left refl inv.at c.requires.passes back)
-          (subst (λ a. g.P.Port.replies c.loop-r.port a c.in-Some.reply c.reply.new.self) (search rules) c.in-Some.ensures.replied));
+          (subst (λ a. g.P.Port.replies c.loop-r.port a (Some c.in-Some.reply) c.reply.new.self) (search rules)
+          (subst (λ r. g.P.Port.replies c.loop-r.port c.word_ask-ask.result r c.reply.new.self) c.in-Some.is c.reply.ensures.replied)));
       state = ap (λ (s : ExecutionState). record s { replies = c.push.new.self }) (c.self.view_is ∙ inv.state);
       mem = c.reply.ensures.mem ∙ inv.mem;
       counted = omega (arith, longer, inv.counted, c.reply.ensures.counted);

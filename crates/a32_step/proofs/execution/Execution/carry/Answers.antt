@@ -2,7 +2,7 @@ use Rattle.std.proofs.Common.{rules, ◌≡◌, refl, ap, ◌∙◌}
 use Rattle.a32_instr.specs.Branch.{branched, branches}
 use Rattle.a32_instr.specs.DataProcessing.{alu}
 use Rattle.a32_instr.specs.Effect.{acts}
-use Rattle.a32_step.specs.ExecutionState.{ExecutionState, moves, resting}
+use Rattle.a32_step.specs.ExecutionState.{ExecutionState, moves}
 use Rattle.a32_step.specs.Progress.{progress_of}
 use Rattle.a32_step.proofs.Carrying.{carried_at_once, carried_same}
 use Rattle.a32_step.proofs.execution.Execution.carry.Goals as goal
@@ -26,7 +26,7 @@ pub returns-in-Branch : goal.returns-in-Branch
 returns-in-Branch g c =
     let image = c.args.image.now in
     let state = c.args.self.now.state in
-    let moved : c.branch-progress.new.self ≡ resting (branched c.in-Branch.link c.in-Branch.words state) = search rules in
+    let moved : c.branch-progress.new.self ≡ record c.args.self.now { state = branched c.in-Branch.link c.in-Branch.words state } = search rules in
     record {
       carried = carried_same g.P.Port.replies (λ had. branches c.in-Branch.link c.in-Branch.words state) (λ had. acts c.args.instr.now image had state)
           c.args.self.now c.args.port.now c.at_once-in-Branch.result c.at_once-in-Branch.new.self c.args.port.now

@@ -66,7 +66,7 @@ returns-in-AtStart g c =
     let ends = part_ends program carried.machine c.carry.new.self c.carry.result c.in-AtStart.is carried.ends in
     let none : length inside.cpu.replies ≡ 0 = ap (λ (m : Machine). length m.replies) inv.rest.between in
     let made : g.P.Port.counted c.carry.new.port ≤ g.P.Port.counted c.loop-steps.port + length carried.pairs =
-    leads_counted g.P.Port.replies g.P.Port.counted c.loop-steps.port c.carry.new.port carried.pairs c.counts_one.ensures carried.leads in
+    leads_counted g.P.Port.replies g.P.Port.counted c.loop-steps.port c.carry.new.port carried.pairs c.counts_one.ensures.one c.counts_one.ensures.none carried.leads in
     let had : length c.carry.new.self.replies ≡ length carried.pairs =
     ap (λ (m : Machine). length m.replies) ends.0 ∙ replies_counted program inside.cpu carried.machine carried.pairs inv.rest.between carried.comes in
     record {

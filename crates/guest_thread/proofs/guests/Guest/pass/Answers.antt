@@ -1,6 +1,6 @@
 -- A reply leads a thread on, and a store that memory refuses ends it.
 use Rattle.std.proofs.Common.{◌∷◌, [], length, refl, sym, subst, append-nil, inl, inr}
-use Rattle.a32_step.specs.Ports.{IsRefused, stays, goes}
+use Rattle.a32_step.specs.Ports.{IsRefused, goes, refused, stays}
 use Rattle.guest_thread.specs.ThreadState.{IsPendingAfter}
 use Rattle.guest_thread.specs.Under.{ComesTo, HasCome}
 use Rattle.guest_thread.proofs.Carried.{further}
@@ -17,7 +17,8 @@ pub returns-in-Some-reply-clause-comes : goal.returns-in-Some-reply-clause-comes
 returns-in-Some-reply-clause-comes g c = λ start before come. (
   (c.in-Asks.ask, c.in-Some-reply.reply) ∷ [],
   (
-    goes [] c.args.port.now c.reply.new.self c.in-Asks.ask c.in-Some-reply.reply stays c.in-Some-reply.ensures.replied,
+    goes [] c.args.port.now c.reply.new.self c.in-Asks.ask c.in-Some-reply.reply stays
+        (subst (λ r. g.P.Port.replies c.args.port.now c.in-Asks.ask r c.reply.new.self) c.in-Some-reply.is c.reply.ensures.replied),
     c.give.ensures.comes _ _ _ _ _ (subst (λ t. ComesTo c.args.image.now c.args.budget start before t c.one_turn.new.self) c.in-Asks.is (c.in-Some.ensures.comes start before come)).1,
   ),
 )
@@ -37,15 +38,16 @@ returns-in_default-clause-comes g c = λ start before come. (
 )
 
 pub returns-in-Ended-clause-comes : goal.returns-in-Ended-clause-comes
-returns-in-Ended-clause-comes g c = λ start before come. (refl, inl (subst (λ t. ComesTo c.args.image.now c.args.budget start before t c.one_turn.new.self) c.in-Ended.is (c.in-Some.ensures.comes start before come)))
+returns-in-Ended-clause-comes g c = λ start before come. (stays, inl (subst (λ t. ComesTo c.args.image.now c.args.budget start before t c.one_turn.new.self) c.in-Ended.is (c.in-Some.ensures.comes start before come)))
 
 pub returns-clause-comes : goal.returns-clause-comes
 returns-clause-comes g c = λ start before come. (
-  c.in_default-reply.ensures.replied,
+  refused [] c.args.port.now c.reply.new.self c.in-Asks.ask stays
+      (subst (λ r. g.P.Port.replies c.args.port.now c.in-Asks.ask r c.reply.new.self) c.in_default-reply.is c.reply.ensures.replied),
   inr (
     c.in-Store.place.addr,
     (
-      subst (IsRefused (g.P.Port.refuses c.args.port.now)) c.in-Store.is c.in_default-reply.ensures.refused,
+      subst (IsRefused (g.P.Port.refuses c.reply.new.self)) c.in-Store.is c.in_default-reply.ensures.refused,
       refl,
       ended_on c.args.image.now c.args.budget start before c.in-Store.place c.in-Store.field-1 c.in-Asks.ask c.one_turn.new.self (subst (λ t. ComesTo c.args.image.now c.args.budget start before t c.one_turn.new.self) c.in-Asks.is (c.in-Some.ensures.comes start before come)).1 c.in-Store.is,
     ),

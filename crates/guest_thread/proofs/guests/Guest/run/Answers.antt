@@ -1,10 +1,11 @@
 -- What each access leaves holds for all of them.
-use Rattle.std.proofs.Common.{◌∙◌, [], length, refl, sym, subst}
+use Rattle.std.proofs.Common.{◌∙◌, [], length, refl, sym, subst, append-nil}
 use Rattle.llsc_base.specs.Images.{Program}
 use Rattle.a32_step.specs.Ports.{Leads}
 use Rattle.guest_thread.specs.Ports.{EndsBy, IsRunning}
 use Rattle.guest_thread.specs.Under.{HasCome}
 use Rattle.guest_thread.proofs.Carried.{no_way, Ways, way_on}
+use Rattle.guest_thread.proofs.Leading.{leads_on}
 use Rattle.guest_thread.proofs.guests.Guest.run.Goals as goal
 
 pub loop-stop-init : goal.loop-stop-init
@@ -26,9 +27,9 @@ returns-in-Some-clause-ends g c = λ start come.
     let ended = c.in-Some.ensures.comes start way.0 (subst (λ p. HasCome p c.args.budget start way.0 c.carry_on.new.self) (sym c.image-image.ensures) way.1.1) in (
       way.0,
       (
-        subst (λ port. Leads g.P.Port.replies c.args.port.now way.0 port) (sym ended.0) way.1.0,
-        subst (λ port. EndsBy (g.P.Port.refuses port) program c.args.budget start way.0 c.in-Some.stop c.pass.new.self.steps c.pass.new.self.output) (sym ended.0)
-            (subst (λ p. EndsBy (g.P.Port.refuses c.carry_on.new.port) p c.args.budget start way.0 c.in-Some.stop c.pass.new.self.steps c.pass.new.self.output) c.image-image.ensures ended.1),
+        subst (λ all. Leads g.P.Port.replies c.args.port.now all c.pass.new.port) (append-nil way.0)
+            (leads_on g.P.Port.replies c.args.port.now c.carry_on.new.port c.pass.new.port way.0 [] way.1.0 ended.0),
+        subst (λ p. EndsBy (g.P.Port.refuses c.pass.new.port) p c.args.budget start way.0 c.in-Some.stop c.pass.new.self.steps c.pass.new.self.output) c.image-image.ensures ended.1,
       ),
     )
 

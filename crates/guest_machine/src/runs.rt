@@ -1,0 +1,180 @@
+//! All guest threads of a program on host threads.
+ghost use Rattle.std.specs.Prelude.{◌≡◌, ◌<◌, ◌≤◌, ◌+◌, ℕ, [], ◌∷◌, ◌++◌, ◌^◌, All, IfNone, IfSome, MatchOption, true, length, vec_len, vec_capacity};
+ghost use Rattle.llsc_base.specs.Limits.{most_budget};
+ghost use Rattle.shared_memory.specs.Seen.{IsFront, IsOneOf, SaysAllOf, joint};
+ghost use Rattle.guest_machine.specs.Crews.{AreFresh, HaveEnded, IsEndOf, IsFresh, IsReady};
+ghost use Rattle.guest_thread.specs.Counting.{accesses_counted, counts_in};
+ghost use Rattle.guest_thread.specs.Outcome.{AreEndsOn};
+ghost use Rattle.guest_thread.specs.declared.ends.GuestEnd.{GuestEnd};
+ghost use denote.Param.Send.{IsSync, IsSend};
+
+use crate::crews::{Crew, Job};
+use a32_step::Stop;
+use guest_thread::{Finished, GuestEnd, run_thread};
+use llsc_base::Image;
+use shared_memory::SharedMemory;
+use std::sync::Wait;
+use std::thread::{Threads, join};
+
+/// Threads that have ended: the pass of all of them, and how each ended, in order of number.
+#[derive(Drop)]
+pub struct Ran<P> {
+    pub pass: P,
+    pub ends: Vec<GuestEnd>,
+}
+
+/// Runs one job.
+fn run_job<M: SharedMemory, R: Wait>(
+    rt: &R,
+    mem: &M,
+    image: &Image,
+    job: Job<M::Pass>,
+    budget: u64,
+) -> Finished<M::Pass>
+    requires fresh { IsFresh M.home M.numbers M.seen (M.id mem.now) (M.origin mem.now) image.now job }
+    requires whole { length image.now.bytes ≡ (M.origin mem.now).size.mem }
+    requires budget { budget ≤ most_budget }
+    ensures end { IsEndOf image.now (M.origin mem.now) budget (M.seen result.pass) job.entry.thread result.end }
+    ensures number { IsOneOf job.entry.thread (M.numbers result.pass) }
+    ensures begins { IsFront (M.seen job.entry.pass) (M.seen result.pass) }
+    ensures memory { M.home result.pass ≡ M.id mem.now }
+{
+    let Job {
+        thread: _,
+        cpu,
+        pass,
+        out,
+        code,
+    } = job;
+    run_thread(rt, mem, code, cpu, pass, out, budget)
+}
+
+/// Takes one more thread that has ended to those before it.
+fn gather<M: SharedMemory>(mem: &M, ran: Ran<M::Pass>, done: Finished<M::Pass>) -> Ran<M::Pass>
+    requires memory { (M.home ran.pass ≡ M.id mem.now) × (M.home done.pass ≡ M.id mem.now) }
+    requires room { vec_len ran.ends < vec_capacity ran.ends }
+    ensures memory { M.home result.pass ≡ M.id mem.now }
+    ensures numbers { M.numbers result.pass ≡ joint (M.numbers ran.pass) (M.numbers done.pass) }
+    ensures fronts { IsFront (M.seen ran.pass) (M.seen result.pass) × IsFront (M.seen done.pass) (M.seen result.pass) }
+    ensures mine { SaysAllOf (M.numbers ran.pass) (M.seen ran.pass) (M.seen result.pass) }
+    ensures yours { SaysAllOf (M.numbers done.pass) (M.seen done.pass) (M.seen result.pass) }
+    ensures ends { result.ends.items ≡ ran.ends.items ++ done.end ∷ [] }
+    ensures len { vec_len result.ends ≡ vec_len ran.ends + 1 }
+    ensures capacity { vec_capacity ran.ends ≤ vec_capacity result.ends }
+{
+    let Ran { mut pass, mut ends } = ran;
+    let Finished { pass: other, end } = done;
+    mem.join(&mut pass, other);
+    match ends.push(end) {
+        Ok(()) => {}
+        Err(_) => {}
+    }
+    Ran { pass, ends }
+}
+
+/// The first of the threads that have ended.
+fn begin<P>(done: Finished<P>, mut ends: Vec<GuestEnd>) -> Ran<P>
+    requires room { vec_len ends < vec_capacity ends }
+    ensures pass { result.pass ≡ done.pass }
+    ensures ends { result.ends.items ≡ ends.items ++ done.end ∷ [] }
+    ensures len { vec_len result.ends ≡ vec_len ends + 1 }
+    ensures capacity { vec_capacity ends ≤ vec_capacity result.ends }
+{
+    let Finished { pass, end } = done;
+    match ends.push(end) {
+        Ok(()) => {}
+        Err(_) => {}
+    }
+    Ran { pass, ends }
+}
+
+/// Takes the last of the jobs out, where there is one.
+fn take_last<'i, M: SharedMemory>(
+    mem: &M,
+    image: &Image,
+    jobs: &mut Vec<Job<'i, M::Pass>>,
+) -> Option<Job<'i, M::Pass>>
+    requires fresh { AreFresh M.home M.numbers M.seen (M.id mem.now) (M.origin mem.now) image.now jobs.old.items }
+    ensures others { AreFresh M.home M.numbers M.seen (M.id mem.now) (M.origin mem.now) image.now jobs.new.items }
+    ensures last { IfSome result (IsFresh M.home M.numbers M.seen (M.id mem.now) (M.origin mem.now) image.now) }
+    ensures items { MatchOption result (jobs.old.items ≡ []) (λ last. jobs.old.items ≡ jobs.new.items ++ last ∷ []) }
+    ensures len { IfSome result (λ _. vec_len jobs.old ≡ vec_len jobs.new + 1) }
+    ensures empty { IfNone result (vec_len jobs.old ≡ 0) }
+{
+    let Some(last) = jobs.pop() else {
+        return None;
+    };
+    Some(last)
+}
+
+/// Runs the jobs beside each other: the last on a host thread of its own, those before it so in turn.
+#[cycle(jobs)]
+fn run_jobs<M: SharedMemory, R: Threads + Wait + Sync>(
+    rt: &R,
+    mem: &M,
+    image: &Image,
+    first: Job<M::Pass>,
+    mut jobs: Vec<Job<M::Pass>>,
+    ends: Vec<GuestEnd>,
+    budget: u64,
+) -> Ran<M::Pass>
+    requires first { IsFresh M.home M.numbers M.seen (M.id mem.now) (M.origin mem.now) image.now first }
+    requires others { AreFresh M.home M.numbers M.seen (M.id mem.now) (M.origin mem.now) image.now jobs.items }
+    requires empty { (ends.items ≡ []) × (vec_len ends ≡ 0) }
+    requires room { vec_len jobs < vec_capacity ends }
+    requires whole { length image.now.bytes ≡ (M.origin mem.now).size.mem }
+    requires budget { budget ≤ most_budget }
+    ensures ended { HaveEnded M.home M.numbers M.seen (M.id mem.now) (M.origin mem.now) image.now budget (first.entry ∷ jobs.entry.items) result }
+    ensures begins { IsFront (M.seen first.entry.pass) (M.seen result.pass) }
+    ensures len { vec_len result.ends ≡ vec_len jobs.entry + 1 }
+    ensures capacity { vec_capacity ends ≤ vec_capacity result.ends }
+{
+    let Some(last) = take_last(mem, image, &mut jobs) else {
+        return begin(run_job(rt, mem, image, first, budget), ends);
+    };
+    let (ran, done) = join(
+        rt,
+        move || -> Ran<M::Pass>
+            requires { IsSync R.row × IsFresh M.home M.numbers M.seen (M.id mem.now) (M.origin mem.now) image.now first
+                × AreFresh M.home M.numbers M.seen (M.id mem.now) (M.origin mem.now) image.now jobs.items
+                × ((ends.items ≡ []) × (vec_len ends ≡ 0)) × (vec_len jobs < vec_capacity ends)
+                × (length image.now.bytes ≡ (M.origin mem.now).size.mem) × (budget ≤ most_budget) }
+            ensures { HaveEnded M.home M.numbers M.seen (M.id mem.entry.now) (M.origin mem.entry.now) image.entry.now budget (first.entry ∷ jobs.entry.items) result
+                × IsFront (M.seen first.entry.pass) (M.seen result.pass)
+                × (vec_len result.ends ≡ vec_len jobs.entry + 1) × (vec_capacity ends ≤ vec_capacity result.ends) }
+        { run_jobs(rt, mem, image, first, jobs, ends, budget) },
+        move || -> Finished<M::Pass>
+            requires { IsFresh M.home M.numbers M.seen (M.id mem.now) (M.origin mem.now) image.now last
+                × (length image.now.bytes ≡ (M.origin mem.now).size.mem) × (budget ≤ most_budget) }
+            ensures { IsEndOf image.entry.now (M.origin mem.entry.now) budget (M.seen result.pass) last.entry.thread result.end
+                × IsOneOf last.entry.thread (M.numbers result.pass) × (M.home result.pass ≡ M.id mem.entry.now) }
+        { run_job(rt, mem, image, last, budget) },
+    );
+    gather(mem, ran, done)
+}
+
+/// Runs all threads, each on a host thread, up to their stops, and gives how each ended, in order of number, with a pass of all
+/// of their numbers. Memory has as many bytes as the image. The budget is at most 1,000,000,000,000 steps for each. No memory is
+/// taken from the allocator.
+///
+/// What they did is in what the pass has seen of the history: a thread's accesses there are those of its run, with its end.
+pub fn run_all<M: SharedMemory, R: Threads + Wait + Sync>(
+    rt: &R,
+    mem: &M,
+    image: &Image,
+    crew: Crew<M::Pass>,
+    budget: u64,
+) -> Ran<M::Pass>
+    requires crew { IsReady M.home M.numbers M.seen (M.id mem.now) (M.origin mem.now) image.now crew }
+    requires whole { length image.now.bytes ≡ (M.origin mem.now).size.mem }
+    requires budget { budget ≤ most_budget }
+    ensures ends { AreEndsOn image.now (M.origin mem.now).size budget (M.seen result.pass) result.ends.items }
+    ensures spends { All (λ (end : GuestEnd). (addr : ℕ) → end.stop ≡ Stop.TagLimit addr → (M.origin mem.now).spends ≡ true) result.ends.items }
+    ensures few { All (λ (end : GuestEnd). accesses_counted (counts_in end) < 2 ^ 45) result.ends.items }
+    ensures numbers { (t : ℕ) → t < (M.origin mem.now).size.threads → IsOneOf t (M.numbers result.pass) }
+    ensures begins { IsFront (M.seen crew.entry.first.pass) (M.seen result.pass) }
+    ensures memory { M.home result.pass ≡ M.id mem.now }
+{
+    let Crew { first, jobs, ends } = crew;
+    run_jobs(rt, mem, image, first, jobs, ends, budget)
+}

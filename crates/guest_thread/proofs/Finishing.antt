@@ -1,0 +1,86 @@
+-- The end of a thread's run over a memory that threads share.
+use Rattle.std.proofs.Common.{◌≡◌, inl, inr, ℕ, ◌+◌, ◌*◌, ◌^◌, ◌<◌, ◌≤◌, true, List, [], refl, sym, subst, ap, ◌∙◌, arith}
+use Rattle.llsc_base.specs.Images.{Program}
+use Rattle.llsc_base.specs.Limits.{most_budget}
+use Rattle.history.specs.declared.entry.Entry.{Entry}
+use Rattle.a32_instr.specs.declared.outside.Stop.{Stop}
+use Rattle.a32_instr.specs.declared.outside.Stop.TheVariants.{TagLimit}
+use Rattle.a32_step.specs.Machine.{Machine, between}
+use Rattle.a32_step.proofs.Passed.{GoesOn}
+use Rattle.guest_calls.specs.Pairs.{pairs_of}
+use Rattle.guest_calls.specs.Calls.{most_output}
+use Rattle.guest_calls.specs.Run.{Pair, EndsOn, by_itself}
+use Rattle.guest_thread.specs.Counting.{AreCounts, accesses_counted, counts_in}
+use Rattle.guest_thread.specs.Outcome.{IsSpent, IsEndOn}
+use Rattle.guest_thread.specs.Ports.{EndsBy}
+use Rattle.guest_thread.specs.Sharing.{SharingState, IsServedBy, RefusesAt}
+use Rattle.a32_step.specs.Ports.{Leads}
+use Rattle.atomic_table.specs.Seated.{TableId}
+use Rattle.history.specs.Parts.{entries_of}
+use Rattle.shared_memory.specs.Origin.{Origin}
+use Rattle.guest_thread.specs.ThreadState.{ThreadState}
+use Rattle.guest_thread.specs.declared.counts.Counts.{Counts}
+use Rattle.guest_thread.specs.declared.ends.GuestEnd.{GuestEnd}
+use Rattle.guest_thread.proofs.Placed.{ends_untagged}
+use Rattle.guest_thread.proofs.Shared.{HasShared, after_all}
+
+same_limit : (addr other : ℕ) → TagLimit addr ≡ TagLimit other → addr ≡ other
+same_limit addr other same = cc
+
+-- ---- a stop at a store that memory refused
+
+module _ (program : Program) (budget : ℕ) (start : Machine) (between_two : start ≡ between start.state) where
+  refused_by : (refuses : ℕ → Type 0) (pairs : List Pair) (stop : Stop) (steps : ℕ) (output : List ℕ) (addr : ℕ)
+      → EndsBy refuses program budget start pairs stop steps output → stop ≡ TagLimit addr → refuses addr
+  refused_by refuses pairs stop steps output addr (inl ends) is =
+      absurd (ends_untagged program budget start (subst (λ (m : Machine). GoesOn m.phase) (sym between_two) tt) pairs stop steps output addr ends is)
+  refused_by refuses pairs stop steps output addr (inr refused) is =
+      subst refuses (same_limit refused.0 addr (sym refused.1.1 ∙ is)) refused.1.0
+
+  ends_on : (refuses : ℕ → Type 0) (pairs : List Pair) (stop : Stop) (steps : ℕ) (output : List ℕ)
+      → EndsBy refuses program budget start pairs stop steps output → EndsOn program budget start pairs stop steps output
+  ends_on refuses pairs stop steps output (inl ends) = by_itself pairs stop steps output ends
+  ends_on refuses pairs stop steps output (inr refused) = refused.1.2
+
+  -- the end is that of the thread's run with its accesses
+  pub end_on : (first last : SharingState) (pairs : List Pair) (end : GuestEnd) → HasShared first pairs last → end.thread ≡ first.thread
+      → counts_in end ≡ last.counts → EndsBy (RefusesAt last) program budget start pairs end.stop end.steps end.out
+      → IsEndOn program first.origin.size budget start last.seen end
+  end_on first last pairs end shared thread counts ends = record {
+    ends = subst (λ p. EndsOn program budget start p end.stop end.steps end.out)
+        (sym shared.pairs_are ∙ ap (λ t. pairs_of t last.seen) (sym thread))
+        (ends_on (RefusesAt last) pairs end.stop end.steps end.out ends);
+    spent = λ addr is. subst (λ o. IsSpent o.size last.seen addr) shared.goes_on.origin (refused_by (RefusesAt last) pairs end.stop end.steps end.out addr ends is).1;
+    counts = subst (λ t. AreCounts t last.seen (counts_in end)) (sym thread) (subst (AreCounts first.thread last.seen) (sym counts) shared.counts);
+  }
+
+  -- a store is refused only where the memory counts a class's writes
+  pub spends_at : (first last : SharingState) (pairs : List Pair) (stop : Stop) (steps : ℕ) (output : List ℕ) (addr : ℕ) → HasShared first pairs last
+      → EndsBy (RefusesAt last) program budget start pairs stop steps output → stop ≡ TagLimit addr → first.origin.spends ≡ true
+  spends_at first last pairs stop steps output addr shared ends is =
+      ap (λ o. o.spends) (sym shared.goes_on.origin) ∙ (refused_by (RefusesAt last) pairs stop steps output addr ends is).0
+
+-- ---- how many accesses it made
+
+-- a step has 16 of them at most, and a byte of output has one
+pub few_made : (budget : ℕ) (counts : Counts) → budget ≤ most_budget → accesses_counted counts ≤ 17 * budget + most_output + 16 → accesses_counted counts < 2 ^ 45
+few_made budget counts within few = omega (arith, within, few)
+
+-- ---- from its start
+
+abbrev pub at_start : (mem : TableId) (origin : Origin) (thread : ℕ) (seen : List Entry) → SharingState
+at_start mem origin thread seen = record { memory = mem; origin = origin; thread = thread; seen = seen; counts = record { reads = 0; writes = 0; fails = 0 } }
+
+pub shared_from : (mem : TableId) (origin : Origin) (thread : ℕ) (seen : List Entry) (first last : SharingState) (pairs : List Pair)
+    → first ≡ at_start mem origin thread seen → entries_of thread seen ≡ [] → Leads IsServedBy first pairs last
+    → HasShared (at_start mem origin thread seen) pairs last
+shared_from mem origin thread seen first last pairs is none leads =
+    after_all (at_start mem origin thread seen) pairs last none refl (subst (λ s. Leads IsServedBy s pairs last) is leads)
+
+-- where the end has what the guest and its part have
+pub ends_as : (refuses : ℕ → Type 0) (program : Program) (budget : ℕ) (start : Machine) (pairs : List Pair) (stop : Stop) (steps : ℕ) (output : List ℕ) (guest : ThreadState)
+    → steps ≡ guest.steps → output ≡ guest.output → EndsBy refuses program budget start pairs stop guest.steps guest.output
+    → EndsBy refuses program budget start pairs stop steps output
+ends_as refuses program budget start pairs stop steps output guest steps_are output_is ends =
+    subst (λ n. EndsBy refuses program budget start pairs stop n output) (sym steps_are)
+    (subst (λ o. EndsBy refuses program budget start pairs stop guest.steps o) (sym output_is) ends)

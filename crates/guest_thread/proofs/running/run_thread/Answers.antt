@@ -1,0 +1,87 @@
+use Rattle.std.proofs.Common.{◌<◌, ◌^◌, ◌∙◌, refl, sym, subst}
+use Rattle.shared_memory.specs.Seen.{IsFront, IsSingle}
+use Rattle.guest_thread.specs.Counting.{accesses_counted}
+use Rattle.guest_thread.specs.Outcome.{IsEndOn}
+use Rattle.guest_thread.specs.declared.counts.Counts.{Counts}
+use Rattle.guest_thread.specs.declared.ends.GuestEnd.{GuestEnd}
+use Rattle.guest_thread.specs.Sharing.{RefusesAt}
+use Rattle.guest_thread.proofs.Finishing.{at_start, end_on, ends_as, few_made, shared_from, spends_at}
+use Rattle.guest_thread.proofs.running.run_thread.Goals as goal
+
+pub returns-clause-end : goal.returns-clause-end
+returns-clause-end g c =
+    let mem = c.args.mem.now in
+    let origin = g.M.SharedMemory.origin mem in
+    let t = c.thread-thread.result in
+    let seen = g.M.SharedMemory.seen c.args.pass in
+    let last = c.run-stop.new.port in
+    let ran = c.run-stop.ensures.ends c.args.cpu (c.new-guest.ensures.comes c.requires.empty c.args.code.program c.args.budget) in
+    let none = c.requires.none t c.thread-thread.ensures in
+    let shared = shared_from (g.M.SharedMemory.id mem) origin t seen c.new-sharing.result last ran.0 c.new-sharing.ensures.state none ran.1.0 in
+    let end : GuestEnd = record {
+      thread = t;
+      stop = c.run-stop.result;
+      steps = c.steps.result;
+      reads = c.counts-counts.result.reads;
+      writes = c.counts-counts.result.writes;
+      fails = c.counts-counts.result.fails;
+      out = c.into_output.result;
+    } in
+    let ends = ends_as (RefusesAt last) c.args.code.program c.args.budget c.args.cpu ran.0 c.run-stop.result c.steps.result c.into_output.result c.run-stop.new.self
+    c.steps.ensures c.into_output.ensures ran.1.1 in
+    subst (λ s. IsEndOn c.args.code.program origin.size c.args.budget c.args.cpu s end) (sym c.into_pass.ensures.seen)
+    (end_on c.args.code.program c.args.budget c.args.cpu c.requires.between (at_start (g.M.SharedMemory.id mem) origin t seen) last ran.0 end shared refl c.counts-counts.ensures ends)
+
+pub returns-clause-spends : goal.returns-clause-spends
+returns-clause-spends g c = λ addr is.
+    let mem = c.args.mem.now in
+    let origin = g.M.SharedMemory.origin mem in
+    let t = c.thread-thread.result in
+    let seen = g.M.SharedMemory.seen c.args.pass in
+    let last = c.run-stop.new.port in
+    let ran = c.run-stop.ensures.ends c.args.cpu (c.new-guest.ensures.comes c.requires.empty c.args.code.program c.args.budget) in
+    let none = c.requires.none t c.thread-thread.ensures in
+    let shared = shared_from (g.M.SharedMemory.id mem) origin t seen c.new-sharing.result last ran.0 c.new-sharing.ensures.state none ran.1.0 in
+    spends_at c.args.code.program c.args.budget c.args.cpu c.requires.between (at_start (g.M.SharedMemory.id mem) origin t seen) last ran.0 c.run-stop.result
+    c.run-stop.new.self.steps c.run-stop.new.self.output addr shared ran.1.1 is
+
+pub returns-clause-single : goal.returns-clause-single
+returns-clause-single g c =
+    let mem = c.args.mem.now in
+    let origin = g.M.SharedMemory.origin mem in
+    let t = c.thread-thread.result in
+    let seen = g.M.SharedMemory.seen c.args.pass in
+    let last = c.run-stop.new.port in
+    let ran = c.run-stop.ensures.ends c.args.cpu (c.new-guest.ensures.comes c.requires.empty c.args.code.program c.args.budget) in
+    let none = c.requires.none t c.thread-thread.ensures in
+    let shared = shared_from (g.M.SharedMemory.id mem) origin t seen c.new-sharing.result last ran.0 c.new-sharing.ensures.state none ran.1.0 in
+    subst (λ n. IsSingle n (g.M.SharedMemory.numbers c.into_pass.result)) shared.goes_on.thread c.into_pass.ensures.single
+
+pub returns-clause-begins : goal.returns-clause-begins
+returns-clause-begins g c =
+    let mem = c.args.mem.now in
+    let origin = g.M.SharedMemory.origin mem in
+    let t = c.thread-thread.result in
+    let seen = g.M.SharedMemory.seen c.args.pass in
+    let last = c.run-stop.new.port in
+    let ran = c.run-stop.ensures.ends c.args.cpu (c.new-guest.ensures.comes c.requires.empty c.args.code.program c.args.budget) in
+    let none = c.requires.none t c.thread-thread.ensures in
+    let shared = shared_from (g.M.SharedMemory.id mem) origin t seen c.new-sharing.result last ran.0 c.new-sharing.ensures.state none ran.1.0 in
+    subst (IsFront seen) (sym c.into_pass.ensures.seen) shared.goes_on.front
+
+pub returns-clause-memory : goal.returns-clause-memory
+returns-clause-memory g c =
+    let mem = c.args.mem.now in
+    let origin = g.M.SharedMemory.origin mem in
+    let t = c.thread-thread.result in
+    let seen = g.M.SharedMemory.seen c.args.pass in
+    let last = c.run-stop.new.port in
+    let ran = c.run-stop.ensures.ends c.args.cpu (c.new-guest.ensures.comes c.requires.empty c.args.code.program c.args.budget) in
+    let none = c.requires.none t c.thread-thread.ensures in
+    let shared = shared_from (g.M.SharedMemory.id mem) origin t seen c.new-sharing.result last ran.0 c.new-sharing.ensures.state none ran.1.0 in
+    c.into_pass.ensures.memory ∙ shared.goes_on.memory ∙ sym c.requires.memory
+
+pub returns-clause-few : goal.returns-clause-few
+returns-clause-few g c =
+    subst (λ (counts : Counts). accesses_counted counts < 2 ^ 45) (sym c.counts-counts.ensures)
+    (few_made c.args.budget c.run-stop.new.port.counts c.requires.budget c.run-stop.ensures.few)

@@ -1,0 +1,72 @@
+//! The run of a thread on a memory that threads share.
+ghost use Rattle.std.specs.Prelude.{◌≡◌, ◌<◌, ◌≤◌, ◌+◌, ◌^◌, ℕ, [], length, true};
+ghost use Rattle.llsc_base.specs.Limits.{most_budget};
+ghost use Rattle.history.specs.Parts.{entries_of};
+ghost use Rattle.shared_memory.specs.Seen.{IsFront, IsSingle};
+ghost use Rattle.a32_step.specs.Machine.{between};
+ghost use Rattle.guest_thread.specs.Counting.{accesses_counted, counts_in};
+ghost use Rattle.guest_thread.specs.Outcome.{IsEndOn};
+
+use crate::ends::GuestEnd;
+use crate::guests::Guest;
+use crate::sharing::Sharing;
+use a32_step::{Code, Cpu, Stop};
+use guest_calls::Output;
+use shared_memory::SharedMemory;
+use std::sync::Wait;
+
+/// A thread that has ended: its pass, and how it ended.
+pub struct Finished<P> {
+    pub pass: P,
+    pub end: GuestEnd,
+}
+
+/// Runs a thread on a memory that threads share, up to its stop, with a pass that holds its number alone. Its core is between
+/// two instructions, and it has made no access and written nothing; memory has as many bytes as the code's image. The budget is
+/// at most 1,000,000,000,000 steps. No memory is taken from the allocator.
+///
+/// What it did is in what the pass has seen of the history: its accesses there are those of a run of the core, with this end.
+pub fn run_thread<M: SharedMemory, R: Wait>(
+    rt: &R,
+    mem: &M,
+    mut code: Code,
+    cpu: Cpu,
+    pass: M::Pass,
+    out: Output,
+    budget: u64,
+) -> Finished<M::Pass>
+    requires memory { M.home pass ≡ M.id mem.now }
+    requires single { (t : ℕ) × IsSingle t (M.numbers pass) × (t < (M.origin mem.now).first) }
+    requires none { (t : ℕ) → IsSingle t (M.numbers pass) → entries_of t (M.seen pass) ≡ [] }
+    requires whole { length code.program.bytes ≡ (M.origin mem.now).size.mem }
+    requires between { cpu ≡ between cpu.state }
+    requires empty { out ≡ [] }
+    requires budget { budget ≤ most_budget }
+    ensures end { IsEndOn code.entry.program (M.origin mem.now).size budget cpu (M.seen result.pass) result.end }
+    ensures spends { (addr : ℕ) → result.end.stop ≡ Stop.TagLimit addr → (M.origin mem.now).spends ≡ true }
+    ensures thread { IsSingle result.end.thread (M.numbers pass) }
+    ensures single { IsSingle result.end.thread (M.numbers result.pass) }
+    ensures begins { IsFront (M.seen pass) (M.seen result.pass) }
+    ensures memory { M.home result.pass ≡ M.home pass }
+    ensures few { accesses_counted (counts_in result.end) < 2 ^ 45 }
+{
+    let most = mem.size().mem();
+    prove!(most <= 16_777_216);
+    let thread = mem.thread(&pass);
+    let mut sharing = Sharing::new(rt, mem, pass, thread);
+    let mut guest = Guest::new(cpu, out);
+    let stop = guest.run(&mut code, budget, &mut sharing);
+    let counts = sharing.counts();
+    Finished {
+        pass: sharing.into_pass(),
+        end: GuestEnd {
+            thread,
+            stop,
+            steps: guest.steps(),
+            reads: counts.reads,
+            writes: counts.writes,
+            fails: counts.fails,
+            out: guest.into_output(),
+        },
+    }
+}

@@ -1,0 +1,119 @@
+//! A thread's part in a memory that threads share.
+ghost use Rattle.std.specs.Prelude.{◌≡◌, ◌≤◌, ◌<◌, ◌^◌, ◌+◌, IfNone, IfSome};
+ghost use Rattle.shared_memory.specs.Seen.{IsSingle};
+ghost use Rattle.guest_thread.specs.Counting.{accesses_counted};
+ghost use Rattle.guest_thread.specs.Sharing.{IsServedBy};
+ghost use Rattle.a32_step.specs.Ports.{IsAskIn, IsRefused, ReplyFits};
+ghost use Rattle.a32_instr.specs.declared.outside.Ask.{Ask};
+
+use crate::counts::Counts;
+use a32_step::{Ask, Port};
+use shared_memory::SharedMemory;
+use std::marker::Model;
+use std::sync::Wait;
+
+/// The memory, a thread's pass of it, and how many accesses of each kind the thread made.
+#[derive(Drop)]
+pub(crate) struct Sharing<'a, M: SharedMemory, R: Wait> {
+    rt: &'a R,
+    mem: &'a M,
+    pass: M::Pass,
+    thread: u32,
+    counts: Counts,
+}
+
+impl<'a, M: SharedMemory, R: Wait> Model for Sharing<'a, M, R> {
+    ghost use Rattle.std.specs.Prelude.{◌≡◌, ◌<◌};
+    ghost use Rattle.shared_memory.specs.Seen.{IsSingle};
+    ghost use Rattle.guest_thread.specs.Sharing.{SharingState};
+
+    ghost Value = { SharingState };
+
+    ghost view = { λ s. record { memory = M.id s.mem.now; origin = M.origin s.mem.now; thread = s.thread; seen = M.seen s.pass; counts = s.counts } };
+
+    ghost invariant = { λ s. (M.home s.pass ≡ M.id s.mem.now) × IsSingle s.thread (M.numbers s.pass) × (s.thread < (M.origin s.mem.now).first) };
+}
+
+impl<'a, M: SharedMemory, R: Wait> Sharing<'a, M, R> {
+    /// A thread's part before its first access.
+    pub(crate) fn new(rt: &'a R, mem: &'a M, pass: M::Pass, thread: u32) -> Sharing<'a, M, R>
+        requires memory { M.home pass ≡ M.id mem.now }
+        requires single { IsSingle thread (M.numbers pass) }
+        requires first { thread < (M.origin mem.now).first }
+        ensures state { result ≡ record { memory = M.id mem.now; origin = M.origin mem.now; thread = thread; seen = M.seen pass; counts = record { reads = 0; writes = 0; fails = 0 } } }
+    {
+        Sharing {
+            rt,
+            mem,
+            pass,
+            thread,
+            counts: Counts::none(),
+        }
+    }
+
+    /// How many accesses of each kind it made.
+    pub(crate) fn counts(&self) -> Counts
+        ensures { result ≡ self.now.counts }
+    {
+        self.counts
+    }
+
+    /// Its pass.
+    pub(crate) fn into_pass(self) -> M::Pass
+        ensures memory { M.home result ≡ self.entry.memory }
+        ensures single { IsSingle self.entry.thread (M.numbers result) }
+        ensures seen { M.seen result ≡ self.entry.seen }
+    {
+        self.pass
+    }
+}
+
+impl<'a, M: SharedMemory, R: Wait> Port for Sharing<'a, M, R> {
+    ghost use Rattle.guest_thread.specs.Counting.{accesses_counted};
+    ghost use Rattle.guest_thread.specs.Sharing.{IsServedBy, RefusesAt};
+
+    ghost replies = { IsServedBy };
+
+    ghost mem = { λ sharing. sharing.origin.size.mem };
+
+    ghost counted = { λ sharing. accesses_counted sharing.counts };
+
+    ghost refuses = { RefusesAt };
+
+    #[inline(always)]
+    fn reply(&mut self, ask: Ask) -> Option<u64> {
+        match ask {
+            Ask::Load(place) => {
+                let value = self.mem.load(&mut self.pass, place);
+                self.counts.reads += 1;
+                Some(value)
+            }
+            Ask::LoadEx(place) => {
+                let value = self.mem.load_ex(self.rt, &mut self.pass, place);
+                self.counts.reads += 1;
+                Some(value)
+            }
+            Ask::Store(place, value) => {
+                let Ok(()) = self.mem.store(self.rt, &mut self.pass, place, value) else {
+                    return None;
+                };
+                self.counts.writes += 1;
+                Some(0)
+            }
+            Ask::StoreEx(place, value) => {
+                if self.mem.store_ex(self.rt, &mut self.pass, place, value) {
+                    self.counts.writes += 1;
+                    return Some(0);
+                }
+                self.counts.fails += 1;
+                Some(1)
+            }
+            Ask::Clear => {
+                self.mem.clear_ex(&mut self.pass);
+                Some(0)
+            }
+        }
+    }
+
+    fn counts_one() {}
+}
