@@ -7,7 +7,7 @@ use Rattle.llsc_cli.specs.Refusals.{Answer, refused, read_text, refusal_text, mo
 use Rattle.llsc_cli.specs.Programs.{program_fault_name, is_wanting, program_refusal, refusal_on, IsFaultBy}
 use Rattle.llsc_cli.specs.Answer.{Is, IsDone}
 use Rattle.llsc_cli.specs.Reads.{Answered, CutAfter, IsCutFile, CallEnds, EndsFor, Gives}
-use Rattle.llsc_cli.specs.declared.formats.Format.{Format}
+use Rattle.llsc_words.specs.declared.formats.Format.{Format}
 use Rattle.llsc_cli.specs.declared.programs.ProgramFault.{ProgramFault}
 use Rattle.llsc_cli.specs.declared.host.ReadFault.{ReadFault}
 use Rattle.llsc_cli.specs.declared.host.ReadFault.TheVariants as read

@@ -1,18 +1,21 @@
 -- How a call ends that was asked for something.
-use Rattle.std.proofs.Common.{◌≡◌, ◌≢◌, ℕ, ◌⊎◌, inl, inr, List, [], ◌∷◌, Option, Some, None, refl, subst}
+use Rattle.std.proofs.Common.{◌≡◌, ◌≢◌, ℕ, ◌⊎◌, inl, inr, List, [], ◌∷◌, Option, Some, None, refl, sym, subst}
 use Rattle.std.proofs.lemmas.List.Elements.{recursion_from_All}
+use Rattle.history.specs.declared.entry.Entry.{Entry}
+use Rattle.hst_memory.specs.declared.passes.HstStory.{HstStory}
 use Rattle.llsc_cli.specs.Host.{AreBytes, Adds}
-use Rattle.llsc_cli.specs.Request.{Request, Solo, Assemble, Disassemble, Trace, Check, files_of}
+use Rattle.llsc_words.specs.Request.{Request, Solo, Run, Assemble, Disassemble, Trace, Check, files_of}
 use Rattle.llsc_cli.specs.Answer.{Answers, AreFiles, AreTold, IsDue, IsNoneOf}
 use Rattle.llsc_cli.specs.Reads.{CallEnds, EndsAsked}
+use Rattle.llsc_cli.specs.Run.{told}
 use Rattle.llsc_cli.proofs.Answering.{ends_for}
 
 -- a request of one file
 pub ends_one : {A : List ℕ → ℕ → List ℕ → Type 0} {X Y : Type 0} (held : List ℕ → Option (List ℕ)) (asked : Request) (name : List ℕ)
-    (old new : Option (List ℕ)) (status : ℕ) → name ∷ [] ≡ files_of asked
-    → ((file : List ℕ) (s : ℕ) (text : List ℕ) → A file s text → Answers asked (file ∷ []) s text) → (X → Y)
-    → CallEnds A (held name) X old new status → EndsAsked held asked Y old new status
-ends_one {A} {X} {Y} held asked name old new status one also more ends =
+    (story : Option (List Entry)) (old new : Option (List ℕ)) (status : ℕ) → name ∷ [] ≡ files_of asked
+    → ((file : List ℕ) (s : ℕ) (text : List ℕ) → A file s text → Answers asked (file ∷ []) story s text) → (X → Y × (story ≡ None))
+    → CallEnds A (held name) X old new status → EndsAsked held asked story Y old new status
+ends_one {A} {X} {Y} held asked name story old new status one also more ends =
     ends_for old new status
     (λ file s text may a. (file ∷ [], (subst (λ names. AreFiles held names (file ∷ [])) one (may, tt), also file s text a)))
     more ends
@@ -41,6 +44,7 @@ not_first name other names none is = (recursion_from_All (λ x. name ≢ x) (oth
 
 due_named : (held : List ℕ → Option (List ℕ)) (asked : Request) (name : List ℕ) → IsNoneOf (files_of asked) name → IsDue held asked name → ⊥
 due_named held (Solo file format mem budget) name none due = not_first name file [] none due.0
+due_named held (Run file format size budget) name none due = not_first name file [] none due.0
 due_named held (Assemble file format) name none due = not_first name file [] none due
 due_named held (Disassemble file format mem) name none due = not_first name file [] none due.0
 due_named held (Trace file format threads mem granule seed budget) name none due = not_first name file [] none due.0
@@ -49,16 +53,16 @@ due_named held (Check file recorded format mem) name none (inr due) =
     (recursion_from_All (λ x. name ≢ x) (file ∷ recorded ∷ []) none).1.0 due.0
 
 -- a request whose files are told is answered, where no write failed and no read of its files
-pub told_answered : {R : Type 0} (held : List ℕ → Option (List ℕ)) (asked : Request) (files : List (List ℕ)) (lost : List ℕ) (old new : Option (List ℕ)) (status : ℕ)
+pub told_answered : {R : Type 0} (held : List ℕ → Option (List ℕ)) (asked : Request) (files : List (List ℕ)) (lost : List ℕ) (story : Option (List Entry)) (old new : Option (List ℕ)) (status : ℕ)
     → AreTold held (files_of asked) files → (status ≡ 5 → ⊥) → (R → ⊥) ⊎ IsNoneOf (files_of asked) lost
-    → EndsAsked held asked (R × IsDue held asked lost) old new status
-    → (status ≡ 6) ⊎ ((text : List ℕ) × (Answers asked files status text × Adds old new text))
-told_answered {R} held asked files lost old new status told whole unread ends = elim ends.ended [
+    → EndsAsked held asked story (R × IsDue held asked lost) old new status
+    → (status ≡ 6) ⊎ ((text : List ℕ) × (Answers asked files story status text × Adds old new text))
+told_answered {R} held asked files lost story old new status told whole unread ends = elim ends.ended [
   | inl done ↦
       let a = ends.done done in
       let same : a.0 ≡ files = told_are held (files_of asked) a.0 files a.2.0 told in
-      inr (a.1, (subst (λ f. Answers asked f status a.1) same a.2.1.0, a.2.1.1))
-  | inr (inl three) ↦ absurd (read_failed unread (ends.read three).0)
+      inr (a.1, (subst (λ f. Answers asked f story status a.1) same a.2.1.0, a.2.1.1))
+  | inr (inl three) ↦ absurd (read_failed unread (ends.read three).0.0)
   | inr (inr (inl five)) ↦ absurd (whole five)
   | inr (inr (inr six)) ↦ inl six
 ]
@@ -66,3 +70,9 @@ told_answered {R} held asked files lost old new status told whole unread ends = 
     read_failed : (R → ⊥) ⊎ IsNoneOf (files_of asked) lost → R × IsDue held asked lost → ⊥
     read_failed (inl unfailed) failed = unfailed failed.0
     read_failed (inr none) failed = due_named held asked lost none failed.1
+
+-- an end of a call that ran no threads beside each other has no history
+pub ends_untold : {X : Type 0} (held : List ℕ → Option (List ℕ)) (asked : Request) (story : Option HstStory) (old new : Option (List ℕ)) (status said : ℕ)
+    → status ≡ said → story ≡ None → EndsAsked held asked None X old new said → EndsAsked held asked (told story) X old new status
+ends_untold {X} held asked story old new status said same none ends =
+    subst (λ s. EndsAsked held asked (told story) X old new s) (sym same) (subst (λ t. EndsAsked held asked (told t) X old new said) (sym none) ends)

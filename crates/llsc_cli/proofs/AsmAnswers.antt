@@ -5,7 +5,7 @@ use Rattle.std.proofs.lemmas.Str.{IsUtf8-from_is_utf8, is_utf8-from_IsUtf8}
 use Rattle.elf32.specs.declared.units.Unit.{Unit}
 use Rattle.a32_asm.specs.declared.assembler.AsmFault.{AsmFault}
 use Rattle.a32_asm.specs.Assembled.{most_text, unit_of}
-use Rattle.llsc_cli.specs.declared.formats.Format.{Format}
+use Rattle.llsc_words.specs.declared.formats.Format.{Format}
 use Rattle.llsc_cli.specs.Refusals.{Answer, refused, unless, too_long, Refuses}
 use Rattle.llsc_cli.specs.Assembly.{not_text, text_refusal, unit_refusal, unit_file, text_answer, asm_answer}
 use Rattle.llsc_cli.specs.Answer.{IsDone, AnswersAsm}

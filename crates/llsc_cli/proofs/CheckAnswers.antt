@@ -6,7 +6,7 @@ use Rattle.run_record.specs.Reading.{record_of}
 use Rattle.run_record.specs.declared.records.RunRecord.{RunRecord}
 use Rattle.run_checker.specs.declared.verdicts.Verdict.{Verdict}
 use Rattle.run_checker.specs.declared.verdicts.Verdict.TheVariants as verdict
-use Rattle.llsc_cli.specs.declared.formats.Format.{Format}
+use Rattle.llsc_words.specs.declared.formats.Format.{Format}
 use Rattle.llsc_cli.specs.Programs.{image_of, program_refusal, refusal_on}
 use Rattle.llsc_cli.specs.Refusals.{machine_of, most_program, size_refusal, too_long, Refusal, Refuses}
 use Rattle.llsc_cli.specs.Check.{files_refusal, most_record, verdict_status, AnswersCheck, IsJudged, JudgesRead, JudgesRun}

@@ -1,7 +1,7 @@
 -- What an image is answered with that is shown.
 use Rattle.std.proofs.Common.{◌≡◌, ℕ, inl, inr, List, Option, Some, None, refl, sym, ◌∙◌, ap}
 use Rattle.llsc_base.specs.Images.{Program}
-use Rattle.llsc_cli.specs.declared.formats.Format.{Format}
+use Rattle.llsc_words.specs.declared.formats.Format.{Format}
 use Rattle.llsc_cli.specs.Programs.{image_of, program_refusal}
 use Rattle.llsc_cli.specs.Refusals.{Answer, solo_size, unless, Refuses}
 use Rattle.llsc_cli.specs.Disassembly.{disassembly, dis_answer}

@@ -6,8 +6,8 @@ use Rattle.llsc_base.specs.Flat.{flat_byte}
 use Rattle.llsc_base.proofs.Values.{length-values_below}
 use Rattle.elf32.specs.Headers.{segments_of}
 use Rattle.elf32.specs.Image.{byte_at, image_of as elf_image}
-use Rattle.llsc_cli.specs.declared.formats.Format.{Format}
-use Rattle.llsc_cli.specs.declared.formats.Format.TheVariants.{Elf, Flat}
+use Rattle.llsc_words.specs.declared.formats.Format.{Format}
+use Rattle.llsc_words.specs.declared.formats.Format.TheVariants.{Elf, Flat}
 use Rattle.llsc_cli.specs.Programs.{image_of}
 
 sized : (format : Format) (file : List ℕ) (size : Numbers) → length (image_of format file size).bytes ≡ size.mem

@@ -8,7 +8,8 @@ pub mod Fronts
 pub mod Paging
 pub mod SoloAnswers
 pub mod Streams
-pub mod OptionWords
+pub mod Sums
+pub mod RunAnswers
 pub mod TraceAnswers
 pub mod Asked
 pub mod Kept

@@ -5,7 +5,8 @@ use Rattle.llsc_base.specs.Images.{Program}
 use Rattle.history.specs.Accesses.{history_of}
 use Rattle.guest_thread.specs.Ends.{AreEnds}
 use Rattle.guest_thread.specs.Start.{thread_start}
-use Rattle.guest_thread.proofs.OneOutcome.{one_list}
+use Rattle.history.specs.declared.entry.Entry.{Entry}
+use Rattle.guest_thread.proofs.OneOutcome.{one_list, one_list_on}
 use Rattle.guest_machine.specs.Traces.{IsTraceRecord}
 use Rattle.guest_machine.proofs.OneEnd.{one_end_alone}
 use Rattle.guest_machine.proofs.OneTrace.{one_trace, not_too_long}
@@ -14,15 +15,16 @@ use Rattle.run_record.specs.Reading.{record_of}
 use Rattle.run_record.specs.declared.faults.RecordFault.{RecordFault}
 use Rattle.run_record.specs.declared.records.RunRecord.{RunRecord}
 use Rattle.run_checker.proofs.Right.{one_verdict}
-use Rattle.llsc_cli.specs.declared.formats.Format.{Format}
+use Rattle.llsc_words.specs.declared.formats.Format.{Format}
 use Rattle.llsc_cli.specs.Programs.{image_of, program_refusal}
 use Rattle.llsc_cli.specs.Refusals.{Answer, machine_of, solo_size, Unless}
 use Rattle.llsc_cli.specs.Report.{report_of}
+use Rattle.llsc_cli.specs.Run.{ReportsRun, UnlessRun}
 use Rattle.llsc_cli.specs.Assembly.{asm_answer}
 use Rattle.llsc_cli.specs.Disassembly.{dis_answer}
 use Rattle.llsc_cli.specs.Trace.{status_of, status_of_all, IsRecorded, Traces}
 use Rattle.llsc_cli.specs.Check.{files_refusal, verdict_status, verdict_text, IsJudged, JudgesRead}
-use Rattle.llsc_cli.specs.Request.{Request, Solo, Assemble, Disassemble, Trace, Check}
+use Rattle.llsc_words.specs.Request.{Request, Solo, Run, Assemble, Disassemble, Trace, Check}
 use Rattle.llsc_cli.specs.Answer.{Answers, Is, IsReported}
 
 -- answers have one status and one text
@@ -41,7 +43,7 @@ is_one answer status other text more a b = (a.0 ∙ sym b.0, a.1 ∙ sym b.1)
 report_one : (program : Program) (size : Numbers) (budget : ℕ) → AreOne (IsReported program size budget)
 report_one program size budget status other text more a b =
     let same : a.0 ≡ b.0 = one_end_alone program budget (thread_start program size size.threads 0) size.granule program.bytes a.0 b.0 a.1.1 b.1.1 in
-    (a.2 ∙ ap (λ end. status_of end.stop) same ∙ sym b.2, a.3 ∙ ap (λ end. report_of budget end) same ∙ sym b.3)
+    (a.2 ∙ ap (λ end. status_of end.stop) same ∙ sym b.2, a.3 ∙ ap (λ end. report_of budget (end ∷ [])) same ∙ sym b.3)
 
 -- Traces.
 
@@ -87,25 +89,44 @@ read_one format mem file (Ok run) =
     let size = machine_of run.threads mem run.granule in
     unless_one (IsJudged (image_of format file size) size run) (program_refusal format size file) (judged_one (image_of format file size) size run)
 
-pub answers_one : (asked : Request) (files : List (List ℕ)) → AreOne (Answers asked files)
-answers_one (Solo name format mem budget) (file ∷ []) =
+-- a run, by its history
+run_one : (program : Program) (size : Numbers) (budget : ℕ) (story : Option (List Entry)) → AreOne (ReportsRun story program size budget)
+run_one program size budget None status other text more a b = absurd a
+run_one program size budget (Some history) status other text more a b =
+    let ends : a.0 ≡ b.0 = one_list_on program size budget history a.0 b.0 a.1.0.ends b.1.0.ends in
+    (a.1.1.1.0 ∙ ap status_of_all ends ∙ sym b.1.1.1.0, a.1.1.1.1 ∙ ap (report_of budget) ends ∙ sym b.1.1.1.1)
+
+unless_run_one : (against : Option (List ℕ)) (story : Option (List Entry)) (answers : ℕ → List ℕ → Type 0) → AreOne answers → AreOne (UnlessRun against story answers)
+unless_run_one (Some name) story answers one status other text more a b = (a.1.0 ∙ sym b.1.0, a.1.1 ∙ sym b.1.1)
+unless_run_one None story answers one status other text more a b = one status other text more a b
+
+-- answers without a history
+untold_one : {N : Type 0} {answers : ℕ → List ℕ → Type 0} → AreOne answers → AreOne (λ status text. N × answers status text)
+untold_one one status other text more a b = one status other text more a.1 b.1
+
+pub answers_one : (asked : Request) (files : List (List ℕ)) (story : Option (List Entry)) → AreOne (Answers asked files story)
+answers_one (Solo name format mem budget) (file ∷ []) story =
     let size = solo_size mem in
-    unless_one (IsReported (image_of format file size) size budget) (program_refusal format size file) (report_one (image_of format file size) size budget)
-answers_one (Assemble name format) (file ∷ []) = is_one (asm_answer format file)
-answers_one (Disassemble name format mem) (file ∷ []) = is_one (dis_answer format mem file)
-answers_one (Trace name format threads mem granule seed budget) (file ∷ []) =
+    untold_one (unless_one (IsReported (image_of format file size) size budget) (program_refusal format size file) (report_one (image_of format file size) size budget))
+answers_one (Run name format size budget) (file ∷ []) story =
+    unless_run_one (program_refusal format size file) story (ReportsRun story (image_of format file size) size budget) (run_one (image_of format file size) size budget story)
+answers_one (Assemble name format) (file ∷ []) story = untold_one (is_one (asm_answer format file))
+answers_one (Disassemble name format mem) (file ∷ []) story = untold_one (is_one (dis_answer format mem file))
+answers_one (Trace name format threads mem granule seed budget) (file ∷ []) story =
     let size = machine_of threads mem granule in
-    unless_one (Traces (image_of format file size) size seed budget) (program_refusal format size file) (trace_one (image_of format file size) size seed budget)
-answers_one (Check name second format mem) (file ∷ recorded ∷ []) =
-    unless_one (JudgesRead format mem file (record_of recorded)) (files_refusal file recorded) (read_one format mem file (record_of recorded))
-answers_one (Solo name format mem budget) [] = λ status other text more a b. absurd a
-answers_one (Solo name format mem budget) (first ∷ second ∷ rest) = λ status other text more a b. absurd a
-answers_one (Assemble name format) [] = λ status other text more a b. absurd a
-answers_one (Assemble name format) (first ∷ second ∷ rest) = λ status other text more a b. absurd a
-answers_one (Disassemble name format mem) [] = λ status other text more a b. absurd a
-answers_one (Disassemble name format mem) (first ∷ second ∷ rest) = λ status other text more a b. absurd a
-answers_one (Trace name format threads mem granule seed budget) [] = λ status other text more a b. absurd a
-answers_one (Trace name format threads mem granule seed budget) (first ∷ second ∷ rest) = λ status other text more a b. absurd a
-answers_one (Check name other format mem) [] = λ status other text more a b. absurd a
-answers_one (Check name other format mem) (first ∷ []) = λ status other text more a b. absurd a
-answers_one (Check name other format mem) (first ∷ second ∷ third ∷ rest) = λ status other text more a b. absurd a
+    untold_one (unless_one (Traces (image_of format file size) size seed budget) (program_refusal format size file) (trace_one (image_of format file size) size seed budget))
+answers_one (Check name second format mem) (file ∷ recorded ∷ []) story =
+    untold_one (unless_one (JudgesRead format mem file (record_of recorded)) (files_refusal file recorded) (read_one format mem file (record_of recorded)))
+answers_one (Solo name format mem budget) [] story = λ status other text more a b. absurd a
+answers_one (Solo name format mem budget) (first ∷ second ∷ rest) story = λ status other text more a b. absurd a
+answers_one (Run name format size budget) [] story = λ status other text more a b. absurd a
+answers_one (Run name format size budget) (first ∷ second ∷ rest) story = λ status other text more a b. absurd a
+answers_one (Assemble name format) [] story = λ status other text more a b. absurd a
+answers_one (Assemble name format) (first ∷ second ∷ rest) story = λ status other text more a b. absurd a
+answers_one (Disassemble name format mem) [] story = λ status other text more a b. absurd a
+answers_one (Disassemble name format mem) (first ∷ second ∷ rest) story = λ status other text more a b. absurd a
+answers_one (Trace name format threads mem granule seed budget) [] story = λ status other text more a b. absurd a
+answers_one (Trace name format threads mem granule seed budget) (first ∷ second ∷ rest) story = λ status other text more a b. absurd a
+answers_one (Check name other format mem) [] story = λ status other text more a b. absurd a
+answers_one (Check name other format mem) (first ∷ []) story = λ status other text more a b. absurd a
+answers_one (Check name other format mem) (first ∷ second ∷ third ∷ rest) story = λ status other text more a b. absurd a

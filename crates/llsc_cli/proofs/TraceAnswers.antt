@@ -3,7 +3,7 @@ use Rattle.std.proofs.Common.{◌≡◌, ℕ, inl, inr, Bool, true, false, if◌
 use Rattle.llsc_base.specs.Sizes.{Numbers}
 use Rattle.llsc_base.specs.Images.{Program}
 use Rattle.guest_thread.specs.declared.ends.GuestEnd.{GuestEnd}
-use Rattle.llsc_cli.specs.declared.formats.Format.{Format}
+use Rattle.llsc_words.specs.declared.formats.Format.{Format}
 use Rattle.llsc_cli.specs.Programs.{image_of, program_refusal}
 use Rattle.llsc_cli.specs.Refusals.{machine_of, Refuses}
 use Rattle.llsc_cli.specs.Trace.{have_left, status_of_all, AnswersTrace, Traces}

@@ -1,15 +1,17 @@
--- What a call of the program answers: a status and a text.
+-- What a call of the program answers: a status and a text, and with which history.
 use Rattle.std.specs.Prelude.{◌≡◌, ◌≢◌, ℕ, ◌⊎◌, List, [], ◌∷◌, All, map, Option, Some, None}
 use Rattle.llsc_base.specs.Sizes.{Numbers}
 use Rattle.llsc_base.specs.Images.{Program}
+use Rattle.history.specs.declared.entry.Entry.{Entry}
 use Rattle.guest_thread.specs.declared.ends.GuestEnd.{GuestEnd}
 use Rattle.guest_machine.specs.Alone.{IsSoloEnd}
-use Rattle.llsc_cli.specs.declared.formats.Format.{Format}
+use Rattle.llsc_words.specs.declared.formats.Format.{Format}
 use Rattle.llsc_cli.specs.Report.{report_of}
 use Rattle.llsc_cli.specs.Host.{Rose, AreBytes, AddsFront}
-use Rattle.llsc_cli.specs.Request.{Request, Solo, Assemble, Disassemble, Trace, Check, files_of}
+use Rattle.llsc_words.specs.Request.{Request, Solo, Run, Assemble, Disassemble, Trace, Check, files_of}
 use Rattle.llsc_cli.specs.Assembly.{asm_answer}
 use Rattle.llsc_cli.specs.Disassembly.{dis_answer}
+use Rattle.llsc_cli.specs.Run.{AnswersRun}
 use Rattle.llsc_cli.specs.Trace.{status_of, AnswersTrace}
 use Rattle.llsc_cli.specs.Check.{AnswersCheck}
 use Rattle.llsc_cli.specs.Refusals.{Answer, words_text, read_text, machine_of, most_program, solo_size, size_refusal, too_long, Unless}
@@ -18,7 +20,7 @@ use Rattle.llsc_cli.specs.Programs.{image_of, program_refusal}
 -- a run of a program's one thread, with the report and the status by its stop
 abbrev pub IsReported : Program → Numbers → ℕ → ℕ → List ℕ → Type 0
 IsReported program size budget status text =
-    (end : GuestEnd) × IsSoloEnd program size budget end × (status ≡ status_of end.stop) × (text ≡ report_of budget end)
+    (end : GuestEnd) × IsSoloEnd program size budget end × (status ≡ status_of end.stop) × (text ≡ report_of budget (end ∷ []))
 
 -- the status and the text for a format, so much memory, a budget and the bytes of the file
 abbrev pub AnswersSolo : Format → ℕ → ℕ → List ℕ → ℕ → List ℕ → Type 0
@@ -36,14 +38,21 @@ AnswersAsm format file status text = Is (asm_answer format file) status text
 abbrev pub AnswersDis : Format → ℕ → List ℕ → ℕ → List ℕ → Type 0
 AnswersDis format mem file status text = Is (dis_answer format mem file) status text
 
--- the status and the text for a request and the bytes of its files, in the order of their names
-abbrev pub Answers : Request → List (List ℕ) → ℕ → List ℕ → Type 0
-Answers (Solo name format mem budget) (file ∷ []) status text = AnswersSolo format mem budget file status text
-Answers (Assemble name format) (file ∷ []) status text = AnswersAsm format file status text
-Answers (Disassemble name format mem) (file ∷ []) status text = AnswersDis format mem file status text
-Answers (Trace name format threads mem granule seed budget) (file ∷ []) status text = AnswersTrace format threads mem granule seed budget file status text
-Answers (Check name other format mem) (file ∷ recorded ∷ []) status text = AnswersCheck format mem file recorded status text
-Answers _ _ status text = ⊥
+-- the history of threads that ran beside each other, where any did, the status and the text for a request and the bytes of its
+-- files, in the order of their names
+abbrev pub Answers : Request → List (List ℕ) → Option (List Entry) → ℕ → List ℕ → Type 0
+Answers (Solo name format mem budget) (file ∷ []) story status text = (story ≡ None) × AnswersSolo format mem budget file status text
+Answers (Run name format size budget) (file ∷ []) story status text = AnswersRun format size budget file story status text
+Answers (Assemble name format) (file ∷ []) story status text = (story ≡ None) × AnswersAsm format file status text
+Answers (Disassemble name format mem) (file ∷ []) story status text = (story ≡ None) × AnswersDis format mem file status text
+Answers (Trace name format threads mem granule seed budget) (file ∷ []) story status text = (story ≡ None) × AnswersTrace format threads mem granule seed budget file status text
+Answers (Check name other format mem) (file ∷ recorded ∷ []) story status text = (story ≡ None) × AnswersCheck format mem file recorded status text
+Answers _ _ story status text = ⊥
+
+-- it runs no threads beside each other
+abbrev pub IsAlone : Request → Type 0
+IsAlone (Run name format size budget) = ⊥
+IsAlone _ = Unit {0}
 
 -- these are bytes that the files of these names may hold, one for each
 abbrev pub AreFiles : (List ℕ → Option (List ℕ)) → (names files : List (List ℕ)) → Type 0
@@ -64,6 +73,7 @@ IsNoneOf names name = All (λ other. name ≢ other) names
 -- and for the second file that the first is too long.
 abbrev pub IsDue : (List ℕ → Option (List ℕ)) → Request → List ℕ → Type 0
 IsDue held (Solo file format mem budget) name = (name ≡ file) × (size_refusal (solo_size mem) ≡ None)
+IsDue held (Run file format size budget) name = (name ≡ file) × (size_refusal size ≡ None)
 IsDue held (Assemble file format) name = name ≡ file
 IsDue held (Disassemble file format mem) name = (name ≡ file) × (size_refusal (solo_size mem) ≡ None)
 IsDue held (Trace file format threads mem granule seed budget) name = (name ≡ file) × (size_refusal (machine_of threads mem granule) ≡ None)
@@ -75,10 +85,10 @@ abbrev pub IsDone : ℕ → Type 0
 IsDone status = (status ≡ 0) ⊎ ((status ≡ 1) ⊎ ((status ≡ 4) ⊎ (status ≡ 7)))
 
 -- a request is answered so, by bytes that its files may hold
-abbrev pub IsAnswer : (List ℕ → Option (List ℕ)) → Option Request → ℕ → List ℕ → Type 0
-IsAnswer held request status text =
+abbrev pub IsAnswer : (List ℕ → Option (List ℕ)) → Option Request → Option (List Entry) → ℕ → List ℕ → Type 0
+IsAnswer held request story status text =
     (asked : Request) × (files : List (List ℕ))
-    × ((request ≡ Some asked) × (AreFiles held (files_of asked) files × Answers asked files status text))
+    × ((request ≡ Some asked) × (AreFiles held (files_of asked) files × Answers asked files story status text))
 
 -- the read of a request's file failed: the count rose, and the read of the name of the last failed read was due
 abbrev pub ReadFailed : (List ℕ → Option (List ℕ)) → Option Request → ℕ → ℕ → List ℕ → Type 0
@@ -88,8 +98,8 @@ ReadFailed held request faults_before faults_after lost =
 
 -- a front was written of the text that answers the words, of one that answers the request, or after a failed read of
 -- the text that says so
-abbrev pub IsCut : (List ℕ → Option (List ℕ)) → Option Request → Type 0 → Option (List ℕ) → Option (List ℕ) → Type 0
-IsCut held request read_failed old new =
-    ((request ≡ None) × AddsFront old new words_text)
-    ⊎ (((status : ℕ) × (text : List ℕ) × (IsAnswer held request status text × AddsFront old new text))
-    ⊎ (read_failed × AddsFront old new read_text))
+abbrev pub IsCut : (List ℕ → Option (List ℕ)) → Option Request → Option (List Entry) → Type 0 → Option (List ℕ) → Option (List ℕ) → Type 0
+IsCut held request story read_failed old new =
+    ((request ≡ None) × (story ≡ None) × AddsFront old new words_text)
+    ⊎ (((status : ℕ) × (text : List ℕ) × (IsAnswer held request story status text × AddsFront old new text))
+    ⊎ (read_failed × (story ≡ None) × AddsFront old new read_text))

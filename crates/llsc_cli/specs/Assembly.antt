@@ -9,8 +9,8 @@ use Rattle.elf32.specs.declared.units.Unit.{Unit}
 use Rattle.a32_syntax.specs.Kinds.{kind_name}
 use Rattle.a32_asm.specs.declared.assembler.AsmFault.{AsmFault}
 use Rattle.a32_asm.specs.Assembled.{most_text, unit_of}
-use Rattle.llsc_cli.specs.declared.formats.Format.{Format}
-use Rattle.llsc_cli.specs.declared.formats.Format.TheVariants.{Elf, Flat}
+use Rattle.llsc_words.specs.declared.formats.Format.{Format}
+use Rattle.llsc_words.specs.declared.formats.Format.TheVariants.{Elf, Flat}
 use Rattle.llsc_cli.specs.Refusals.{Answer, refused, unless, too_long}
 
 -- a text is UTF-8

@@ -12,7 +12,7 @@ use Rattle.run_record.specs.declared.records.RunRecord.{RunRecord}
 use Rattle.run_checker.specs.Verdict.{Judges, reason_name}
 use Rattle.run_checker.specs.declared.verdicts.Verdict.{Verdict}
 use Rattle.run_checker.specs.declared.verdicts.Verdict.TheVariants as verdict
-use Rattle.llsc_cli.specs.declared.formats.Format.{Format}
+use Rattle.llsc_words.specs.declared.formats.Format.{Format}
 use Rattle.llsc_cli.specs.Programs.{image_of, program_refusal}
 use Rattle.llsc_cli.specs.Refusals.{machine_of, most_program, refusal_text, too_long, Unless}
 

@@ -1,14 +1,13 @@
 pub mod Host
 pub mod MemoryHost
 pub mod MemoryHostInside
-pub mod Options
-pub mod Request
 pub mod Report
 pub mod Refusals
 pub mod Programs
 pub mod Assembly
 pub mod Disassembly
 pub mod Trace
+pub mod Run
 pub mod Check
 pub mod Answer
 pub mod Reads

@@ -8,8 +8,8 @@ use Rattle.llsc_base.specs.declared.flat.FlatFault.TheVariants as flat_fault
 use Rattle.elf32.specs.Faults.{first_fault, elf_fault_name}
 use Rattle.elf32.specs.Image.{image_of as elf_image}
 use Rattle.elf32.specs.declared.faults.ElfFault.TheVariants as elf_fault
-use Rattle.llsc_cli.specs.declared.formats.Format.{Format}
-use Rattle.llsc_cli.specs.declared.formats.Format.TheVariants.{Elf, Flat}
+use Rattle.llsc_words.specs.declared.formats.Format.{Format}
+use Rattle.llsc_words.specs.declared.formats.Format.TheVariants.{Elf, Flat}
 use Rattle.llsc_cli.specs.declared.programs.ProgramFault.{ProgramFault}
 use Rattle.llsc_cli.specs.declared.programs.ProgramFault.TheVariants as fault
 use Rattle.llsc_cli.specs.Refusals.{too_long, most_program, size_refusal}

@@ -1,10 +1,11 @@
 -- How a call ended that had files to answer for.
-use Rattle.std.specs.Prelude.{◌≡◌, ℕ, ◌⊎◌, List, Option, codes}
+use Rattle.std.specs.Prelude.{◌≡◌, ℕ, ◌⊎◌, List, Option, None, codes}
+use Rattle.history.specs.declared.entry.Entry.{Entry}
 use Rattle.llsc_cli.specs.declared.host.ReadFault.{ReadFault}
 use Rattle.llsc_cli.specs.declared.host.ReadFault.TheVariants.{Failed, FileTooLong, Memory}
 use Rattle.llsc_cli.specs.Host.{AreBytes, Adds, AddsFront}
 use Rattle.llsc_cli.specs.Refusals.{Answer, read_text, refusal_text}
-use Rattle.llsc_cli.specs.Request.{Request, files_of}
+use Rattle.llsc_words.specs.Request.{Request, files_of}
 use Rattle.llsc_cli.specs.Answer.{AreFiles, Answers, IsDone}
 
 -- a front of the text of the fault was written
@@ -37,9 +38,10 @@ pub record EndsFor {F : Type 0} (answers : F → ℕ → List ℕ → Type 0) (m
 abbrev pub CallEnds : (List ℕ → ℕ → List ℕ → Type 0) → Option (List ℕ) → Type 0 → Option (List ℕ) → Option (List ℕ) → ℕ → Type 0
 CallEnds answers held read_failed old new status = EndsFor answers (AreBytes held) read_failed old new status
 
--- a call ended that had the files of a request to answer for
-abbrev pub EndsAsked : (List ℕ → Option (List ℕ)) → Request → Type 0 → Option (List ℕ) → Option (List ℕ) → ℕ → Type 0
-EndsAsked held asked read_failed old new status = EndsFor (Answers asked) (AreFiles held (files_of asked)) read_failed old new status
+-- a call ended with a history, or none, that had the files of a request to answer for
+abbrev pub EndsAsked : (List ℕ → Option (List ℕ)) → Request → Option (List Entry) → Type 0 → Option (List ℕ) → Option (List ℕ) → ℕ → Type 0
+EndsAsked held asked story read_failed old new status =
+    EndsFor (λ files. Answers asked files story) (AreFiles held (files_of asked)) (read_failed × (story ≡ None)) old new status
 
 -- A call ended with a status, whatever it read before: one of these answers was written whole, or a write was cut short, or
 -- memory is wanting.

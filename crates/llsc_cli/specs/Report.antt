@@ -1,6 +1,7 @@
--- The report of a run of one thread.
-use Rattle.std.specs.Prelude.{ℕ, List, ◌++◌, length, codes}
+-- The report of a run.
+use Rattle.std.specs.Prelude.{ℕ, ◌<◌, ◌^◌, List, ◌++◌, length, codes}
 use Rattle.std.specs.Fmt.{decimal}
+use Rattle.std.specs.List.{flat_map, sum_by}
 use Rattle.number_text.specs.Hexadecimal.{word_text}
 use Rattle.a32_instr.specs.declared.outside.Stop.{Stop}
 use Rattle.a32_instr.specs.declared.outside.Stop.TheVariants.{Exit, Undefined, Unpredictable, Alignment, Outside, ReadOnly, Thumb, Budget, TagLimit}
@@ -23,11 +24,22 @@ abbrev pub head_line : ℕ → GuestEnd → List ℕ
 head_line budget end =
     codes "thread " ++ (decimal end.thread ++ (codes " stop " ++ (stop_text budget end.stop ++ (codes " steps " ++ (decimal end.steps ++ (codes " out " ++ (decimal (length end.out) ++ codes "\n")))))))
 
--- the line of the counts
-abbrev pub last_line : GuestEnd → List ℕ
-last_line end =
-    codes "reads " ++ (decimal end.reads ++ (codes " writes " ++ (decimal end.writes ++ (codes " fails " ++ (decimal end.fails ++ codes "\n")))))
+-- what is said of a thread: its line, and its output with a newline behind it
+abbrev pub thread_text : ℕ → GuestEnd → List ℕ
+thread_text budget end = head_line budget end ++ (end.out ++ codes "\n")
 
--- the report of a thread: its line, its output with a newline behind it, and the line of the counts
-abbrev pub report_of : ℕ → GuestEnd → List ℕ
-report_of budget end = head_line budget end ++ (end.out ++ (codes "\n" ++ last_line end))
+-- the line of the counts, each of all threads together
+abbrev pub last_line : List GuestEnd → List ℕ
+last_line ends =
+    codes "reads " ++ (decimal (sum_by (λ end. end.reads) ends) ++ (codes " writes " ++ (decimal (sum_by (λ end. end.writes) ends)
+    ++ (codes " fails " ++ (decimal (sum_by (λ end. end.fails) ends) ++ codes "\n")))))
+
+-- the report of a run: what is said of each thread in turn, and the line of the counts
+abbrev pub report_of : ℕ → List GuestEnd → List ℕ
+report_of budget ends = flat_map (thread_text budget) ends ++ last_line ends
+
+-- no count of all threads together is more than a number of 64 bits can be
+pub record HasSums (ends : List GuestEnd) : Type 0 where
+  pub reads : sum_by (λ end. end.reads) ends < 2 ^ 64
+  pub writes : sum_by (λ end. end.writes) ends < 2 ^ 64
+  pub fails : sum_by (λ end. end.fails) ends < 2 ^ 64

@@ -12,7 +12,7 @@ use Rattle.guest_thread.specs.Ends.{AreEnds}
 use Rattle.guest_machine.specs.Turns.{IsTooLong}
 use Rattle.run_record.specs.Text.{record_text}
 use Rattle.run_record.specs.declared.records.RunRecord.{RunRecord}
-use Rattle.llsc_cli.specs.declared.formats.Format.{Format}
+use Rattle.llsc_words.specs.declared.formats.Format.{Format}
 use Rattle.llsc_cli.specs.Programs.{image_of, program_refusal}
 use Rattle.llsc_cli.specs.Refusals.{machine_of, refusal_text, Unless}
 

@@ -1,66 +1,29 @@
-//! How a call ends, and the texts of one write.
-ghost use Rattle.std.specs.Prelude.{◌≡◌, ◌≢◌, ◌⊎◌};
-ghost use Rattle.llsc_cli.specs.Host.{Adds, AddsFront, KeepsReads, Rose};
-ghost use Rattle.llsc_cli.specs.Refusals.{refusal_text};
-ghost use Rattle.llsc_cli.specs.Trace.{status_of};
+//! How a call ended.
+ghost use Rattle.std.specs.Prelude.{◌≡◌, None};
 
-use crate::host::Host;
-use a32_step::Stop;
-use std::alloc::Global;
+use crate::said::Said;
+use hst_memory::HstStory;
 
 /// How a call ended.
-#[derive(Clone, Copy, Debug, PartialEq, Eq)]
+#[derive(Drop)]
 pub struct Ended {
     /// 0: the answer is written whole, and each thread left with code 0 or the record is good; 1: a thread stopped
     /// otherwise; 2: the words are refused; 3: a file could not be read; 4: the size or a file is refused, or the trace
     /// is too long; 5: a write failed; 6: want of memory; 7: the record is bad.
     pub status: u8,
+    /// The history of the accesses of threads that ran beside each other, where any did. Nothing of it is read at run time.
+    pub story: Option<HstStory>,
 }
 
-/// 0 where a thread left by an exit call with code 0, else 1.
-pub fn status(stop: Stop) -> u8
-    ensures value { result ≡ status_of stop }
-    ensures bound { (result ≡ 0) ⊎ (result ≡ 1) }
-{
-    match stop {
-        Stop::Exit(0) => 0,
-        _ => 1,
-    }
-}
-
-/// Want of memory.
-pub fn out_of_memory() -> Ended
-    ensures { result.status ≡ 6 }
-{
-    Ended { status: 6 }
-}
-
-/// Writes a text by one write, and ends with the status, or with 5 where the write failed.
-pub fn say<H: Host>(host: &mut H, text: &[u8], status: u8) -> Ended
-    requires { status ≢ 5 }
-    ensures ended { (result.status ≡ status) ⊎ (result.status ≡ 5) }
-    ensures said { result.status ≡ status → Adds (H.written host.old) (H.written host.new) text.now }
-    ensures cut { result.status ≡ 5 → Rose (H.write_faults host.old) (H.write_faults host.new) × AddsFront (H.written host.old) (H.written host.new) text.now }
-    ensures write_answered { result.status ≢ 5 → H.write_faults host.new ≡ H.write_faults host.old }
-    ensures reads { KeepsReads (H.file host.old) (H.file host.new) (H.read_faults host.old) (H.read_faults host.new) (H.lost host.old) (H.lost host.new) }
-{
-    match host.write(text) {
-        Ok(()) => Ended { status },
-        Err(_) => Ended { status: 5 },
-    }
-}
-
-/// Says that a file is refused, with the name of what is wrong.
-pub fn refuse<H: Host>(alloc: Global, host: &mut H, name: &str) -> Ended
-    ensures ended { (result.status ≡ 4) ⊎ ((result.status ≡ 5) ⊎ (result.status ≡ 6)) }
-    ensures said { result.status ≡ 4 → Adds (H.written host.old) (H.written host.new) (refusal_text name.now) }
-    ensures cut { result.status ≡ 5 → Rose (H.write_faults host.old) (H.write_faults host.new) × AddsFront (H.written host.old) (H.written host.new) (refusal_text name.now) }
-    ensures memory { result.status ≡ 6 → H.written host.new ≡ H.written host.old }
-    ensures write_answered { result.status ≢ 5 → H.write_faults host.new ≡ H.write_faults host.old }
-    ensures reads { KeepsReads (H.file host.old) (H.file host.new) (H.read_faults host.old) (H.read_faults host.new) (H.lost host.old) (H.lost host.new) }
-{
-    match format!(in alloc; "llsc: {name}\n") {
-        Ok(text) => say(host, text.as_bytes(), 4),
-        Err(_) => out_of_memory(),
+impl From<Said> for Ended {
+    /// No threads ran beside each other.
+    fn from(said: Said) -> Ended
+        ensures status { result.status ≡ said.status }
+        ensures story { result.story ≡ None }
+    {
+        Ended {
+            status: said.status,
+            story: None,
+        }
     }
 }

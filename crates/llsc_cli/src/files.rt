@@ -2,15 +2,15 @@
 ghost use Rattle.std.specs.Prelude.{◌≡◌, ◌≢◌, codes, ◌<◌, ◌≤◌, ◌⊎◌, List, ℕ, None, Some, IfOk, OnOk, IfErr, OnErr, IsTrue, MatchResult, length};
 ghost use Rattle.llsc_base.specs.Sizes.{size_fault};
 ghost use Rattle.llsc_cli.specs.Host.{Adds, AddsFront, AreBytes, KeepsReads, KeepsWrites, Rose};
-ghost use Rattle.llsc_cli.specs.Refusals.{machine_of, read_text, refusal_text, too_long, most_program, size_refusal, Refusal, Refuses};
+ghost use Rattle.llsc_cli.specs.Refusals.{machine_by, read_text, refusal_text, too_long, most_program, size_refusal, Refusal, Refuses};
 ghost use Rattle.llsc_cli.specs.Programs.{program_fault_name, image_of, is_wanting, program_refusal, refusal_on};
 ghost use Rattle.llsc_cli.specs.Reads.{Answered, CutAfter, CallEnds};
 
-use crate::ended::{Ended, out_of_memory, refuse, say};
-use crate::formats::Format;
 use crate::host::{Host, ReadFault};
 use crate::programs::{ProgramFault, image_of};
+use crate::said::{Said, out_of_memory, refuse, say};
 use llsc_base::{Image, MachineSize, SizeFault};
+use llsc_words::Format;
 use std::alloc::Global;
 
 /// The most bytes of a program file.
@@ -20,13 +20,28 @@ pub const MOST_BYTES: usize = 33_554_432;
 pub const LEAST_GRANULE: u64 = 0;
 
 /// The classes of rows of a machine.
-const CLASSES: u64 = 4096;
+pub const CLASSES: u64 = 4096;
 
 /// The most writes of a class.
-const MOST_WRITES: u64 = 1 << 62;
+pub const MOST_WRITES: u64 = 1 << 62;
+
+/// The numbers of a machine, in their ranges or not.
+#[derive(Clone, Copy)]
+pub struct MachineNumbers {
+    /// The guest threads.
+    pub threads: u64,
+    /// The bytes of memory.
+    pub mem: u64,
+    /// The number of the granule, by which rows have their width.
+    pub granule: u64,
+    /// The classes of rows.
+    pub classes: u64,
+    /// The most writes of a class.
+    pub limit: u64,
+}
 
 /// Answers for a file that was not had.
-fn refuse_read<H: Host>(host: &mut H, fault: ReadFault) -> Ended
+fn refuse_read<H: Host>(host: &mut H, fault: ReadFault) -> Said
     ensures ended { (result.status ≡ 3) ⊎ ((result.status ≡ 4) ⊎ ((result.status ≡ 5) ⊎ (result.status ≡ 6))) }
     ensures failed { result.status ≡ 3 → fault ≡ ReadFault.Failed }
     ensures too_long { result.status ≡ 4 → fault ≡ ReadFault.FileTooLong }
@@ -50,7 +65,7 @@ fn refuse_read<H: Host>(host: &mut H, fault: ReadFault) -> Ended
 /// # Errors
 ///
 /// How the call ended, which then has no more to answer.
-pub fn read<H: Host>(alloc: Global, host: &mut H, name: &str, most: usize) -> Result<Vec<u8>, Ended>
+pub fn read<H: Host>(alloc: Global, host: &mut H, name: &str, most: usize) -> Result<Vec<u8>, Said>
     ensures had { IfOk result (λ file. AreBytes (H.file host.old name.now) file.items × (too_long most file.items ≡ None)) }
     ensures within { IfOk result (λ file. length file.items ≤ most) }
     ensures reads { OnOk result (KeepsReads (H.file host.old) (H.file host.new) (H.read_faults host.old) (H.read_faults host.new) (H.lost host.old) (H.lost host.new)) }
@@ -71,7 +86,7 @@ pub fn read<H: Host>(alloc: Global, host: &mut H, name: &str, most: usize) -> Re
 }
 
 /// Says that a program's file is refused.
-fn refuse_program<H: Host>(alloc: Global, host: &mut H, fault: ProgramFault) -> Ended
+fn refuse_program<H: Host>(alloc: Global, host: &mut H, fault: ProgramFault) -> Said
     ensures ended { (result.status ≡ 4) ⊎ ((result.status ≡ 5) ⊎ (result.status ≡ 6)) }
     ensures memory_alone { IsTrue (is_wanting fault) → result.status ≡ 6 }
     ensures said { result.status ≡ 4 → Adds (H.written host.old) (H.written host.new) (refusal_text (program_fault_name fault)) }
@@ -98,7 +113,7 @@ pub fn image_on<H: Host>(
     format: Format,
     size: &MachineSize,
     file: &[u8],
-) -> Result<Image, Ended>
+) -> Result<Image, Said>
     ensures sound { IfOk result (λ image. refusal_on format size.now file.now ≡ None) }
     ensures image { IfOk result (λ image. image ≡ image_of format file.now size.now) }
     ensures whole { IfOk result (λ image. length image.bytes ≡ size.now.mem) }
@@ -114,15 +129,17 @@ pub fn image_on<H: Host>(
     }
 }
 
-/// The machine of so many threads with so much memory and rows of this granule, or the first number that is out of its range.
-fn sized(threads: u64, mem: u64, granule: u64) -> Result<MachineSize, SizeFault>
-    ensures { let n = machine_of threads mem granule in
+/// The machine of these numbers, or the first number that is out of its range.
+fn sized(numbers: MachineNumbers) -> Result<MachineSize, SizeFault>
+    ensures { let n = machine_by numbers in
         MatchResult result (λ size. (size_fault n ≡ None) × (size ≡ n)) (λ fault. size_fault n ≡ Some fault) }
 {
-    MachineSize::new(mem, threads, CLASSES, MOST_WRITES)?.with_granule(granule)
+    MachineSize::new(numbers.mem, numbers.threads, numbers.classes, numbers.limit)?.with_granule(
+        numbers.granule,
+    )
 }
 
-/// The machine of so many threads with so much memory and rows of this granule.
+/// The machine of these numbers.
 ///
 /// # Errors
 ///
@@ -130,18 +147,16 @@ fn sized(threads: u64, mem: u64, granule: u64) -> Result<MachineSize, SizeFault>
 pub fn machine<H: Host>(
     alloc: Global,
     host: &mut H,
-    threads: u64,
-    mem: u64,
-    granule: u64,
-) -> Result<MachineSize, Ended>
-    ensures size { IfOk result (λ size. (size ≡ machine_of threads mem granule) × (size_refusal (machine_of threads mem granule) ≡ None)) }
+    numbers: MachineNumbers,
+) -> Result<MachineSize, Said>
+    ensures size { IfOk result (λ size. (size ≡ machine_by numbers) × (size_refusal (machine_by numbers) ≡ None)) }
     ensures writes { OnOk result (KeepsWrites (H.written host.old) (H.written host.new) (H.write_faults host.old) (H.write_faults host.new)) }
-    ensures refused { IfErr result (λ ended. Answered (Refusal (size_refusal (machine_of threads mem granule))) (H.written host.old) (H.written host.new) ended.status) }
+    ensures refused { IfErr result (λ ended. Answered (Refusal (size_refusal (machine_by numbers))) (H.written host.old) (H.written host.new) ended.status) }
     ensures write { IfErr result (λ ended. ended.status ≡ 5 → Rose (H.write_faults host.old) (H.write_faults host.new)) }
     ensures write_answered { IfErr result (λ ended. ended.status ≢ 5 → H.write_faults host.new ≡ H.write_faults host.old) }
     ensures reads { KeepsReads (H.file host.old) (H.file host.new) (H.read_faults host.old) (H.read_faults host.new) (H.lost host.old) (H.lost host.new) }
 {
-    match sized(threads, mem, granule) {
+    match sized(numbers) {
         Ok(size) => Ok(size),
         Err(fault) => Err(refuse(alloc, host, fault.name())),
     }
@@ -154,7 +169,7 @@ pub struct Loaded {
     pub image: Image,
 }
 
-/// The machine of so many threads with so much memory and rows of this granule, and the image of a program's file on it.
+/// The machine of these numbers, and the image of a program's file on it.
 ///
 /// # Errors
 ///
@@ -162,26 +177,24 @@ pub struct Loaded {
 pub fn load<H: Host>(
     alloc: Global,
     host: &mut H,
-    threads: u64,
-    mem: u64,
-    granule: u64,
+    numbers: MachineNumbers,
     name: &str,
     format: Format,
-) -> Result<Loaded, Ended>
-    ensures size { IfOk result (λ loaded. loaded.size ≡ machine_of threads mem granule) }
+) -> Result<Loaded, Said>
+    ensures size { IfOk result (λ loaded. loaded.size ≡ machine_by numbers) }
     ensures image { IfOk result (λ loaded. (file : List ℕ) × (AreBytes (H.file host.old name.now) file
-        × ((program_refusal format (machine_of threads mem granule) file ≡ None) × (loaded.image ≡ image_of format file (machine_of threads mem granule))))) }
+        × ((program_refusal format (machine_by numbers) file ≡ None) × (loaded.image ≡ image_of format file (machine_by numbers))))) }
     ensures whole { IfOk result (λ loaded. length loaded.image.bytes ≡ loaded.size.mem) }
     ensures reads { OnOk result (KeepsReads (H.file host.old) (H.file host.new) (H.read_faults host.old) (H.read_faults host.new) (H.lost host.old) (H.lost host.new)) }
     ensures writes { OnOk result (KeepsWrites (H.written host.old) (H.written host.new) (H.write_faults host.old) (H.write_faults host.new)) }
-    ensures ends { IfErr result (λ ended. CallEnds (Refuses (program_refusal format (machine_of threads mem granule))) (H.file host.old name.now)
-        (Rose (H.read_faults host.old) (H.read_faults host.new) × (H.lost host.new ≡ name.now) × (size_refusal (machine_of threads mem granule) ≡ None))
+    ensures ends { IfErr result (λ ended. CallEnds (Refuses (program_refusal format (machine_by numbers))) (H.file host.old name.now)
+        (Rose (H.read_faults host.old) (H.read_faults host.new) × (H.lost host.new ≡ name.now) × (size_refusal (machine_by numbers) ≡ None))
         (H.written host.old) (H.written host.new) ended.status) }
     ensures write { IfErr result (λ ended. ended.status ≡ 5 → Rose (H.write_faults host.old) (H.write_faults host.new)) }
     ensures write_answered { IfErr result (λ ended. ended.status ≢ 5 → H.write_faults host.new ≡ H.write_faults host.old) }
     ensures read_answered { IfErr result (λ ended. ended.status ≢ 3 → ended.status ≢ 5 → H.read_faults host.new ≡ H.read_faults host.old) }
 {
-    let size = machine(alloc, host, threads, mem, granule)?;
+    let size = machine(alloc, host, numbers)?;
     let file = read(alloc, host, name, MOST_BYTES)?;
     let image = image_on(alloc, host, format, &size, file.as_slice())?;
     Ok(Loaded { size, image })

@@ -1,10 +1,12 @@
 //! The laws of what the program answers, each a function of no effect whose contract is the law.
-ghost use Rattle.std.specs.Prelude.{◌≡◌, ℕ, List};
+ghost use Rattle.std.specs.Prelude.{◌≡◌, ◌⊎◌, ℕ, List, Option, Some};
 ghost use Rattle.llsc_base.specs.Images.{Program};
 ghost use Rattle.llsc_base.specs.Sizes.{Numbers};
 ghost use Rattle.history.specs.Accesses.{history_of};
 ghost use Rattle.history.specs.declared.entry.Access.{Access};
+ghost use Rattle.history.specs.declared.entry.Entry.{Entry};
 ghost use Rattle.guest_thread.specs.End.{IsEndIn};
+ghost use Rattle.guest_thread.specs.Outcome.{IsOutcome};
 ghost use Rattle.guest_thread.specs.Start.{thread_start};
 ghost use Rattle.guest_thread.specs.declared.ends.GuestEnd.{GuestEnd};
 ghost use Rattle.run_record.specs.declared.records.RunRecord.{RunRecord};
@@ -13,14 +15,28 @@ ghost use Rattle.guest_machine.specs.Traces.{IsTraceRecord};
 ghost use Rattle.guest_machine.specs.Turns.{IsTrace};
 ghost use Rattle.run_checker.specs.Verdict.{Judges};
 ghost use Rattle.llsc_cli.specs.Answer.{Answers};
-ghost use Rattle.llsc_cli.specs.Request.{Request};
+ghost use Rattle.llsc_cli.specs.Programs.{image_of};
+ghost use Rattle.llsc_cli.specs.Report.{report_of};
+ghost use Rattle.llsc_cli.specs.Run.{AnswersRun};
+ghost use Rattle.llsc_words.specs.declared.formats.Format.{Format};
+ghost use Rattle.llsc_words.specs.Request.{Request};
 
 use run_checker::Verdict;
 
-/// A request has one answer for the bytes of its files: one status and one text.
+/// A request has one answer for the bytes of its files, and for the history of its threads where they run beside each other: one
+/// status and one text.
 pub fn answers_are_one()
-    ensures { (asked : Request) (files : List (List ℕ)) (status other : ℕ) (text more : List ℕ) →
-        Answers asked files status text → Answers asked files other more → (status ≡ other) × (text ≡ more) }
+    ensures { (asked : Request) (files : List (List ℕ)) (story : Option (List Entry)) (status other : ℕ) (text more : List ℕ) →
+        Answers asked files story status text → Answers asked files story other more → (status ≡ other) × (text ≡ more) }
+{}
+
+/// What a run prints, where its status is 0 or 1, is the report of an outcome of its threads: of one history, legal and complete,
+/// from the program's memory on, that goes with the answer.
+pub fn runs_have_one_history()
+    ensures { (format : Format) (size : Numbers) (budget : ℕ) (file : List ℕ) (story : Option (List Entry)) (status : ℕ) (text : List ℕ) →
+        AnswersRun format size budget file story status text → (status ≡ 0) ⊎ (status ≡ 1) →
+        (history : List Entry) × (ends : List GuestEnd)
+        × ((story ≡ Some history) × (IsOutcome (image_of format file size) size budget history ends × (text ≡ report_of budget ends))) }
 {}
 
 /// The record of a trace is good.

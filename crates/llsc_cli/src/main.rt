@@ -9,16 +9,14 @@ mod call;
 mod commands;
 mod ended;
 mod files;
-mod formats;
 mod host;
 pub mod laws;
 mod memory_host;
-mod options;
 mod pages;
 mod programs;
 mod real_host;
 mod report;
-mod words;
+mod said;
 pub mod worked;
 
 use crate::call::llsc;
@@ -40,8 +38,8 @@ enum WordsFault {
 fn main(rt: HostRuntime) -> ExitCode {
     let mut host = RealHost::new(rt.alloc(), &rt);
     let status = match words_of(&rt) {
-        Ok(words) => llsc(rt.alloc(), words.as_slice(), &mut host).status,
-        Err(WordsFault::NotText) => llsc(rt.alloc(), &[], &mut host).status,
+        Ok(words) => llsc(&rt, rt.alloc(), words.as_slice(), &mut host).status,
+        Err(WordsFault::NotText) => llsc(&rt, rt.alloc(), &[], &mut host).status,
         Err(WordsFault::Memory) => 6,
     };
     ExitCode::from(status)

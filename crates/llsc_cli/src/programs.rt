@@ -2,9 +2,9 @@
 ghost use Rattle.std.specs.Prelude.{◌≡◌, IfOk, IfErr, None};
 ghost use Rattle.llsc_cli.specs.Programs.{program_fault_name, image_of, is_wanting, refusal_on, IsFaultBy};
 
-use crate::formats::Format;
 use elf32::ElfFault;
 use llsc_base::{FlatFault, Image, MachineSize};
+use llsc_words::Format;
 use std::alloc::Global;
 use thiserror::Error;
 

@@ -1,13 +1,14 @@
-//! The report of a run: a line of the thread, its output, and a line of its counts.
+//! The report of a run: of each thread a line and its output, and a line of the counts of all.
 ghost use Rattle.std.specs.Prelude.{◌≡◌, ◌≤◌, ◌+◌, ◌++◌, codes, length, OnOk, OnErr};
 ghost use Rattle.std.specs.Fmt.{decimal};
 ghost use Rattle.number_text.specs.Hexadecimal.{word_text};
 ghost use Rattle.llsc_cli.specs.Host.{Adds, AddsFront, KeepsReads, Rose};
-ghost use Rattle.llsc_cli.specs.Report.{head_line, last_line, report_of, stop_text};
+ghost use Rattle.std.specs.List.{flat_map, sum_by};
+ghost use Rattle.llsc_cli.specs.Report.{HasSums, head_line, last_line, report_of, stop_text, thread_text};
 
 use crate::host::{Failed, Host};
 use a32_step::Stop;
-use guest_thread::GuestEnd;
+use guest_thread::{Counts, GuestEnd};
 use llsc_base::Line;
 use number_text::{write_decimal, write_text, write_word};
 
@@ -74,14 +75,32 @@ fn head_line(budget: u64, end: &GuestEnd) -> Line
     line
 }
 
-/// The line of the counts.
-fn last_line(end: &GuestEnd) -> Line
-    ensures { result ≡ last_line end.now }
+/// What was counted of all threads together.
+fn counts_of(ends: &[GuestEnd]) -> Counts
+    requires { HasSums ends.now }
+    ensures reads { result.reads ≡ sum_by (λ end. end.reads) ends.now }
+    ensures writes { result.writes ≡ sum_by (λ end. end.writes) ends.now }
+    ensures fails { result.fails ≡ sum_by (λ end. end.fails) ends.now }
 {
+    let mut all = Counts::none();
+    for end in ends {
+        all.reads += end.reads;
+        all.writes += end.writes;
+        all.fails += end.fails;
+    }
+    all
+}
+
+/// The line of the counts.
+fn last_line(ends: &[GuestEnd]) -> Line
+    requires { HasSums ends.now }
+    ensures { result ≡ last_line ends.now }
+{
+    let all = counts_of(ends);
     let mut line = Line::new();
-    write_count(&mut line, "reads ", end.reads);
-    write_count(&mut line, " writes ", end.writes);
-    write_count(&mut line, " fails ", end.fails);
+    write_count(&mut line, "reads ", all.reads);
+    write_count(&mut line, " writes ", all.writes);
+    write_count(&mut line, " fails ", all.fails);
     line.push(b'\n');
     line
 }
@@ -100,36 +119,65 @@ fn write_both<H: Host>(host: &mut H, first: &[u8], second: &[u8]) -> Result<(), 
     Ok(())
 }
 
-/// Writes what stands below a thread's line: its output if there is any, the end of that line, and the counts.
+/// Writes an output if there is any, and the end of its line.
 #[tactic(auto, using(crate::proofs::Fronts::adds_both, crate::proofs::Fronts::front_less, crate::proofs::Fronts::front_more))]
-fn write_below<H: Host>(host: &mut H, output: &[u8], last: &[u8]) -> Result<(), Failed>
-    ensures whole { OnOk result (Adds (H.written host.old) (H.written host.new) (output.now ++ (codes "\n" ++ last.now))) }
-    ensures front { OnErr result (AddsFront (H.written host.old) (H.written host.new) (output.now ++ (codes "\n" ++ last.now))) }
+fn write_output<H: Host>(host: &mut H, output: &[u8]) -> Result<(), Failed>
+    ensures whole { OnOk result (Adds (H.written host.old) (H.written host.new) (output.now ++ codes "\n")) }
+    ensures front { OnErr result (AddsFront (H.written host.old) (H.written host.new) (output.now ++ codes "\n")) }
     ensures cause { OnErr result (Rose (H.write_faults host.old) (H.write_faults host.new)) }
     ensures other { OnOk result (H.write_faults host.new ≡ H.write_faults host.old) }
     ensures reads { KeepsReads (H.file host.old) (H.file host.new) (H.read_faults host.old) (H.read_faults host.new) (H.lost host.old) (H.lost host.new) }
 {
     if output.is_empty() {
-        return write_both(host, b"\n", last);
+        host.write(b"\n")?;
+        return Ok(());
     }
-    host.write(output)?;
-    write_both(host, b"\n", last)?;
+    write_both(host, output, b"\n")?;
     Ok(())
 }
 
-/// Writes the report of a thread's end with this budget: the thread's line, its output if there is any, the end of the
-/// output's line, and the counts, one write each. No memory is taken.
+/// Writes what is said of a thread: its line, its output if there is any, and the end of the output's line.
 #[tactic(auto, using(crate::proofs::Fronts::adds_both, crate::proofs::Fronts::front_less, crate::proofs::Fronts::front_more))]
-pub fn write_report<H: Host>(host: &mut H, budget: u64, end: &GuestEnd) -> Result<(), Failed>
-    ensures whole { OnOk result (Adds (H.written host.old) (H.written host.new) (report_of budget end.now)) }
-    ensures front { OnErr result (AddsFront (H.written host.old) (H.written host.new) (report_of budget end.now)) }
+fn write_thread<H: Host>(host: &mut H, budget: u64, end: &GuestEnd) -> Result<(), Failed>
+    ensures whole { OnOk result (Adds (H.written host.old) (H.written host.new) (thread_text budget end.now)) }
+    ensures front { OnErr result (AddsFront (H.written host.old) (H.written host.new) (thread_text budget end.now)) }
     ensures cause { OnErr result (Rose (H.write_faults host.old) (H.write_faults host.new)) }
     ensures other { OnOk result (H.write_faults host.new ≡ H.write_faults host.old) }
     ensures reads { KeepsReads (H.file host.old) (H.file host.new) (H.read_faults host.old) (H.read_faults host.new) (H.lost host.old) (H.lost host.new) }
 {
     let head = head_line(budget, end);
-    let last = last_line(end);
     host.write(head.bytes())?;
-    write_below(host, end.out.bytes(), last.bytes())?;
+    write_output(host, end.out.bytes())?;
+    Ok(())
+}
+
+/// Writes what is said of each thread.
+fn write_threads<H: Host>(host: &mut H, budget: u64, ends: &[GuestEnd]) -> Result<(), Failed>
+    ensures whole { OnOk result (Adds (H.written host.old) (H.written host.new) (flat_map (thread_text budget) ends.now)) }
+    ensures front { OnErr result (AddsFront (H.written host.old) (H.written host.new) (flat_map (thread_text budget) ends.now)) }
+    ensures cause { OnErr result (Rose (H.write_faults host.old) (H.write_faults host.new)) }
+    ensures other { OnOk result (H.write_faults host.new ≡ H.write_faults host.old) }
+    ensures reads { KeepsReads (H.file host.old) (H.file host.new) (H.read_faults host.old) (H.read_faults host.new) (H.lost host.old) (H.lost host.new) }
+{
+    for end in ends {
+        write_thread(host, budget, end)?;
+    }
+    Ok(())
+}
+
+/// Writes the report of the threads' ends with this budget: of each thread its line, its output if there is any, and the end of
+/// the output's line, and then the counts, one write each. No memory is taken.
+#[tactic(auto, using(crate::proofs::Fronts::adds_both, crate::proofs::Fronts::front_less, crate::proofs::Fronts::front_more))]
+pub fn write_report<H: Host>(host: &mut H, budget: u64, ends: &[GuestEnd]) -> Result<(), Failed>
+    requires { HasSums ends.now }
+    ensures whole { OnOk result (Adds (H.written host.old) (H.written host.new) (report_of budget ends.now)) }
+    ensures front { OnErr result (AddsFront (H.written host.old) (H.written host.new) (report_of budget ends.now)) }
+    ensures cause { OnErr result (Rose (H.write_faults host.old) (H.write_faults host.new)) }
+    ensures other { OnOk result (H.write_faults host.new ≡ H.write_faults host.old) }
+    ensures reads { KeepsReads (H.file host.old) (H.file host.new) (H.read_faults host.old) (H.read_faults host.new) (H.lost host.old) (H.lost host.new) }
+{
+    write_threads(host, budget, ends)?;
+    let last = last_line(ends);
+    host.write(last.bytes())?;
     Ok(())
 }

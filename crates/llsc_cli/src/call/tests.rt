@@ -5,6 +5,7 @@ use std::alloc::AllocError;
 use std::test::Fail;
 
 mod assembles;
+mod beside;
 mod checks;
 mod disassembles;
 mod elf_files;
@@ -56,27 +57,29 @@ fn bytes_of(alloc: Global, program: &[u32]) -> Result<Vec<u8>, AllocError> {
 type Failing = (u64, u32);
 
 /// A call over a host whose one file `p` holds these bytes: its status, and the host behind it.
-fn called(
-    alloc: Global,
+fn called<R: Threads + Wait + Sync + AllocGlobal>(
+    rt: &R,
     words: &str,
     file: Vec<u8>,
     failing: &[Failing],
     space: u32,
 ) -> Result<(u8, MemoryHost), AllocError> {
+    let alloc = rt.alloc();
     let files = vec![in alloc; (String::from_str(alloc, "p")?, file)]?;
-    over(alloc, words, files, failing, space)
+    over(rt, words, files, failing, space)
 }
 
 /// A call over a host that holds these files: its status, and the host behind it.
-fn over(
-    alloc: Global,
+fn over<R: Threads + Wait + Sync + AllocGlobal>(
+    rt: &R,
     words: &str,
     files: Vec<(String, Vec<u8>)>,
     failing: &[Failing],
     space: u32,
 ) -> Result<(u8, MemoryHost), AllocError> {
+    let alloc = rt.alloc();
     let words = owned(alloc, words)?;
     let mut host = MemoryHost::new(alloc, files, failing.to_vec(alloc)?, space)?;
-    let status = llsc(alloc, words.as_slice(), &mut host).status;
+    let status = llsc(rt, alloc, words.as_slice(), &mut host).status;
     Ok((status, host))
 }

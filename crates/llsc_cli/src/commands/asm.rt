@@ -8,12 +8,12 @@ ghost use Rattle.llsc_cli.specs.Assembly.{asm_answer, asm_fault_text, has_data, 
 ghost use Rattle.llsc_cli.specs.Answer.{AnswersAsm};
 ghost use Rattle.llsc_cli.specs.Reads.{CallEnds, Gives};
 
-use crate::ended::{Ended, out_of_memory, refuse, say};
 use crate::files::read;
-use crate::formats::Format;
 use crate::host::Host;
+use crate::said::{Said, out_of_memory, refuse, say};
 use a32_asm::{AsmFault, AsmKind, assemble};
 use elf32::Unit;
+use llsc_words::Format;
 use std::alloc::{AllocError, Global};
 use std::str;
 
@@ -50,7 +50,7 @@ fn has_data(unit: &Unit) -> bool
 }
 
 /// Writes the file of a program, unless it is to be a flat image and has data.
-fn write_unit<H: Host>(alloc: Global, host: &mut H, format: Format, unit: &Unit) -> Ended
+fn write_unit<H: Host>(alloc: Global, host: &mut H, format: Format, unit: &Unit) -> Said
     requires { IsWithin unit.now }
     ensures gives { Gives (unit_answer format unit.now) (H.written host.old) (H.written host.new) result.status }
     ensures write { result.status ≡ 5 → Rose (H.write_faults host.old) (H.write_faults host.new) }
@@ -74,7 +74,7 @@ fn name_of(alloc: Global, fault: AsmFault) -> Result<String, AllocError>
 }
 
 /// Says which line of a text has a fault, and which.
-fn refuse_text<H: Host>(alloc: Global, host: &mut H, fault: AsmFault) -> Ended
+fn refuse_text<H: Host>(alloc: Global, host: &mut H, fault: AsmFault) -> Said
     ensures gives { Gives (refused (asm_fault_text fault)) (H.written host.old) (H.written host.new) result.status }
     ensures memory_alone { fault.kind ≡ AsmKind.Memory → result.status ≡ 6 }
     ensures write { result.status ≡ 5 → Rose (H.write_faults host.old) (H.write_faults host.new) }
@@ -91,7 +91,7 @@ fn refuse_text<H: Host>(alloc: Global, host: &mut H, fault: AsmFault) -> Ended
 }
 
 /// Answers for the bytes of a text's file.
-fn respond<H: Host>(alloc: Global, host: &mut H, file: &[u8], format: Format) -> Ended
+fn respond<H: Host>(alloc: Global, host: &mut H, file: &[u8], format: Format) -> Said
     requires { too_long most_text file.now ≡ None }
     ensures gives { Gives (asm_answer format file.now) (H.written host.old) (H.written host.new) result.status }
     ensures write { result.status ≡ 5 → Rose (H.write_faults host.old) (H.write_faults host.new) }
@@ -108,7 +108,7 @@ fn respond<H: Host>(alloc: Global, host: &mut H, file: &[u8], format: Format) ->
 }
 
 /// Assembles the text of a name as a file of a format.
-pub fn answer<H: Host>(alloc: Global, host: &mut H, file: &str, format: Format) -> Ended
+pub fn answer<H: Host>(alloc: Global, host: &mut H, file: &str, format: Format) -> Said
     ensures ends { CallEnds (AnswersAsm format) (H.file host.old file.now)
         (Rose (H.read_faults host.old) (H.read_faults host.new) × (H.lost host.new ≡ file.now))
         (H.written host.old) (H.written host.new) result.status }

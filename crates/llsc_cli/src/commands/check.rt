@@ -5,16 +5,16 @@ ghost use Rattle.run_record.specs.Limits.{IsRecord};
 ghost use Rattle.run_record.specs.Reading.{record_of};
 ghost use Rattle.llsc_cli.specs.Host.{Adds, AddsFront, KeepsReads, Rose};
 ghost use Rattle.llsc_cli.specs.Refusals.{machine_of, most_program, refusal_text, too_long};
-ghost use Rattle.llsc_cli.specs.Request.{Check};
+ghost use Rattle.llsc_words.specs.Request.{Check};
 ghost use Rattle.llsc_cli.specs.Check.{files_refusal, most_record, record_fault_text, verdict_status, verdict_text, IsJudged, JudgesRead, JudgesRun};
 ghost use Rattle.llsc_cli.specs.Answer.{IsDue};
 ghost use Rattle.llsc_cli.specs.Reads.{Answered, EndsAsked};
 
-use crate::ended::{Ended, out_of_memory, refuse, say};
-use crate::files::{MOST_BYTES, image_on, machine, read};
-use crate::formats::Format;
+use crate::files::{CLASSES, MOST_BYTES, MOST_WRITES, MachineNumbers, image_on, machine, read};
 use crate::host::Host;
+use crate::said::{Said, out_of_memory, refuse, say};
 use llsc_base::{Image, MachineSize};
+use llsc_words::Format;
 use run_checker::{Verdict, check_record};
 use run_record::{RecordFault, RunRecord, read_record};
 use std::alloc::{AllocError, Global};
@@ -44,7 +44,7 @@ fn text_of(alloc: Global, verdict: Verdict) -> Result<String, AllocError>
 }
 
 /// Writes a verdict.
-fn tell<H: Host>(alloc: Global, host: &mut H, verdict: Verdict) -> Ended
+fn tell<H: Host>(alloc: Global, host: &mut H, verdict: Verdict) -> Said
     ensures ended { (result.status ≡ verdict_status verdict) ⊎ ((result.status ≡ 5) ⊎ (result.status ≡ 6)) }
     ensures said { result.status ≡ verdict_status verdict → Adds (H.written host.old) (H.written host.new) (verdict_text verdict) }
     ensures cut { result.status ≡ 5 → Rose (H.write_faults host.old) (H.write_faults host.new) × AddsFront (H.written host.old) (H.written host.new) (verdict_text verdict) }
@@ -65,7 +65,7 @@ fn judge<H: Host>(
     size: &MachineSize,
     image: &Image,
     run: &RunRecord,
-) -> Ended
+) -> Said
     requires whole { length image.now.bytes ≡ size.now.mem }
     requires threads { run.now.threads ≡ size.now.threads }
     requires granule { run.now.granule ≡ size.now.granule }
@@ -89,7 +89,7 @@ fn judge_file<H: Host>(
     mem: u64,
     file: &[u8],
     run: &RunRecord,
-) -> Ended
+) -> Said
     requires short { too_long most_program file.now ≡ None }
     requires record_ { IsRecord run.now }
     ensures answered { Answered (JudgesRun format mem file.now run.now) (H.written host.old) (H.written host.new) result.status }
@@ -97,13 +97,14 @@ fn judge_file<H: Host>(
     ensures write_answered { result.status ≢ 5 → H.write_faults host.new ≡ H.write_faults host.old }
     ensures reads { KeepsReads (H.file host.old) (H.file host.new) (H.read_faults host.old) (H.read_faults host.new) (H.lost host.old) (H.lost host.new) }
 {
-    let size = match machine(
-        alloc,
-        host,
-        u64::from(run.threads),
+    let numbers = MachineNumbers {
+        threads: u64::from(run.threads),
         mem,
-        u64::from(run.granule),
-    ) {
+        granule: u64::from(run.granule),
+        classes: CLASSES,
+        limit: MOST_WRITES,
+    };
+    let size = match machine(alloc, host, numbers) {
         Ok(size) => size,
         Err(ended) => return ended,
     };
@@ -127,7 +128,7 @@ fn fault_text(alloc: Global, fault: RecordFault) -> Result<String, AllocError>
 }
 
 /// Says that a record's file is refused.
-fn refuse_record<H: Host>(alloc: Global, host: &mut H, fault: RecordFault) -> Ended
+fn refuse_record<H: Host>(alloc: Global, host: &mut H, fault: RecordFault) -> Said
     ensures ended { (result.status ≡ 4) ⊎ ((result.status ≡ 5) ⊎ (result.status ≡ 6)) }
     ensures memory_alone { fault ≡ RecordFault.Memory → result.status ≡ 6 }
     ensures said { result.status ≡ 4 → Adds (H.written host.old) (H.written host.new) (refusal_text (record_fault_text fault)) }
@@ -153,7 +154,7 @@ fn respond<H: Host>(
     mem: u64,
     file: &[u8],
     recorded: &[u8],
-) -> Ended
+) -> Said
     requires { too_long most_program file.now ≡ None }
     ensures answered { Answered (JudgesRead format mem file.now (record_of recorded.now)) (H.written host.old) (H.written host.new) result.status }
     ensures write { result.status ≡ 5 → Rose (H.write_faults host.old) (H.write_faults host.new) }
@@ -174,8 +175,8 @@ pub fn answer<H: Host>(
     recorded: &str,
     format: Format,
     mem: u64,
-) -> Ended
-    ensures ends { EndsAsked (H.file host.old) (Check file.now recorded.now format mem)
+) -> Said
+    ensures ends { EndsAsked (H.file host.old) (Check file.now recorded.now format mem) None
         (Rose (H.read_faults host.old) (H.read_faults host.new) × IsDue (H.file host.old) (Check file.now recorded.now format mem) (H.lost host.new))
         (H.written host.old) (H.written host.new) result.status }
     ensures write { result.status ≡ 5 → Rose (H.write_faults host.old) (H.write_faults host.new) }

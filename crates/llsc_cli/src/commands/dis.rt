@@ -7,13 +7,13 @@ ghost use Rattle.llsc_cli.specs.Disassembly.{disassembly, head_text, line_at, wo
 ghost use Rattle.llsc_cli.specs.Answer.{AnswersDis};
 ghost use Rattle.llsc_cli.specs.Reads.{CallEnds, Gives};
 
-use crate::ended::{Ended, out_of_memory};
-use crate::files::{LEAST_GRANULE, load};
-use crate::formats::Format;
+use crate::files::{CLASSES, LEAST_GRANULE, MOST_WRITES, MachineNumbers, load};
 use crate::host::{Failed, Host};
 use crate::pages::Page;
+use crate::said::{Said, out_of_memory};
 use a32_asm::disassemble;
 use llsc_base::{Image, Line};
+use llsc_words::Format;
 use number_text::write_word;
 use std::alloc::Global;
 
@@ -132,7 +132,7 @@ fn write_lines<H: Host>(
 }
 
 /// Shows an image, which has `mem` bytes.
-fn show<H: Host>(alloc: Global, host: &mut H, image: &Image, mem: u32) -> Ended
+fn show<H: Host>(alloc: Global, host: &mut H, image: &Image, mem: u32) -> Said
     requires { length image.now.bytes ≡ mem }
     ensures gives { Gives (record { status = 0; text = disassembly image.now }) (H.written host.old) (H.written host.new) result.status }
     ensures write { result.status ≡ 5 → Rose (H.write_faults host.old) (H.write_faults host.new) }
@@ -144,13 +144,13 @@ fn show<H: Host>(alloc: Global, host: &mut H, image: &Image, mem: u32) -> Ended
     };
     let mut page = page;
     match write_lines(host, &mut page, image, mem) {
-        Ok(()) => Ended { status: 0 },
-        Err(_) => Ended { status: 5 },
+        Ok(()) => Said { status: 0 },
+        Err(_) => Said { status: 5 },
     }
 }
 
 /// Disassembles the file of a name in so much memory.
-pub fn answer<H: Host>(alloc: Global, host: &mut H, file: &str, format: Format, mem: u64) -> Ended
+pub fn answer<H: Host>(alloc: Global, host: &mut H, file: &str, format: Format, mem: u64) -> Said
     ensures ends { CallEnds (AnswersDis format mem) (H.file host.old file.now)
         (Rose (H.read_faults host.old) (H.read_faults host.new) × (H.lost host.new ≡ file.now) × (size_refusal (solo_size mem) ≡ None))
         (H.written host.old) (H.written host.new) result.status }
@@ -158,7 +158,14 @@ pub fn answer<H: Host>(alloc: Global, host: &mut H, file: &str, format: Format, 
     ensures write_answered { result.status ≢ 5 → H.write_faults host.new ≡ H.write_faults host.old }
     ensures read_answered { result.status ≢ 3 → result.status ≢ 5 → H.read_faults host.new ≡ H.read_faults host.old }
 {
-    match load(alloc, host, 1, mem, LEAST_GRANULE, file, format) {
+    let numbers = MachineNumbers {
+        threads: 1,
+        mem,
+        granule: LEAST_GRANULE,
+        classes: CLASSES,
+        limit: MOST_WRITES,
+    };
+    match load(alloc, host, numbers, file, format) {
         Ok(loaded) => show(alloc, host, &loaded.image, loaded.size.mem()),
         Err(ended) => ended,
     }

@@ -1,5 +1,5 @@
 //! `solo`: a run of one thread.
-ghost use Rattle.std.specs.Prelude.{◌≡◌, ◌≢◌, ◌≤◌, ◌⊎◌, None, length};
+ghost use Rattle.std.specs.Prelude.{◌≡◌, ◌≢◌, ◌≤◌, ◌⊎◌, ◌∷◌, [], None, length};
 ghost use Rattle.llsc_base.specs.Limits.{most_budget};
 ghost use Rattle.guest_machine.specs.Alone.{IsSoloEnd};
 ghost use Rattle.guest_thread.specs.declared.ends.GuestEnd.{GuestEnd};
@@ -10,31 +10,25 @@ ghost use Rattle.llsc_cli.specs.Trace.{status_of};
 ghost use Rattle.llsc_cli.specs.Answer.{AnswersSolo};
 ghost use Rattle.llsc_cli.specs.Reads.{CallEnds};
 
-use crate::ended::{Ended, out_of_memory, status};
-use crate::files::{LEAST_GRANULE, load};
-use crate::formats::Format;
+use crate::files::{CLASSES, LEAST_GRANULE, MOST_WRITES, MachineNumbers, load};
 use crate::host::Host;
 use crate::report::write_report;
+use crate::said::{Said, out_of_memory, status};
 use guest_machine::solo;
 use llsc_base::{Image, MachineSize};
+use llsc_words::Format;
 use std::alloc::Global;
 
 /// Runs an image and writes the report.
-fn run<H: Host>(
-    alloc: Global,
-    host: &mut H,
-    size: &MachineSize,
-    budget: u64,
-    image: &Image,
-) -> Ended
+fn run<H: Host>(alloc: Global, host: &mut H, size: &MachineSize, budget: u64, image: &Image) -> Said
     requires one_thread { size.now.threads ≡ 1 }
     requires budget { budget ≤ most_budget }
     requires whole { length image.now.bytes ≡ size.now.mem }
     ensures ended { (result.status ≡ 0) ⊎ ((result.status ≡ 1) ⊎ ((result.status ≡ 5) ⊎ (result.status ≡ 6))) }
     ensures done { (result.status ≡ 0) ⊎ (result.status ≡ 1) → (end : GuestEnd) × (IsSoloEnd image.now size.now budget end
-        × ((result.status ≡ status_of end.stop) × Adds (H.written host.old) (H.written host.new) (report_of budget end))) }
+        × ((result.status ≡ status_of end.stop) × Adds (H.written host.old) (H.written host.new) (report_of budget (end ∷ [])))) }
     ensures cut { result.status ≡ 5 → Rose (H.write_faults host.old) (H.write_faults host.new) × (end : GuestEnd) × (IsSoloEnd image.now size.now budget end
-        × AddsFront (H.written host.old) (H.written host.new) (report_of budget end)) }
+        × AddsFront (H.written host.old) (H.written host.new) (report_of budget (end ∷ []))) }
     ensures memory { result.status ≡ 6 → H.written host.new ≡ H.written host.old }
     ensures write_answered { result.status ≢ 5 → H.write_faults host.new ≡ H.write_faults host.old }
     ensures reads { KeepsReads (H.file host.old) (H.file host.new) (H.read_faults host.old) (H.read_faults host.new) (H.lost host.old) (H.lost host.new) }
@@ -42,11 +36,10 @@ fn run<H: Host>(
     let Ok(end) = solo(alloc, image, size, budget) else {
         return out_of_memory();
     };
-    match write_report(host, budget, &end) {
-        Ok(()) => Ended {
-            status: status(end.stop),
-        },
-        Err(_) => Ended { status: 5 },
+    let status = status(end.stop);
+    match write_report(host, budget, &[end]) {
+        Ok(()) => Said { status },
+        Err(_) => Said { status: 5 },
     }
 }
 
@@ -58,7 +51,7 @@ pub fn answer<H: Host>(
     format: Format,
     mem: u64,
     budget: u64,
-) -> Ended
+) -> Said
     requires { budget ≤ most_budget }
     ensures ends { CallEnds (AnswersSolo format mem budget) (H.file host.old file.now)
         (Rose (H.read_faults host.old) (H.read_faults host.new) × (H.lost host.new ≡ file.now) × (size_refusal (solo_size mem) ≡ None))
@@ -67,7 +60,14 @@ pub fn answer<H: Host>(
     ensures write_answered { result.status ≢ 5 → H.write_faults host.new ≡ H.write_faults host.old }
     ensures read_answered { result.status ≢ 3 → result.status ≢ 5 → H.read_faults host.new ≡ H.read_faults host.old }
 {
-    match load(alloc, host, 1, mem, LEAST_GRANULE, file, format) {
+    let numbers = MachineNumbers {
+        threads: 1,
+        mem,
+        granule: LEAST_GRANULE,
+        classes: CLASSES,
+        limit: MOST_WRITES,
+    };
+    match load(alloc, host, numbers, file, format) {
         Ok(loaded) => run(alloc, host, &loaded.size, budget, &loaded.image),
         Err(ended) => ended,
     }

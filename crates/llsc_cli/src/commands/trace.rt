@@ -7,40 +7,20 @@ ghost use Rattle.run_record.specs.Limits.{IsRecord};
 ghost use Rattle.run_record.specs.Text.{record_text};
 ghost use Rattle.llsc_cli.specs.Host.{Adds, AddsFront, KeepsReads, Rose};
 ghost use Rattle.llsc_cli.specs.Refusals.{machine_of, refusal_text, size_refusal};
-ghost use Rattle.llsc_cli.specs.Trace.{have_left, status_of_all, AnswersTrace, Traces};
+ghost use Rattle.llsc_cli.specs.Trace.{status_of_all, AnswersTrace, Traces};
 ghost use Rattle.llsc_cli.specs.Reads.{Answered, CallEnds};
 
-use crate::ended::{Ended, out_of_memory, say, status};
-use crate::files::load;
-use crate::formats::Format;
+use crate::files::{CLASSES, MOST_WRITES, MachineNumbers, load};
 use crate::host::Host;
-use crate::words::TraceNumbers;
+use crate::said::{Said, out_of_memory, say, status_of_all};
 use guest_machine::{TraceFault, Traced, trace};
-use guest_thread::GuestEnd;
 use llsc_base::{Image, MachineSize};
+use llsc_words::{Format, TraceNumbers};
 use run_record::print_record;
 use std::alloc::Global;
 
-/// Whether each thread left by an exit call with code 0.
-fn have_left(ends: &[GuestEnd]) -> bool
-    ensures { result ≡ have_left ends.now }
-{
-    ends.iter().all(|end| status(end.stop) == 0)
-}
-
-/// 0 where each thread left by an exit call with code 0, else 1.
-fn status_of_all(ends: &[GuestEnd]) -> u8
-    ensures value { result ≡ status_of_all ends.now }
-    ensures bound { (result ≡ 0) ⊎ (result ≡ 1) }
-{
-    if have_left(ends) {
-        return 0;
-    }
-    1
-}
-
 /// Writes the record of a trace.
-fn print<H: Host>(alloc: Global, host: &mut H, traced: &Traced) -> Ended
+fn print<H: Host>(alloc: Global, host: &mut H, traced: &Traced) -> Said
     requires { IsRecord traced.now.run }
     ensures ended { (result.status ≡ status_of_all traced.now.ends.items) ⊎ ((result.status ≡ 5) ⊎ (result.status ≡ 6)) }
     ensures said { result.status ≡ status_of_all traced.now.ends.items → Adds (H.written host.old) (H.written host.new) (record_text traced.now.run) }
@@ -57,7 +37,7 @@ fn print<H: Host>(alloc: Global, host: &mut H, traced: &Traced) -> Ended
 }
 
 /// Answers for a trace that there isn't.
-fn refuse_trace<H: Host>(host: &mut H, fault: TraceFault) -> Ended
+fn refuse_trace<H: Host>(host: &mut H, fault: TraceFault) -> Said
     ensures ended { (result.status ≡ 4) ⊎ ((result.status ≡ 5) ⊎ (result.status ≡ 6)) }
     ensures memory_alone { fault ≡ TraceFault.Memory → result.status ≡ 6 }
     ensures said { result.status ≡ 4 → Adds (H.written host.old) (H.written host.new) (refusal_text (codes "TooLong")) }
@@ -80,7 +60,7 @@ fn run<H: Host>(
     image: &Image,
     seed: u64,
     budget: u64,
-) -> Ended
+) -> Said
     requires whole { length image.now.bytes ≡ size.now.mem }
     requires some { 1 ≤ budget }
     requires budget { budget ≤ most_budget }
@@ -102,7 +82,7 @@ pub fn answer<H: Host>(
     file: &str,
     format: Format,
     numbers: TraceNumbers,
-) -> Ended
+) -> Said
     requires some { 1 ≤ numbers.budget }
     requires budget { numbers.budget ≤ most_budget }
     ensures ends { CallEnds (AnswersTrace format numbers.threads numbers.mem numbers.granule numbers.seed numbers.budget) (H.file host.old file.now)
@@ -112,15 +92,14 @@ pub fn answer<H: Host>(
     ensures write_answered { result.status ≢ 5 → H.write_faults host.new ≡ H.write_faults host.old }
     ensures read_answered { result.status ≢ 3 → result.status ≢ 5 → H.read_faults host.new ≡ H.read_faults host.old }
 {
-    match load(
-        alloc,
-        host,
-        numbers.threads,
-        numbers.mem,
-        numbers.granule,
-        file,
-        format,
-    ) {
+    let machine = MachineNumbers {
+        threads: numbers.threads,
+        mem: numbers.mem,
+        granule: numbers.granule,
+        classes: CLASSES,
+        limit: MOST_WRITES,
+    };
+    match load(alloc, host, machine, file, format) {
         Ok(loaded) => run(
             alloc,
             host,

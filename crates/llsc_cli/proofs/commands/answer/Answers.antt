@@ -1,40 +1,26 @@
-use Rattle.std.proofs.Common.{refl}
-use Rattle.llsc_cli.specs.Request.{Solo, Assemble, Disassemble, Trace}
-use Rattle.llsc_cli.proofs.Asked.{ends_one}
+use Rattle.std.proofs.Common.{refl, ap, sym, ◌∙◌}
+use Rattle.llsc_words.specs.Request.{asked, Run}
+use Rattle.llsc_cli.specs.Run.{run_size, told}
+use Rattle.llsc_cli.proofs.Asked.{ends_one, ends_untold}
 use Rattle.llsc_cli.proofs.commands.answer.Goals as goal
 
-pub returns-in-Solo-clause-ends : goal.returns-in-Solo-clause-ends
-returns-in-Solo-clause-ends g c =
-    let call = c.in-Solo in
+pub returns-in-Run-clause-ends : goal.returns-in-Run-clause-ends
+returns-in-Run-clause-ends g c =
+    let call = c.in-Run in
     rw call.is
-    (ends_one (g.H.Host.file c.args.host.now) (Solo call.file.now call.format call.mem call.budget) call.file.now (g.H.Host.written c.args.host.now) (g.H.Host.written c.answer.new.host)
-    c.answer.result.status refl (λ file s text a. a) (λ failed. (failed.0, (failed.1, failed.2))) c.answer.ensures.ends)
+    (ends_one (g.H.Host.file c.args.host.now) (Run call.file.now call.format (run_size call.numbers) call.numbers.budget) call.file.now (told c.answer.result.story)
+    (g.H.Host.written c.args.host.now) (g.H.Host.written c.answer.new.host)
+    c.answer.result.status refl (λ file s text a. a) (λ failed. ((failed.0.0, (failed.0.1, failed.0.2)), ap told failed.1)) c.answer.ensures.ends)
 
-pub returns-in-Assemble-clause-ends : goal.returns-in-Assemble-clause-ends
-returns-in-Assemble-clause-ends g c =
-    let call = c.in-Assemble in
-    let answered = c.answer-in-Assemble in
-    rw call.is
-    (ends_one (g.H.Host.file c.args.host.now) (Assemble call.file.now call.format) call.file.now (g.H.Host.written c.args.host.now) (g.H.Host.written answered.new.host)
-    answered.result.status refl (λ file s text a. a) (λ failed. failed) answered.ensures.ends)
-
-pub returns-in-Disassemble-clause-ends : goal.returns-in-Disassemble-clause-ends
-returns-in-Disassemble-clause-ends g c =
-    let call = c.in-Disassemble in
-    let answered = c.answer-in-Disassemble in
-    rw call.is
-    (ends_one (g.H.Host.file c.args.host.now) (Disassemble call.file.now call.format call.mem) call.file.now (g.H.Host.written c.args.host.now) (g.H.Host.written answered.new.host)
-    answered.result.status refl (λ file s text a. a) (λ failed. (failed.0, (failed.1, failed.2))) answered.ensures.ends)
-
-pub returns-in-Trace-clause-ends : goal.returns-in-Trace-clause-ends
-returns-in-Trace-clause-ends g c =
-    let call = c.in-Trace in
-    let answered = c.answer-in-Trace in
-    let numbers = call.numbers in
-    rw call.is
-    (ends_one (g.H.Host.file c.args.host.now) (Trace call.file.now call.format numbers.threads numbers.mem numbers.granule numbers.seed numbers.budget) call.file.now
-    (g.H.Host.written c.args.host.now) (g.H.Host.written answered.new.host)
-    answered.result.status refl (λ file s text a. a) (λ failed. (failed.0, (failed.1, failed.2))) answered.ensures.ends)
-
-pub returns-in-Check-clause-ends : goal.returns-in-Check-clause-ends
-returns-in-Check-clause-ends g c = rw c.in-Check.is c.answer-in-Check.ensures.ends
+pub returns-in-Solo : goal.returns-in-Solo
+returns-in-Solo g c =
+    let said = c.answer_alone.ensures in
+    let same = c.from.ensures.status in
+    record {
+      ends = ends_untold (g.H.Host.file c.args.host.now) (asked c.args.request) c.from.result.story (g.H.Host.written c.args.host.now) (g.H.Host.written c.answer_alone.new.host)
+          c.from.result.status c.answer_alone.result.status same c.from.ensures.story said.ends;
+      memory = λ six. c.from.ensures.story;
+      write = λ five. said.write (sym same ∙ five);
+      write_answered = λ other. said.write_answered (λ five. other (same ∙ five));
+      read_answered = λ read cut. said.read_answered (λ three. read (same ∙ three)) (λ five. cut (same ∙ five));
+    }

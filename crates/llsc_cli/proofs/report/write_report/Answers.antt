@@ -1,25 +1,22 @@
-use Rattle.std.proofs.Common.{◌++◌, codes, ◌∙◌, ap, subst}
-use Rattle.llsc_cli.specs.Host.{Adds, AddsFront}
-use Rattle.llsc_cli.specs.Report.{head_line, last_line}
+use Rattle.std.proofs.Common.{◌∙◌, subst}
+use Rattle.std.specs.List.{flat_map}
+use Rattle.llsc_cli.specs.Host.{AddsFront}
+use Rattle.llsc_cli.specs.Report.{last_line, thread_text}
 use Rattle.llsc_cli.proofs.Fronts.{front_less, front_more, owed}
 use Rattle.llsc_cli.proofs.report.write_report.Goals as goal
 
-pub returns-in_err-write_below-clause-front : goal.returns-in_err-write_below-clause-front
-returns-in_err-write_below-clause-front g c =
-    let old = g.H.Host.written c.args.host.now in
-    let mid = g.H.Host.written c.write.new.self in
-    let new = g.H.Host.written c.write_below.new.host in
-    let last = c.bytes-3.ensures.text ∙ c.last_line-last.ensures in
-    let below = ap (λ t. t ++ (codes "\n" ++ c.bytes-3.result.now)) c.bytes-2.ensures.bytes ∙ ap (λ t. c.args.end.now.out ++ (codes "\n" ++ t)) last in
-    owed c.from_residual-in_err-write_below.result
-    (front_more old mid new (head_line c.args.budget c.args.end.now) (c.args.end.now.out ++ (codes "\n" ++ last_line c.args.end.now))
-    (subst (λ t. Adds old mid t) (c.bytes.ensures.text ∙ c.head_line-head.ensures) c.in_ok-write.ensures.whole)
-    (subst (λ t. AddsFront mid new t) below c.in_err-write_below.ensures.front))
+pub returns-in_err-write_threads-clause-front : goal.returns-in_err-write_threads-clause-front
+returns-in_err-write_threads-clause-front g c =
+    owed c.from_residual.result
+    (front_less (g.H.Host.written c.args.host.now) (g.H.Host.written c.write_threads.new.host) (flat_map (thread_text c.args.budget) c.args.ends.now) (last_line c.args.ends.now)
+    c.in_err-write_threads.ensures.front)
 
 pub returns-in_err-write-clause-front : goal.returns-in_err-write-clause-front
 returns-in_err-write-clause-front g c =
     let old = g.H.Host.written c.args.host.now in
+    let mid = g.H.Host.written c.write_threads.new.host in
     let new = g.H.Host.written c.write.new.self in
-    owed c.from_residual.result
-    (front_less old new (head_line c.args.budget c.args.end.now) (c.args.end.now.out ++ (codes "\n" ++ last_line c.args.end.now))
-    (subst (λ t. AddsFront old new t) (c.bytes.ensures.text ∙ c.head_line-head.ensures) c.in_err-write.ensures.front))
+    owed c.from_residual-in_err-write.result
+    (front_more old mid new (flat_map (thread_text c.args.budget) c.args.ends.now) (last_line c.args.ends.now)
+    c.in_ok-write_threads.ensures.whole
+    (subst (λ t. AddsFront mid new t) (c.bytes.ensures.text ∙ c.last_line-last.ensures) c.in_err-write.ensures.front))

@@ -13,7 +13,7 @@ fn assembles_texts(rt: HostRuntime) -> Result<(), Fail> {
     ];
     for (words, text, program) in cases {
         let file = text.as_bytes().to_vec(rt.alloc())?;
-        let (status, host) = called(rt.alloc(), words, file, &[], 200)?;
+        let (status, host) = called(&rt, words, file, &[], 200)?;
         assert_eq!(rt; status, 0, "for {words}");
         let bytes = bytes_of(rt.alloc(), program)?;
         assert_eq!(rt; host.written(), bytes.as_slice());
@@ -26,10 +26,10 @@ fn runs_what_it_assembles(rt: HostRuntime) -> Result<(), Fail> {
     // loads its data, and leaves with it as the code
     let text = "mov r1, #8192\nldr r0, [r1]\nmov r7, #1\nsvc #0\n.data\n.word 5\n.space 4\n";
     let file = text.as_bytes().to_vec(rt.alloc())?;
-    let (status, host) = called(rt.alloc(), "asm p", file, &[], 200)?;
+    let (status, host) = called(&rt, "asm p", file, &[], 200)?;
     assert_eq!(rt; status, 0);
     let file = host.written().to_vec(rt.alloc())?;
-    let (status, host) = called(rt.alloc(), "solo p", file, &[], 100)?;
+    let (status, host) = called(&rt, "solo p", file, &[], 100)?;
     assert_eq!(rt; status, 1);
     let report = "thread 0 stop exit 5 steps 4 out 0\n\nreads 1 writes 0 fails 0\n";
     assert_eq!(rt; host.written(), report.as_bytes());
@@ -50,14 +50,14 @@ fn refuses_texts(rt: HostRuntime) -> Result<(), Fail> {
     ];
     for (text, refusal) in cases {
         let file = text.to_vec(rt.alloc())?;
-        let (status, host) = called(rt.alloc(), "asm --flat p", file, &[], 100)?;
+        let (status, host) = called(&rt, "asm --flat p", file, &[], 100)?;
         assert_eq!(rt; status, 4, "for {refusal}");
         assert_eq!(rt; host.written(), refusal.as_bytes());
     }
 
     // a byte more than the most
     let long = vec![in rt.alloc(); b' '; 4_194_305]?;
-    let (status, host) = called(rt.alloc(), "asm p", long, &[], 100)?;
+    let (status, host) = called(&rt, "asm p", long, &[], 100)?;
     assert_eq!(rt; status, 4);
     assert_eq!(rt; host.written(), b"llsc: FileTooLong\n".as_slice());
     Ok(())
@@ -72,7 +72,7 @@ fn answers_failures_of_texts(rt: HostRuntime) -> Result<(), Fail> {
     ];
     for (words, text, written) in cases {
         let file = text.as_bytes().to_vec(rt.alloc())?;
-        let (status, host) = called(rt.alloc(), words, file, &[(1, 3)], 200)?;
+        let (status, host) = called(&rt, words, file, &[(1, 3)], 200)?;
         assert_eq!(rt; status, 5, "for {text}");
         assert_eq!(rt; host.written(), written);
     }

@@ -10,19 +10,20 @@ const FIRST: &str = "0 loadex 4 00002000 0000000000000000\n";
 const SECOND: &str = "0 storeex 4 00002000 0000000000000007\n";
 
 /// A call over a host whose file `p` holds a program and `r` a record's text.
-fn checked(
-    alloc: Global,
+fn checked<R: Threads + Wait + Sync + AllocGlobal>(
+    rt: &R,
     words: &str,
     program: Vec<u8>,
     recorded: &str,
     failing: &[Failing],
 ) -> Result<(u8, MemoryHost), AllocError> {
+    let alloc = rt.alloc();
     let recorded = recorded.as_bytes().to_vec(alloc)?;
     let files = vec![in alloc;
         (String::from_str(alloc, "p")?, program),
         (String::from_str(alloc, "r")?, recorded),
     ]?;
-    over(alloc, words, files, failing, 100)
+    over(rt, words, files, failing, 100)
 }
 
 #[test]
@@ -49,7 +50,7 @@ fn judges_records(rt: HostRuntime) -> Result<(), Fail> {
         let recorded = format!(in rt.alloc(); "{}{}", header.as_str(), lines.as_str())?;
         let program = bytes_of(rt.alloc(), EXCLUSIVES)?;
         let recorded = recorded.as_str();
-        let (ended, host) = checked(rt.alloc(), "check --flat p r", program, recorded, &[])?;
+        let (ended, host) = checked(&rt, "check --flat p r", program, recorded, &[])?;
         assert_eq!(rt; ended, status, "for {text}");
         assert_eq!(rt; host.written(), text.as_bytes());
     }
@@ -80,7 +81,7 @@ fn judges_other_programs(rt: HostRuntime) -> Result<(), Fail> {
     ];
     for (program, recorded, status, text) in cases {
         let program = bytes_of(rt.alloc(), program)?;
-        let (ended, host) = checked(rt.alloc(), "check --flat p r", program, recorded, &[])?;
+        let (ended, host) = checked(&rt, "check --flat p r", program, recorded, &[])?;
         assert_eq!(rt; ended, status, "for {text}");
         assert_eq!(rt; host.written(), text.as_bytes());
     }
@@ -129,7 +130,7 @@ fn refuses_records(rt: HostRuntime) -> Result<(), Fail> {
             Some(rest) => format!(in rt.alloc(); "{}{rest}", HEADER)?,
             None => String::from_str(rt.alloc(), recorded)?,
         };
-        let (status, host) = checked(rt.alloc(), words, program, recorded.as_str(), &[])?;
+        let (status, host) = checked(&rt, words, program, recorded.as_str(), &[])?;
         assert_eq!(rt; status, 4, "for {words}");
         assert_eq!(rt; host.written(), text.as_bytes(), "for {words}");
     }
@@ -147,7 +148,7 @@ fn reads_the_program_first(rt: HostRuntime) -> Result<(), Fail> {
     ];
     for (words, failing, status, text) in cases {
         let program = bytes_of(rt.alloc(), LEAVE)?;
-        let (ended, host) = checked(rt.alloc(), words, program, "none", &[failing])?;
+        let (ended, host) = checked(&rt, words, program, "none", &[failing])?;
         assert_eq!(rt; ended, status, "for {words}");
         assert_eq!(rt; host.written(), text.as_bytes());
     }
@@ -155,7 +156,7 @@ fn reads_the_program_first(rt: HostRuntime) -> Result<(), Fail> {
     // a program of a byte more than the most is refused before the record is read, and so is a record
     for (words, most) in [("check p q", 33_554_433), ("check r p", 67_108_865)] {
         let long = vec![in rt.alloc(); b' '; most]?;
-        let (status, host) = checked(rt.alloc(), words, long, "none", &[])?;
+        let (status, host) = checked(&rt, words, long, "none", &[])?;
         assert_eq!(rt; status, 4, "for {words}");
         assert_eq!(rt; host.written(), b"llsc: FileTooLong\n".as_slice());
     }

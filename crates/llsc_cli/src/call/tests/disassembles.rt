@@ -8,7 +8,7 @@ fn shows_each_word(rt: HostRuntime) -> Result<(), Fail> {
                 00001008 ef000000 svc #0\n";
     for (words, program) in [("dis --flat --mem 65536 p", LEAVE), ("dis p", LEAVE_FILE)] {
         let file = bytes_of(rt.alloc(), program)?;
-        let (status, host) = called(rt.alloc(), words, file, &[], 200)?;
+        let (status, host) = called(&rt, words, file, &[], 200)?;
         assert_eq!(rt; status, 0, "for {words}");
         assert_eq!(rt; host.written(), text.as_bytes(), "for {words}");
     }
@@ -24,7 +24,7 @@ fn shows_a_page_at_a_time(rt: HostRuntime) -> Result<(), Fail> {
     }
     for (failing, status, written) in [((9, 0), 0, 72_500), ((2, 7), 5, 65_518)] {
         let file = bytes_of(rt.alloc(), program.as_slice())?;
-        let (ended, host) = called(rt.alloc(), "dis --flat p", file, &[failing], 100_000)?;
+        let (ended, host) = called(&rt, "dis --flat p", file, &[failing], 100_000)?;
         assert_eq!(rt; ended, status);
         assert_eq!(rt; host.written().len(), written);
     }

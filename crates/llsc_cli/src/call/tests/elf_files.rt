@@ -19,7 +19,7 @@ fn runs_elf_files(rt: HostRuntime) -> Result<(), Fail> {
     let cases: [(&[u32], u8, &str); 2] = [(LEAVE_FILE, 0, LEFT), (&LINKED, 1, sum)];
     for (program, status, text) in cases {
         let file = bytes_of(rt.alloc(), program)?;
-        let (ended, host) = called(rt.alloc(), "solo p", file, &[], 100)?;
+        let (ended, host) = called(&rt, "solo p", file, &[], 100)?;
         assert_eq!(rt; ended, status, "for {text}");
         assert_eq!(rt; host.written(), text.as_bytes());
     }
@@ -80,7 +80,7 @@ const FAULTS: &[(Change, &str)] = &[
 fn refuses_elf_files(rt: HostRuntime) -> Result<(), Fail> {
     for (change, refusal) in FAULTS {
         let file = changed(rt.alloc(), *change)?;
-        let (status, host) = called(rt.alloc(), "solo p", file, &[], 100)?;
+        let (status, host) = called(&rt, "solo p", file, &[], 100)?;
         assert_eq!(rt; host.written(), refusal.as_bytes());
         assert_eq!(rt; status, 4, "for {refusal}");
     }
@@ -91,7 +91,7 @@ fn refuses_elf_files(rt: HostRuntime) -> Result<(), Fail> {
 fn enters_at_the_last_word_of_the_code(rt: HostRuntime) -> Result<(), Fail> {
     let text = "thread 0 stop outside 000100d0 steps 1 out 0\n\nreads 0 writes 0 fails 0\n";
     let file = changed(rt.alloc(), (&[(6, 0x100cc)], 212))?;
-    let (status, host) = called(rt.alloc(), "solo p", file, &[], 100)?;
+    let (status, host) = called(&rt, "solo p", file, &[], 100)?;
     assert_eq!(rt; host.written(), text.as_bytes());
     assert_eq!(rt; status, 1);
     Ok(())
@@ -123,7 +123,7 @@ fn reads_64_program_headers(rt: HostRuntime) -> Result<(), Fail> {
     ];
     for (count, status, text) in cases {
         let file = with_headers(rt.alloc(), count)?;
-        let (ended, host) = called(rt.alloc(), "solo p", file, &[], 100)?;
+        let (ended, host) = called(&rt, "solo p", file, &[], 100)?;
         assert_eq!(rt; host.written(), text.as_bytes(), "for {count}");
         assert_eq!(rt; ended, status, "for {count}");
     }

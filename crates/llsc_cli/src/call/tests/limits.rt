@@ -9,14 +9,14 @@ fn traces_as_many_accesses_as_a_record_has(rt: HostRuntime) -> Result<(), Fail> 
     let head = "llsc-run 1 threads 1 budget 2000000 accesses 1000000\n";
     let file = bytes_of(rt.alloc(), LOADS)?;
     let words = "trace --flat --threads 1 --budget 2000000 p";
-    let (status, host) = called(rt.alloc(), words, file, &[], 40_000_000)?;
+    let (status, host) = called(&rt, words, file, &[], 40_000_000)?;
     assert_eq!(rt; status, 1);
     assert!(rt; host.written().starts_with(head.as_bytes()));
     assert_eq!(rt; host.written().len(), head.len() + 1_000_000 * 35);
 
     let file = bytes_of(rt.alloc(), LOADS)?;
     let words = "trace --flat --threads 1 --budget 2000002 p";
-    let (status, host) = called(rt.alloc(), words, file, &[], 100)?;
+    let (status, host) = called(&rt, words, file, &[], 100)?;
     assert_eq!(rt; status, 4);
     assert_eq!(rt; host.written(), b"llsc: TooLong\n".as_slice());
     Ok(())
@@ -52,7 +52,7 @@ fn places_data_on_the_page_behind_the_code(rt: HostRuntime) -> Result<(), Fail> 
         let first = "movw r0, #lo(there)\n";
         let last = ".data\n.byte 7\n.space 3\nthere: .space 4\n";
         let file = repeated(rt.alloc(), first, "nop\n", count, last)?;
-        let (status, host) = called(rt.alloc(), "asm p", file, &[], 10_000)?;
+        let (status, host) = called(&rt, "asm p", file, &[], 10_000)?;
         assert_eq!(rt; status, 0);
         assert_eq!(rt; word_at(host.written(), 92), Some(start));
         // the label stands behind the byte and the space
@@ -72,14 +72,14 @@ fn assembles_as_much_as_may_be(rt: HostRuntime) -> Result<(), Fail> {
     ];
     for (line, count, last, length) in cases {
         let file = repeated(rt.alloc(), "", line, count, last)?;
-        let (status, host) = called(rt.alloc(), "asm p", file, &[], 300_000)?;
+        let (status, host) = called(&rt, "asm p", file, &[], 300_000)?;
         assert_eq!(rt; status, 0, "for {count}");
         assert_eq!(rt; host.written().len(), length, "for {count}");
     }
 
     // a word more
     let file = repeated(rt.alloc(), "", "nop\n", 65_537, "")?;
-    let (status, host) = called(rt.alloc(), "asm p", file, &[], 100)?;
+    let (status, host) = called(&rt, "asm p", file, &[], 100)?;
     assert_eq!(rt; status, 4);
     assert_eq!(rt; host.written(), b"llsc: line 65537 TooLong\n".as_slice());
     Ok(())
@@ -95,7 +95,7 @@ fn reads_files_of_the_greatest_length(rt: HostRuntime) -> Result<(), Fail> {
     ];
     for (words, length, text) in cases {
         let file = vec![in rt.alloc(); 0; length]?;
-        let (status, host) = called(rt.alloc(), words, file, &[], 100)?;
+        let (status, host) = called(&rt, words, file, &[], 100)?;
         assert_eq!(rt; status, 4, "for {words}");
         assert_eq!(rt; host.written(), text.as_bytes(), "for {words}");
     }

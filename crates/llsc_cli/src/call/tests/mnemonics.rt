@@ -135,11 +135,11 @@ fn reads_and_shows_each_mnemonic(rt: HostRuntime) -> Result<(), Fail> {
     }
 
     let file = text.as_bytes().to_vec(rt.alloc())?;
-    let (status, host) = called(rt.alloc(), "asm --flat p", file, &[], 1000)?;
+    let (status, host) = called(&rt, "asm --flat p", file, &[], 1000)?;
     assert_eq!(rt; status, 0);
     assert_eq!(rt; host.written(), program.as_slice());
 
-    let (status, host) = called(rt.alloc(), "dis --flat p", program, &[], 10_000)?;
+    let (status, host) = called(&rt, "dis --flat p", program, &[], 10_000)?;
     assert_eq!(rt; status, 0);
     assert_eq!(rt; host.written(), shown.as_bytes());
     Ok(())

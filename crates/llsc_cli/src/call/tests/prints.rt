@@ -55,7 +55,7 @@ fn prints_what_is_written(rt: HostRuntime) -> Result<(), Fail> {
     ];
     for (program, status, stop, reads) in cases {
         let file = bytes_of(rt.alloc(), program)?;
-        let (ended, host) = called(rt.alloc(), "solo --flat p", file, &[], 100)?;
+        let (ended, host) = called(&rt, "solo --flat p", file, &[], 100)?;
         assert_eq!(rt; ended, status, "for {stop}");
         let counts = format!(in rt.alloc(); "reads {reads} writes 0 fails 0")?;
         let text = format!(in rt.alloc(); "thread 0 stop {stop}\n{}\n", counts.as_str())?;
@@ -67,7 +67,7 @@ fn prints_what_is_written(rt: HostRuntime) -> Result<(), Fail> {
 #[test]
 fn has_no_room_for_more(rt: HostRuntime) -> Result<(), Fail> {
     let file = bytes_of(rt.alloc(), FILL)?;
-    let (status, host) = called(rt.alloc(), "solo --flat p", file, &[], 66_000)?;
+    let (status, host) = called(&rt, "solo --flat p", file, &[], 66_000)?;
     let mut text = b"thread 0 stop exit 228 steps 25 out 65536\n".to_vec(rt.alloc())?;
     text.extend_from_slice(&[0; 65_536])?;
     text.extend_from_slice(b"\nreads 65536 writes 0 fails 0\n")?;
@@ -84,7 +84,7 @@ fn cuts_the_output_off(rt: HostRuntime) -> Result<(), Fail> {
     ];
     for (failing, text) in cases {
         let file = bytes_of(rt.alloc(), HELLO)?;
-        let (status, host) = called(rt.alloc(), "solo --flat p", file, &[failing], 100)?;
+        let (status, host) = called(&rt, "solo --flat p", file, &[failing], 100)?;
         assert_eq!(rt; status, 5, "for {text}");
         assert_eq!(rt; host.written(), text.as_bytes());
     }

@@ -18,7 +18,7 @@ fn runs_programs(rt: HostRuntime) -> Result<(), Fail> {
     ];
     for (program, status, stop, counts) in cases {
         let file = bytes_of(rt.alloc(), program)?;
-        let (ended, host) = called(rt.alloc(), "solo --flat p", file, &[], 100)?;
+        let (ended, host) = called(&rt, "solo --flat p", file, &[], 100)?;
         assert_eq!(rt; ended, status, "for {stop}");
         let text = format!(in rt.alloc(); "thread 0 stop {stop} out 0\n\n{counts}\n")?;
         assert_eq!(rt; host.written(), text.as_bytes());
@@ -41,7 +41,7 @@ fn names_each_stop(rt: HostRuntime) -> Result<(), Fail> {
     ];
     for (program, stop) in cases {
         let file = bytes_of(rt.alloc(), program)?;
-        let (status, host) = called(rt.alloc(), "solo --flat p", file, &[], 100)?;
+        let (status, host) = called(&rt, "solo --flat p", file, &[], 100)?;
         assert_eq!(rt; status, 1, "for {stop}");
         let counts = "reads 0 writes 0 fails 0";
         let text = format!(in rt.alloc(); "thread 0 stop {stop} out 0\n\n{counts}\n")?;
@@ -59,14 +59,14 @@ fn refuses_flat_files(rt: HostRuntime) -> Result<(), Fail> {
     ];
     for (file, refusal) in cases {
         let file = file.to_vec(rt.alloc())?;
-        let (status, host) = called(rt.alloc(), "solo --flat p", file, &[], 100)?;
+        let (status, host) = called(&rt, "solo --flat p", file, &[], 100)?;
         assert_eq!(rt; status, 4, "for {refusal}");
         assert_eq!(rt; host.written(), refusal.as_bytes());
     }
 
     // a word more than the room below the stack has
     let file = vec![in rt.alloc(); 0; 57_348]?;
-    let (status, host) = called(rt.alloc(), "solo --flat --mem 65536 p", file, &[], 100)?;
+    let (status, host) = called(&rt, "solo --flat --mem 65536 p", file, &[], 100)?;
     assert_eq!(rt; status, 4);
     assert_eq!(rt; host.written(), b"llsc: TooLong\n".as_slice());
     Ok(())

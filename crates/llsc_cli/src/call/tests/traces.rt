@@ -56,7 +56,7 @@ fn records_runs(rt: HostRuntime) -> Result<(), Fail> {
     ];
     for (words, program, status, text) in cases {
         let file = bytes_of(rt.alloc(), program)?;
-        let (ended, host) = called(rt.alloc(), words, file, &[], 200)?;
+        let (ended, host) = called(&rt, words, file, &[], 200)?;
         assert_eq!(rt; ended, status, "for {words}");
         assert_eq!(rt; host.written(), text.as_bytes(), "for {words}");
     }
@@ -88,7 +88,7 @@ fn refuses_traces(rt: HostRuntime) -> Result<(), Fail> {
     ];
     for (words, status, text) in cases {
         let file = bytes_of(rt.alloc(), LEAVE)?;
-        let (ended, host) = called(rt.alloc(), words, file, &[], 200)?;
+        let (ended, host) = called(&rt, words, file, &[], 200)?;
         assert_eq!(rt; ended, status, "for {words}");
         assert_eq!(rt; host.written(), text.as_bytes(), "for {words}");
     }

@@ -229,7 +229,7 @@ fn answers_whole_calls(rt: HostRuntime) -> Result<(), Fail> {
     for cases in [ACCESSES, CALLS, TEXTS, TURNS] {
         for (words, content, status, text) in cases {
             let file = bytes_in(rt.alloc(), *content)?;
-            let (ended, host) = called(rt.alloc(), words, file, &[], 1000)?;
+            let (ended, host) = called(&rt, words, file, &[], 1000)?;
             assert_eq!(rt; host.written(), text.as_bytes(), "for {words}");
             assert_eq!(rt; ended, *status, "for {text}");
         }

@@ -4,13 +4,21 @@ use super::*;
 #[test]
 fn reads_options(rt: HostRuntime) -> Result<(), Fail> {
     let over = "thread 0 stop budget 2 steps 2 out 0\n\nreads 0 writes 0 fails 0\n";
-    let cases: [(&str, u8, &str); 10] = [
+    let cases: [(&str, u8, &str); 16] = [
         ("solo --flat --budget 2 p", 1, over),
         ("solo --budget 3 --flat p", 0, LEFT),
         ("solo --mem 65536 --budget 1000000000000 --flat p", 0, LEFT),
         ("solo --flat --mem 16777216 p", 0, LEFT),
         ("solo --flat --mem 65537 p", 4, "llsc: Mem\n"),
         ("dis --flat --mem 18446744073709551615 p", 4, "llsc: Mem\n"),
+        // options behind the file, joined to their values, and before the end of options
+        ("solo p --flat", 0, LEFT),
+        ("solo p --flat --budget=2", 1, over),
+        ("solo --budget=3 p --flat", 0, LEFT),
+        ("solo --flat -- p", 0, LEFT),
+        // names that begin with `-`
+        ("solo --flat -", 3, "llsc: read failed\n"),
+        ("solo --flat -- -p", 3, "llsc: read failed\n"),
         // the size is refused before the file is read
         ("solo --flat --mem 1 q", 4, "llsc: Mem\n"),
         ("solo --flat --mem 65536 q", 3, "llsc: read failed\n"),
@@ -19,7 +27,7 @@ fn reads_options(rt: HostRuntime) -> Result<(), Fail> {
     ];
     for (words, status, text) in cases {
         let file = bytes_of(rt.alloc(), LEAVE)?;
-        let (ended, host) = called(rt.alloc(), words, file, &[], 100)?;
+        let (ended, host) = called(&rt, words, file, &[], 100)?;
         assert_eq!(rt; ended, status, "for {words}");
         assert_eq!(rt; host.written(), text.as_bytes(), "for {words}");
     }
@@ -30,8 +38,10 @@ fn reads_options(rt: HostRuntime) -> Result<(), Fail> {
 const REFUSED: &[&str] = &[
     // no command, one that there isn't, and no file
     "",
-    "run --flat p",
+    "walk --flat p",
     "solo",
+    "run",
+    "run --flat",
     "solo --flat",
     "solo --budget p",
     // numbers out of range and out of form
@@ -41,13 +51,26 @@ const REFUSED: &[&str] = &[
     "solo --budget 03 p",
     "solo --budget +3 p",
     "solo --budget  p",
-    // options that are unknown, given twice, joined to their value, or behind the file
+    "solo --budget= p",
+    "solo --budget -3 p",
+    // options that are unknown, shortened, given twice, or with no value or one too many
     "solo --seed 3 p",
+    "solo --bud 3 p",
+    "solo -p",
     "solo --flat --flat p",
+    "solo --flat p --flat",
     "solo --mem 65536 --mem 65536 p",
-    "solo --budget=3 p",
-    "solo p --flat",
+    "solo p --mem",
+    "solo --flat=true p",
+    "solo --flat -- p --mem 65536",
     "solo p p",
+    // calls for help
+    "help",
+    "--help",
+    "solo --help",
+    "solo -h p",
+    "solo --version p",
+    "solo help p",
     // options that other commands have
     "asm --mem 65536 p",
     "asm --budget 1 p",
@@ -69,7 +92,6 @@ const REFUSED: &[&str] = &[
     "trace --budget 0 p",
     "trace --budget 1000000000001 p",
     "check p",
-    "check p -",
     "check p r p",
 ];
 
@@ -77,7 +99,7 @@ const REFUSED: &[&str] = &[
 fn refuses_words(rt: HostRuntime) -> Result<(), Fail> {
     for words in REFUSED {
         let file = bytes_of(rt.alloc(), LEAVE)?;
-        let (status, host) = called(rt.alloc(), words, file, &[], 100)?;
+        let (status, host) = called(&rt, words, file, &[], 100)?;
         assert_eq!(rt; status, 2, "for {words}");
         assert_eq!(rt; host.written(), b"llsc: words\n".as_slice());
     }
@@ -95,7 +117,7 @@ fn answers_failures(rt: HostRuntime) -> Result<(), Fail> {
     ];
     for (failing, space, status, text) in cases {
         let file = bytes_of(rt.alloc(), LEAVE)?;
-        let (ended, host) = called(rt.alloc(), "solo --flat p", file, &[failing], space)?;
+        let (ended, host) = called(&rt, "solo --flat p", file, &[failing], space)?;
         assert_eq!(rt; ended, status, "for {text}");
         assert_eq!(rt; host.written(), text.as_bytes());
     }

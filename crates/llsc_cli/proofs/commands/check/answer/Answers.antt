@@ -1,4 +1,4 @@
-use Rattle.std.proofs.Common.{◌≡◌, ◌∷◌, [], None, inl, inr}
+use Rattle.std.proofs.Common.{◌≡◌, ◌∷◌, [], None, inl, inr, refl}
 use Rattle.llsc_cli.specs.Host.{AreBytes}
 use Rattle.llsc_cli.specs.Refusals.{most_program, too_long}
 use Rattle.llsc_cli.specs.Check.{most_record}
@@ -10,8 +10,8 @@ pub returns-in-Err-clause-ends : goal.returns-in-Err-clause-ends
 returns-in-Err-clause-ends g c =
     let held = g.H.Host.file c.args.host.now c.args.recorded.now in
     ends_for (g.H.Host.written c.args.host.now) (g.H.Host.written c.read.new.host) c.in-Err.ended.status
-    (λ file s text may refused. (file ∷ held_bytes held ∷ [], ((may, (are_held held, tt)), check_program_long c.args.format c.args.mem file (held_bytes held) s text refused)))
-    (λ failed. (failed.0, inl failed.1)) c.in-Err.ensures.ends
+    (λ file s text may refused. (file ∷ held_bytes held ∷ [], ((may, (are_held held, tt)), (refl, check_program_long c.args.format c.args.mem file (held_bytes held) s text refused))))
+    (λ failed. ((failed.0, inl failed.1), refl)) c.in-Err.ensures.ends
 
 pub returns-in-Ok-read-clause-ends : goal.returns-in-Ok-read-clause-ends
 returns-in-Ok-read-clause-ends g c =
@@ -24,7 +24,7 @@ returns-in-Ok-read-clause-ends g c =
     let few : too_long most_record recorded ≡ None = rw c.as_slice-in-Ok-read.ensures.value had.1 in
     let answered = rw (c.in-Ok-read.ensures.writes.written, c.in-Ok.ensures.writes.written) at c.respond.ensures.answered in
     answered_for (g.H.Host.written c.args.host.now) (g.H.Host.written c.respond.new.host) c.respond.result.status
-    (file ∷ recorded ∷ []) (first, (second, tt)) (check_judged c.args.format c.args.mem file recorded short few) answered
+    (file ∷ recorded ∷ []) (first, (second, tt)) (λ s text judged. (refl, check_judged c.args.format c.args.mem file recorded short few s text judged)) answered
 
 pub returns-clause-ends : goal.returns-clause-ends
 returns-clause-ends g c =
@@ -33,5 +33,5 @@ returns-clause-ends g c =
     let short : too_long most_program file ≡ None = c.in-Ok.ensures.had.1 in
     let ends = rw (c.in-Ok.ensures.reads.files, c.in-Ok.ensures.writes.written, c.in-Ok.ensures.reads.read_faults) at c.in-Err-read.ensures.ends in
     ends_for (g.H.Host.written c.args.host.now) (g.H.Host.written c.read-2.new.host) c.in-Err-read.ended.status
-    (λ recorded s text may refused. (file ∷ recorded ∷ [], ((first, (may, tt)), check_record_long c.args.format c.args.mem file recorded short s text refused)))
-    (λ failed. (failed.0, inr (failed.1, (file, (first, short))))) ends
+    (λ recorded s text may refused. (file ∷ recorded ∷ [], ((first, (may, tt)), (refl, check_record_long c.args.format c.args.mem file recorded short s text refused))))
+    (λ failed. ((failed.0, inr (failed.1, (file, (first, short)))), refl)) ends

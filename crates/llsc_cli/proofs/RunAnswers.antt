@@ -1,0 +1,91 @@
+-- What a run is answered with.
+use Rattle.std.proofs.Common.{◌≡◌, ◌⊎◌, inl, inr, ℕ, ◌*◌, ◌<◌, ◌≤◌, ◌^◌, Bool, true, false, All, List, Option, Some, None, length, arith, refl, sym, subst}
+use Rattle.std.specs.List.{sum_by}
+use Rattle.std.proofs.lemmas.List.Elements.{All-weaker}
+use Rattle.std.proofs.lemmas.List.Sums.{sum_by-le}
+use Rattle.llsc_base.specs.Images.{Program}
+use Rattle.llsc_base.specs.Sizes.{Numbers}
+use Rattle.a32_instr.specs.declared.outside.Stop.TheVariants.{TagLimit}
+use Rattle.history.specs.Legal.{IsComplete, IsLegal}
+use Rattle.history.specs.declared.entry.Entry.{Entry}
+use Rattle.guest_thread.specs.Counting.{accesses_counted, counts_in}
+use Rattle.guest_thread.specs.Outcome.{AreEndsOn, IsOutcome}
+use Rattle.guest_thread.specs.declared.ends.GuestEnd.{GuestEnd}
+use Rattle.llsc_words.specs.declared.formats.Format.{Format}
+use Rattle.llsc_cli.specs.Programs.{image_of, program_refusal}
+use Rattle.llsc_cli.specs.Refusals.{Refuses}
+use Rattle.llsc_cli.specs.Report.{HasSums, report_of}
+use Rattle.llsc_cli.specs.Run.{AnswersRun, AreUnlimited, IsReportOf, ReportsRun, UnlessRun}
+use Rattle.llsc_cli.specs.Trace.{status_of_all}
+
+-- ---- the ends
+
+-- a memory that refuses no store stops no thread
+pub unlimited : (spends : Bool) (ends : List GuestEnd) → spends ≡ false → All (λ (end : GuestEnd). (addr : ℕ) → end.stop ≡ TagLimit addr → spends ≡ true) ends → AreUnlimited ends
+unlimited spends ends none all =
+    All-weaker (λ (end : GuestEnd). (addr : ℕ) → end.stop ≡ TagLimit addr → spends ≡ true) (λ (end : GuestEnd). (addr : ℕ) → end.stop ≡ TagLimit addr → ⊥)
+    (λ end one addr is. cc (none, one addr is)) ends all
+
+-- the counts of 16 threads are small
+few_of : (end : GuestEnd) → accesses_counted (counts_in end) < 2 ^ 45 → (end.reads ≤ 2 ^ 45) × (end.writes ≤ 2 ^ 45) × (end.fails ≤ 2 ^ 45)
+few_of end few = (omega (arith, few), omega (arith, few), omega (arith, few))
+
+small : (n total : ℕ) → total ≤ n * 2 ^ 45 → n ≤ 16 → total < 2 ^ 64
+small n total most few = omega (arith, most, few)
+
+pub sums : (ends : List GuestEnd) → All (λ (end : GuestEnd). accesses_counted (counts_in end) < 2 ^ 45) ends → length ends ≤ 16 → HasSums ends
+sums ends all few = record {
+  reads = small (length ends) (sum_by (λ (end : GuestEnd). end.reads) ends) (sum_by-le (λ (end : GuestEnd). end.reads) (2 ^ 45) ends (All-weaker (λ (end : GuestEnd). accesses_counted (counts_in end) < 2 ^ 45) (λ (end : GuestEnd). end.reads ≤ 2 ^ 45) (λ end one. (few_of end one).0) ends all)) few;
+  writes = small (length ends) (sum_by (λ (end : GuestEnd). end.writes) ends) (sum_by-le (λ (end : GuestEnd). end.writes) (2 ^ 45) ends (All-weaker (λ (end : GuestEnd). accesses_counted (counts_in end) < 2 ^ 45) (λ (end : GuestEnd). end.writes ≤ 2 ^ 45) (λ end one. (few_of end one).1) ends all)) few;
+  fails = small (length ends) (sum_by (λ (end : GuestEnd). end.fails) ends) (sum_by-le (λ (end : GuestEnd). end.fails) (2 ^ 45) ends (All-weaker (λ (end : GuestEnd). accesses_counted (counts_in end) < 2 ^ 45) (λ (end : GuestEnd). end.fails ≤ 2 ^ 45) (λ end one. (few_of end one).2) ends all)) few;
+}
+
+-- ---- the report
+
+pub reported : (program : Program) (size : Numbers) (budget : ℕ) (bytes : List ℕ) (history seen : List Entry) (ends : List GuestEnd)
+    → history ≡ seen → bytes ≡ program.bytes → IsLegal size bytes seen → IsComplete seen → AreEndsOn program size budget seen ends → AreUnlimited ends
+    → IsReportOf history program size budget (status_of_all ends) (report_of budget ends)
+reported program size budget bytes history seen ends same begins legal complete are free = (
+  ends,
+  (
+    subst (λ h. IsOutcome program size budget h ends) (sym same)
+        (record { legal = subst (λ b. IsLegal size b seen) begins legal; complete = complete; ends = are }),
+    (free, (refl, refl)),
+  ),
+)
+
+-- ---- the answer
+
+run_refused_by : (against : Option (List ℕ)) (story : Option (List Entry)) (answers : ℕ → List ℕ → Type 0) (name : List ℕ) (status : ℕ) (text : List ℕ)
+    → against ≡ Some name → UnlessRun (Some name) story answers status text → UnlessRun against story answers status text
+run_refused_by against story answers name status text is stands = subst (λ a. UnlessRun a story answers status text) (sym is) stands
+
+-- a refusal
+pub run_refused : (format : Format) (size : Numbers) (budget : ℕ) (story : Option (List Entry)) → story ≡ None → (file : List ℕ) (status : ℕ) (text : List ℕ)
+    → Refuses (program_refusal format size) file status text → AnswersRun format size budget file story status text
+run_refused format size budget story none file status text refused =
+    run_refused_by (program_refusal format size file) story (ReportsRun story (image_of format file size) size budget) refused.0 status text refused.1.0 (none, refused.1.1)
+
+-- a run of an image
+pub run_ran : (format : Format) (size : Numbers) (budget : ℕ) (story : Option (List Entry)) (file : List ℕ) (made : Numbers) (image : Program)
+    → program_refusal format size file ≡ None → made ≡ size → image ≡ image_of format file size
+    → (status : ℕ) (text : List ℕ) → ReportsRun story image made budget status text → AnswersRun format size budget file story status text
+run_ran format size budget story file made image clean same whole status text reports =
+    subst (λ a. UnlessRun a story (ReportsRun story (image_of format file size) size budget) status text) (sym clean)
+    (subst (λ i. ReportsRun story i size budget status text) whole (subst (λ s. ReportsRun story image s budget status text) same reports))
+
+-- ---- the history of an answer
+
+outcome_by : (against : Option (List ℕ)) (story : Option (List Entry)) (program : Program) (size : Numbers) (budget status : ℕ) (text : List ℕ)
+    → UnlessRun against story (ReportsRun story program size budget) status text → (status ≡ 0) ⊎ (status ≡ 1)
+    → (history : List Entry) × (ends : List GuestEnd) × ((story ≡ Some history) × (IsOutcome program size budget history ends × (text ≡ report_of budget ends)))
+outcome_by (Some name) story program size budget status text stands (inl is) = cc (stands.1.0, is)
+outcome_by (Some name) story program size budget status text stands (inr is) = cc (stands.1.0, is)
+outcome_by None None program size budget status text reports ran = absurd reports
+outcome_by None (Some history) program size budget status text reports ran = (history, reports.0, (refl, (reports.1.0, reports.1.1.1.1)))
+
+pub outcome_of : (format : Format) (size : Numbers) (budget : ℕ) (file : List ℕ) (story : Option (List Entry)) (status : ℕ) (text : List ℕ)
+    → AnswersRun format size budget file story status text → (status ≡ 0) ⊎ (status ≡ 1)
+    → (history : List Entry) × (ends : List GuestEnd) × ((story ≡ Some history) × (IsOutcome (image_of format file size) size budget history ends × (text ≡ report_of budget ends)))
+outcome_of format size budget file story status text answers ran =
+    outcome_by (program_refusal format size file) story (image_of format file size) size budget status text answers ran

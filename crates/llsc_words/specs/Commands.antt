@@ -1,0 +1,64 @@
+-- The commands of the program, as `clap` reads the words behind their names: which options and files each takes.
+use Rattle.std.specs.Prelude.{◌≡◌, true, Some, codes}
+use Rattle.clap.specs.Words.{App, Rule, Text, is_simple_and_free, new_app, new_rule, with_rule}
+use Rattle.clap.specs.declared.builder.ArgAction.TheVariants.{SetTrue}
+
+-- `--NAME VALUE` or `--NAME=VALUE`, once at most
+abbrev pub option_rule : Text → Rule
+option_rule name = record (new_rule name) { long = Some name }
+
+-- `--NAME`, once at most
+abbrev pub flag_rule : Text → Rule
+flag_rule name = record (new_rule name) { long = Some name; action = Some SetTrue }
+
+-- a file, which has to be there
+abbrev pub file_rule : Text → Rule
+file_rule name = record (new_rule name) { required = true }
+
+-- a command with nothing behind it: not even a call for help is read
+abbrev pub plain_app : Text → App
+plain_app name = record (new_app name) { top = record (new_app name).top { no_binary_name = true; disable_help_flag = true } }
+
+-- the program's file, and whether it is a flat image
+abbrev pub file : Rule
+file = file_rule (codes "FILE")
+
+abbrev pub flat : Rule
+flat = flag_rule (codes "flat")
+
+abbrev pub program_app : Text → App
+program_app name = with_rule (with_rule (plain_app name) file) flat
+
+-- besides, the machine that a program of several threads runs on
+abbrev pub machine_app : Text → App
+machine_app name =
+    with_rule (with_rule (with_rule (program_app name) (option_rule (codes "threads"))) (option_rule (codes "mem"))) (option_rule (codes "granule"))
+
+-- `solo` has FILE, `--flat`, `--mem` and `--budget`
+unfoldable pub solo_app : App
+solo_app = with_rule (with_rule (program_app (codes "solo")) (option_rule (codes "mem"))) (option_rule (codes "budget"))
+
+-- `asm` has FILE and `--flat`
+unfoldable pub asm_app : App
+asm_app = program_app (codes "asm")
+
+-- `dis` has FILE, `--flat` and `--mem`
+unfoldable pub dis_app : App
+dis_app = with_rule (program_app (codes "dis")) (option_rule (codes "mem"))
+
+-- `run` has FILE, `--flat`, `--threads`, `--mem`, `--granule`, `--classes`, `--limit` and `--budget`
+unfoldable pub run_app : App
+run_app = with_rule (with_rule (with_rule (machine_app (codes "run")) (option_rule (codes "classes"))) (option_rule (codes "limit"))) (option_rule (codes "budget"))
+
+-- `trace` has FILE, `--flat`, `--threads`, `--mem`, `--granule`, `--seed` and `--budget`
+unfoldable pub trace_app : App
+trace_app = with_rule (with_rule (machine_app (codes "trace")) (option_rule (codes "seed"))) (option_rule (codes "budget"))
+
+-- `check` has FILE, RECORD, `--flat` and `--mem`
+unfoldable pub check_app : App
+check_app =
+    with_rule (with_rule (with_rule (with_rule (plain_app (codes "check")) file) (file_rule (codes "RECORD"))) flat) (option_rule (codes "mem"))
+
+-- `clap` states to the letter which words such a command takes, and what it finds in them
+unfoldable pub IsStated : App → Type 0
+IsStated app = is_simple_and_free app ≡ true

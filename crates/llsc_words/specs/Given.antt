@@ -1,0 +1,62 @@
+-- What the words behind a command give it.
+use Rattle.std.specs.Prelude.{Bool, false, List, [], ◌∷◌, Option, Some, None, codes}
+use Rattle.std.specs.Option.{option_map, option_map_or}
+use Rattle.std.specs.Str.{bytes_eq}
+use Rattle.clap.specs.Words.{App, Kinds, Row, Text, fault_of, first_of, matches_of}
+use Rattle.llsc_words.specs.declared.given.Given.{Given as Read}
+
+-- Each value as the text that it is, where it is given.
+pub record Given : Type 0 where
+  pub file : Option Text
+  pub recorded : Option Text
+  pub flat : Bool
+  pub threads : Option Text
+  pub mem : Option Text
+  pub granule : Option Text
+  pub classes : Option Text
+  pub limit : Option Text
+  pub seed : Option Text
+  pub budget : Option Text
+
+-- a flag is there
+abbrev pub is_true : Option Text → Bool
+is_true value = option_map_or (λ text. bytes_eq text (codes "true")) value false
+
+-- what the values are that `clap` found, by the names of the options and the files
+abbrev pub given_by : List Row → Given
+given_by rows = record {
+  file = first_of (codes "FILE") rows;
+  recorded = first_of (codes "RECORD") rows;
+  flat = is_true (first_of (codes "flat") rows);
+  threads = first_of (codes "threads") rows;
+  mem = first_of (codes "mem") rows;
+  granule = first_of (codes "granule") rows;
+  classes = first_of (codes "classes") rows;
+  limit = first_of (codes "limit") rows;
+  seed = first_of (codes "seed") rows;
+  budget = first_of (codes "budget") rows;
+}
+
+-- nothing, where the words have a fault
+abbrev pub unless_faulty : Kinds → Given → Option Given
+unless_faulty [] given = Some given
+unless_faulty (fault ∷ faults) given = None
+
+-- what the words give a command, None where `clap` refuses them
+unfoldable pub given_in : App → List Text → Option Given
+given_in app words = unless_faulty (fault_of app words) (given_by (matches_of app words))
+
+-- what borrows from the words, as what it is
+abbrev pub seen : Read → Given
+seen read = record {
+  file = option_map (λ text. text.now) read.file;
+  recorded = option_map (λ text. text.now) read.recorded;
+  flat = read.flat;
+  threads = option_map (λ text. text.now) read.threads;
+  mem = option_map (λ text. text.now) read.mem;
+  granule = option_map (λ text. text.now) read.granule;
+  classes = option_map (λ text. text.now) read.classes;
+  limit = option_map (λ text. text.now) read.limit;
+  seed = option_map (λ text. text.now) read.seed;
+  budget = option_map (λ text. text.now) read.budget;
+}

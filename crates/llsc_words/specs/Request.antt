@@ -1,0 +1,171 @@
+-- What the words of a call ask for.
+use Rattle.std.specs.Prelude.{ℕ, ◌≤◌, ◌^◌, Bool, ◌&&◌, nat_le, List, [], ◌∷◌, Option, Some, None, if◌then◌else◌, codes}
+use Rattle.std.specs.Option.{option_and_then}
+use Rattle.std.specs.Str.{bytes_eq}
+use Rattle.llsc_base.specs.Sizes.{Numbers, numbers}
+use Rattle.llsc_base.specs.Limits.{most_budget}
+use Rattle.number_text.specs.Decimal.{plain_number}
+use Rattle.llsc_words.specs.declared.formats.Format.{Format}
+use Rattle.llsc_words.specs.declared.formats.Format.TheVariants.{Elf, Flat}
+use Rattle.llsc_words.specs.declared.requests.Request.{Request as Call}
+use Rattle.llsc_words.specs.declared.requests.Request.TheVariants as call
+use Rattle.llsc_words.specs.Commands.{solo_app, run_app, asm_app, dis_app, trace_app, check_app}
+use Rattle.llsc_words.specs.Given.{Given, given_in}
+
+-- what a call asks for: to run the file of that name, of that format, as one thread, with so many bytes of memory and so
+-- many steps; to run it as all threads of a machine, beside each other; to assemble the text of that name as a file of that
+-- format; to show a file as text, in so many bytes of memory; to run a file as so many guest threads on one host thread, with
+-- rows of a granule and in the order that a seed fixes, and to record that; or to check such a record, the second file, against
+-- a program
+pub data Request : Type 0 where
+  Solo : (file : List ℕ) (format : Format) (mem budget : ℕ) → Request
+  Run : (file : List ℕ) (format : Format) (size : Numbers) (budget : ℕ) → Request
+  Assemble : (file : List ℕ) (format : Format) → Request
+  Disassemble : (file : List ℕ) (format : Format) (mem : ℕ) → Request
+  Trace : (file : List ℕ) (format : Format) (threads mem granule seed budget : ℕ) → Request
+  Check : (file recorded : List ℕ) (format : Format) (mem : ℕ) → Request
+
+-- the names of a request's files, in the order in which they are read
+abbrev pub files_of : Request → List (List ℕ)
+files_of (Solo file format mem budget) = file ∷ []
+files_of (Run file format size budget) = file ∷ []
+files_of (Assemble file format) = file ∷ []
+files_of (Disassemble file format mem) = file ∷ []
+files_of (Trace file format threads mem granule seed budget) = file ∷ []
+files_of (Check file recorded format mem) = file ∷ recorded ∷ []
+
+-- the bytes of memory where none are given
+abbrev pub default_mem : ℕ
+default_mem = 1048576
+
+-- the steps that a thread has where no budget is given
+abbrev pub default_budget : ℕ
+default_budget = 100000000
+
+-- the threads, the granule, the classes and the writes of a class where none are given for a run
+abbrev pub run_threads : ℕ
+run_threads = 2
+
+abbrev pub run_granule : ℕ
+run_granule = 0
+
+abbrev pub run_classes : ℕ
+run_classes = 4096
+
+abbrev pub run_limit : ℕ
+run_limit = 2 ^ 62
+
+-- the threads, the granule, the seed and the steps of a thread where none are given for a trace
+abbrev pub trace_threads : ℕ
+trace_threads = 2
+
+abbrev pub trace_granule : ℕ
+trace_granule = 0
+
+abbrev pub trace_seed : ℕ
+trace_seed = 0
+
+abbrev pub trace_budget : ℕ
+trace_budget = 10000
+
+-- the number that an option's value is, None where it is none, and the default where no value is given
+abbrev pub number_or : ℕ → Option (List ℕ) → Option ℕ
+number_or default None = Some default
+number_or default (Some text) = plain_number text
+
+-- a budget is 1 to 1,000,000,000,000 steps
+abbrev pub is_budget : ℕ → Bool
+is_budget budget = nat_le 1 budget && nat_le budget most_budget
+
+abbrev pub in_range : Option ℕ → Option ℕ
+in_range None = None
+in_range (Some budget) = if is_budget budget then Some budget else None
+
+abbrev pub budget_or : ℕ → Option (List ℕ) → Option ℕ
+budget_or default text = in_range (number_or default text)
+
+-- the format of the file
+abbrev pub format_of : Given → Format
+format_of given = if given.flat then Flat else Elf
+
+-- Each command asks for nothing where one of its numbers is none, or its budget is out of its range.
+
+abbrev pub solo_by : Option (List ℕ) → Format → Option ℕ → Option ℕ → Option Request
+solo_by (Some file) format (Some mem) (Some budget) = Some (Solo file format mem budget)
+solo_by _ _ _ _ = None
+
+abbrev pub solo_for : Given → Option Request
+solo_for given = solo_by given.file (format_of given) (number_or default_mem given.mem) (budget_or default_budget given.budget)
+
+abbrev pub run_by : Option (List ℕ) → Format → (threads mem granule classes limit budget : Option ℕ) → Option Request
+run_by (Some file) format (Some threads) (Some mem) (Some granule) (Some classes) (Some limit) (Some budget) =
+    Some (Run file format (record (numbers mem threads classes limit) { granule = granule }) budget)
+run_by _ _ _ _ _ _ _ _ = None
+
+abbrev pub run_for : Given → Option Request
+run_for given =
+    run_by given.file (format_of given) (number_or run_threads given.threads) (number_or default_mem given.mem)
+    (number_or run_granule given.granule) (number_or run_classes given.classes) (number_or run_limit given.limit)
+    (budget_or default_budget given.budget)
+
+abbrev pub assemble_by : Option (List ℕ) → Format → Option Request
+assemble_by (Some file) format = Some (Assemble file format)
+assemble_by _ _ = None
+
+abbrev pub assemble_for : Given → Option Request
+assemble_for given = assemble_by given.file (format_of given)
+
+abbrev pub disassemble_by : Option (List ℕ) → Format → Option ℕ → Option Request
+disassemble_by (Some file) format (Some mem) = Some (Disassemble file format mem)
+disassemble_by _ _ _ = None
+
+abbrev pub disassemble_for : Given → Option Request
+disassemble_for given = disassemble_by given.file (format_of given) (number_or default_mem given.mem)
+
+abbrev pub trace_by : Option (List ℕ) → Format → (threads mem granule seed budget : Option ℕ) → Option Request
+trace_by (Some file) format (Some threads) (Some mem) (Some granule) (Some seed) (Some budget) = Some (Trace file format threads mem granule seed budget)
+trace_by _ _ _ _ _ _ _ = None
+
+abbrev pub trace_for : Given → Option Request
+trace_for given =
+    trace_by given.file (format_of given) (number_or trace_threads given.threads) (number_or default_mem given.mem)
+    (number_or trace_granule given.granule) (number_or trace_seed given.seed) (budget_or trace_budget given.budget)
+
+abbrev pub check_by : (file recorded : Option (List ℕ)) → Format → Option ℕ → Option Request
+check_by (Some file) (Some recorded) format (Some mem) = Some (Check file recorded format mem)
+check_by _ _ _ _ = None
+
+abbrev pub check_for : Given → Option Request
+check_for given = check_by given.file given.recorded (format_of given) (number_or default_mem given.mem)
+
+-- what a command asks for with the words behind it
+abbrev pub request_for : List ℕ → List (List ℕ) → Option Request
+request_for command words =
+    if bytes_eq command (codes "solo") then option_and_then solo_for (given_in solo_app words) else
+    if bytes_eq command (codes "run") then option_and_then run_for (given_in run_app words) else
+    if bytes_eq command (codes "asm") then option_and_then assemble_for (given_in asm_app words) else
+    if bytes_eq command (codes "dis") then option_and_then disassemble_for (given_in dis_app words) else
+    if bytes_eq command (codes "trace") then option_and_then trace_for (given_in trace_app words) else
+    if bytes_eq command (codes "check") then option_and_then check_for (given_in check_app words) else
+    None
+
+-- what the words ask for, None where they are refused
+abbrev pub request_of : List (List ℕ) → Option Request
+request_of [] = None
+request_of (command ∷ words) = request_for command words
+
+-- what borrows from the words, as what it is
+abbrev pub asked : Call → Request
+asked (call.Solo file format mem budget) = Solo file.now format mem budget
+asked (call.Run file format n) = Run file.now format (record (numbers n.mem n.threads n.classes n.limit) { granule = n.granule }) n.budget
+asked (call.Assemble file format) = Assemble file.now format
+asked (call.Disassemble file format mem) = Disassemble file.now format mem
+asked (call.Trace file format numbers) = Trace file.now format numbers.threads numbers.mem numbers.granule numbers.seed numbers.budget
+asked (call.Check file recorded format mem) = Check file.now recorded.now format mem
+
+-- a request's budget, where it has one, is in its range
+abbrev pub HasBudget : Call → Type 0
+HasBudget (call.Solo file format mem budget) = (1 ≤ budget) × (budget ≤ most_budget)
+HasBudget (call.Run file format numbers) = (1 ≤ numbers.budget) × (numbers.budget ≤ most_budget)
+HasBudget (call.Trace file format numbers) = (1 ≤ numbers.budget) × (numbers.budget ≤ most_budget)
+HasBudget _ = Unit {0}

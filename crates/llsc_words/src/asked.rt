@@ -1,0 +1,138 @@
+//! What a command asks for by its values.
+ghost use Rattle.std.specs.Prelude.{◌≡◌, IfSome};
+ghost use Rattle.std.specs.Option.{option_map};
+ghost use Rattle.llsc_words.specs.Given.{seen};
+ghost use Rattle.llsc_words.specs.Request.{asked, assemble_for, check_for, disassemble_for, format_of, run_for, solo_for, trace_for, HasBudget};
+
+use crate::formats::Format;
+use crate::given::Given;
+use crate::numbers::{budget_or, number_or};
+use crate::requests::{Request, RunNumbers, TraceNumbers};
+
+/// The bytes of memory where none are given.
+const MEM: u64 = 1_048_576;
+
+/// The steps of a thread where no budget is given.
+const BUDGET: u64 = 100_000_000;
+
+/// The threads of a run where none are given.
+const RUN_THREADS: u64 = 2;
+
+/// The number of the granule of a run where none is given.
+const RUN_GRANULE: u64 = 0;
+
+/// The classes that rows are dealt out to where none are given.
+const RUN_CLASSES: u64 = 4096;
+
+/// The most writes of a class where none are given.
+const RUN_LIMIT: u64 = 1 << 62;
+
+/// The threads of a trace where none are given.
+const TRACE_THREADS: u64 = 2;
+
+/// The number of the granule of a trace where none is given.
+const TRACE_GRANULE: u64 = 0;
+
+/// The seed of a trace where none is given.
+const TRACE_SEED: u64 = 0;
+
+/// The steps of a thread of a trace where no budget is given.
+const TRACE_BUDGET: u64 = 10_000;
+
+impl Given<'_> {
+    /// The format of the file.
+    fn format(&self) -> Format
+        ensures { result ≡ format_of (seen self.now) }
+    {
+        if !self.flat {
+            return Format::Elf;
+        }
+        Format::Flat
+    }
+}
+
+/// What `solo` asks for.
+pub fn solo(given: Given<'_>) -> Option<Request<'_>>
+    ensures request { option_map asked result ≡ solo_for (seen given.entry) }
+    ensures budget { IfSome result HasBudget }
+{
+    Some(Request::Solo {
+        file: given.file?,
+        format: given.format(),
+        mem: number_or(MEM, given.mem)?,
+        budget: budget_or(BUDGET, given.budget)?,
+    })
+}
+
+/// What `run` asks for.
+pub fn run(given: Given<'_>) -> Option<Request<'_>>
+    ensures request { option_map asked result ≡ run_for (seen given.entry) }
+    ensures budget { IfSome result HasBudget }
+{
+    Some(Request::Run {
+        file: given.file?,
+        format: given.format(),
+        numbers: RunNumbers {
+            threads: number_or(RUN_THREADS, given.threads)?,
+            mem: number_or(MEM, given.mem)?,
+            granule: number_or(RUN_GRANULE, given.granule)?,
+            classes: number_or(RUN_CLASSES, given.classes)?,
+            limit: number_or(RUN_LIMIT, given.limit)?,
+            budget: budget_or(BUDGET, given.budget)?,
+        },
+    })
+}
+
+/// What `asm` asks for.
+pub fn assemble(given: Given<'_>) -> Option<Request<'_>>
+    ensures request { option_map asked result ≡ assemble_for (seen given.entry) }
+    ensures budget { IfSome result HasBudget }
+{
+    Some(Request::Assemble {
+        file: given.file?,
+        format: given.format(),
+    })
+}
+
+/// What `dis` asks for.
+pub fn disassemble(given: Given<'_>) -> Option<Request<'_>>
+    ensures request { option_map asked result ≡ disassemble_for (seen given.entry) }
+    ensures budget { IfSome result HasBudget }
+{
+    Some(Request::Disassemble {
+        file: given.file?,
+        format: given.format(),
+        mem: number_or(MEM, given.mem)?,
+    })
+}
+
+/// What `trace` asks for.
+pub fn trace(given: Given<'_>) -> Option<Request<'_>>
+    ensures request { option_map asked result ≡ trace_for (seen given.entry) }
+    ensures budget { IfSome result HasBudget }
+{
+    Some(Request::Trace {
+        file: given.file?,
+        format: given.format(),
+        numbers: TraceNumbers {
+            threads: number_or(TRACE_THREADS, given.threads)?,
+            mem: number_or(MEM, given.mem)?,
+            granule: number_or(TRACE_GRANULE, given.granule)?,
+            seed: number_or(TRACE_SEED, given.seed)?,
+            budget: budget_or(TRACE_BUDGET, given.budget)?,
+        },
+    })
+}
+
+/// What `check` asks for.
+pub fn check(given: Given<'_>) -> Option<Request<'_>>
+    ensures request { option_map asked result ≡ check_for (seen given.entry) }
+    ensures budget { IfSome result HasBudget }
+{
+    Some(Request::Check {
+        file: given.file?,
+        recorded: given.recorded?,
+        format: given.format(),
+        mem: number_or(MEM, given.mem)?,
+    })
+}

@@ -1,0 +1,86 @@
+//! The commands, each with its options and files.
+ghost use Rattle.std.specs.Prelude.{◌≡◌, IfOk, codes};
+ghost use Rattle.clap.specs.Words.{app_of};
+ghost use Rattle.llsc_words.specs.Commands.{asm_app, check_app, dis_app, machine_app, program_app, run_app, solo_app, trace_app};
+
+use crate::arguments::{file, flag, option, plain};
+use clap::Command;
+use std::alloc::{AllocError, Global};
+
+/// A command that has a program's file, and its format.
+fn program<'a>(alloc: Global, name: &'a str) -> Result<Command<'a>, AllocError>
+    ensures { IfOk result (λ command. app_of command ≡ program_app name.entry.now) }
+{
+    plain(alloc, name)
+        .arg(file(alloc, "FILE"))?
+        .arg(flag(alloc, "flat"))
+}
+
+/// A command that has a program's file and a machine of several threads.
+fn machine<'a>(alloc: Global, name: &'a str) -> Result<Command<'a>, AllocError>
+    ensures { IfOk result (λ command. app_of command ≡ machine_app name.entry.now) }
+{
+    program(alloc, name)?
+        .arg(option(alloc, "threads"))?
+        .arg(option(alloc, "mem"))?
+        .arg(option(alloc, "granule"))
+}
+
+/// `solo`: runs one thread.
+#[tactic(auto, unfolding(crate::specs::Commands::solo_app))]
+pub fn solo<'a>(alloc: Global) -> Result<Command<'a>, AllocError>
+    ensures { IfOk result (λ command. app_of command ≡ solo_app) }
+{
+    program(alloc, "solo")?
+        .arg(option(alloc, "mem"))?
+        .arg(option(alloc, "budget"))
+}
+
+/// `asm`: makes a file of a text.
+#[tactic(auto, unfolding(crate::specs::Commands::asm_app))]
+pub fn asm<'a>(alloc: Global) -> Result<Command<'a>, AllocError>
+    ensures { IfOk result (λ command. app_of command ≡ asm_app) }
+{
+    program(alloc, "asm")
+}
+
+/// `dis`: shows a file as text.
+#[tactic(auto, unfolding(crate::specs::Commands::dis_app))]
+pub fn dis<'a>(alloc: Global) -> Result<Command<'a>, AllocError>
+    ensures { IfOk result (λ command. app_of command ≡ dis_app) }
+{
+    program(alloc, "dis")?.arg(option(alloc, "mem"))
+}
+
+/// `run`: runs all threads.
+#[tactic(auto, unfolding(crate::specs::Commands::run_app))]
+pub fn run<'a>(alloc: Global) -> Result<Command<'a>, AllocError>
+    ensures { IfOk result (λ command. app_of command ≡ run_app) }
+{
+    machine(alloc, "run")?
+        .arg(option(alloc, "classes"))?
+        .arg(option(alloc, "limit"))?
+        .arg(option(alloc, "budget"))
+}
+
+/// `trace`: records a run of all threads.
+#[tactic(auto, unfolding(crate::specs::Commands::trace_app))]
+pub fn trace<'a>(alloc: Global) -> Result<Command<'a>, AllocError>
+    ensures { IfOk result (λ command. app_of command ≡ trace_app) }
+{
+    machine(alloc, "trace")?
+        .arg(option(alloc, "seed"))?
+        .arg(option(alloc, "budget"))
+}
+
+/// `check`: checks a record.
+#[tactic(auto, unfolding(crate::specs::Commands::check_app))]
+pub fn check<'a>(alloc: Global) -> Result<Command<'a>, AllocError>
+    ensures { IfOk result (λ command. app_of command ≡ check_app) }
+{
+    plain(alloc, "check")
+        .arg(file(alloc, "FILE"))?
+        .arg(file(alloc, "RECORD"))?
+        .arg(flag(alloc, "flat"))?
+        .arg(option(alloc, "mem"))
+}

@@ -1,0 +1,18 @@
+//! The words of the program's command line, read with `clap`.
+//!
+//! The first word is a command; what stands behind it is read as `specs/Commands.antt` says which options and files each command
+//! takes. `specs/Request.antt` says what words ask for.
+#![tactic(auto)]
+
+mod arguments;
+mod asked;
+mod commands;
+mod formats;
+mod given;
+mod numbers;
+mod requests;
+mod words;
+
+pub use formats::Format;
+pub use requests::{Request, RunNumbers, TraceNumbers};
+pub use words::parse;

@@ -1,0 +1,37 @@
+//! The numbers that options give.
+ghost use Rattle.std.specs.Prelude.{◌≡◌, ◌≤◌, IfSome};
+ghost use Rattle.std.specs.Option.{option_map};
+ghost use Rattle.llsc_base.specs.Limits.{most_budget};
+ghost use Rattle.llsc_words.specs.Request.{budget_or, is_budget, number_or};
+
+use llsc_base::MOST_STEPS;
+use number_text::plain_number;
+
+/// The number that an option's value is, `None` where it is none, and the default where no value is given.
+pub fn number_or(default: u64, value: Option<&str>) -> Option<u64>
+    ensures { result ≡ number_or default (option_map (λ text. text.now) value.entry) }
+{
+    match value {
+        Some(text) => plain_number(text.as_bytes()),
+        None => Some(default),
+    }
+}
+
+/// Whether a thread may have so many steps.
+fn is_budget(budget: u64) -> bool
+    ensures { result ≡ is_budget budget }
+{
+    1 <= budget && budget <= MOST_STEPS
+}
+
+/// The budget that an option's value is, `None` where it is no number of steps that a thread may have.
+pub fn budget_or(default: u64, value: Option<&str>) -> Option<u64>
+    ensures number { result ≡ budget_or default (option_map (λ text. text.now) value.entry) }
+    ensures range { IfSome result (λ budget. (1 ≤ budget) × (budget ≤ most_budget)) }
+{
+    let budget = number_or(default, value)?;
+    if !is_budget(budget) {
+        return None;
+    }
+    Some(budget)
+}

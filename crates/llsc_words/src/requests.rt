@@ -1,0 +1,78 @@
+//! What a call may ask for.
+use crate::formats::Format;
+
+/// The numbers of a run.
+#[derive(Clone, Copy)]
+pub struct RunNumbers {
+    /// The guest threads.
+    pub threads: u64,
+    /// The bytes of memory.
+    pub mem: u64,
+    /// The number of the granule, by which rows have their width.
+    pub granule: u64,
+    /// The classes that rows are dealt out to.
+    pub classes: u64,
+    /// The most writes of a class, for a memory that counts them.
+    pub limit: u64,
+    /// The most steps of a thread.
+    pub budget: u64,
+}
+
+/// The numbers of a trace.
+#[derive(Clone, Copy)]
+pub struct TraceNumbers {
+    /// The guest threads.
+    pub threads: u64,
+    /// The bytes of memory.
+    pub mem: u64,
+    /// The number of the granule, by which rows have their width.
+    pub granule: u64,
+    /// The number that fixes the order of the threads' turns.
+    pub seed: u64,
+    /// The most steps of a thread.
+    pub budget: u64,
+}
+
+/// What a call asks for.
+#[derive(Clone, Copy)]
+pub enum Request<'a> {
+    /// To run the file of that name, of that format, as one thread, with so many bytes of memory and so many steps
+    /// at most.
+    Solo {
+        file: &'a str,
+        format: Format,
+        mem: u64,
+        budget: u64,
+    },
+    /// To run the file of that name, of that format, as several threads beside each other, by these numbers.
+    Run {
+        file: &'a str,
+        format: Format,
+        numbers: RunNumbers,
+    },
+    /// To assemble the text of that name as a file of that format.
+    Assemble {
+        file: &'a str,
+        format: Format,
+    },
+    /// To disassemble the file of that name, of that format, in so many bytes of memory.
+    Disassemble {
+        file: &'a str,
+        format: Format,
+        mem: u64,
+    },
+    /// To run the file of that name, of that format, by these numbers, and to record the run.
+    Trace {
+        file: &'a str,
+        format: Format,
+        numbers: TraceNumbers,
+    },
+    /// To check a record, the second file, of a run of the file of that name, of that format, in so many bytes of
+    /// memory.
+    Check {
+        file: &'a str,
+        recorded: &'a str,
+        format: Format,
+        mem: u64,
+    },
+}
