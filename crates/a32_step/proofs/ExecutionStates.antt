@@ -2,6 +2,7 @@
 use Rattle.std.proofs.Common.{◌≡◌, ◌<◌, ◌∷◌, ◌++◌, ℕ, List, [], length, refl, sym, ap, subst, ◌∙◌}
 use Rattle.llsc_base.specs.Images.{Program}
 use Rattle.a32_instr.specs.declared.instructions.Instr.{Instr}
+use Rattle.a32_instr.specs.declared.outside.CallAsk.{CallAsk}
 use Rattle.a32_instr.specs.State.{Effect, asks, calls, completes, stops}
 use Rattle.a32_instr.specs.Effect.{acts}
 use Rattle.a32_step.specs.declared.decoded.Slot.{Slot}
@@ -9,8 +10,9 @@ use Rattle.a32_step.specs.declared.phases.Progress.{Progress}
 use Rattle.a32_step.specs.declared.phases.Wanted.{Wanted}
 use Rattle.a32_step.specs.Progress.{progress_of}
 use Rattle.a32_step.specs.Slots.{instr_for}
-use Rattle.a32_step.specs.ExecutionState.{ExecutionState, Stage, Between, Inside, Awaiting, Calling, Stopped, HasRoom, IsAwaited, moves, settled, wanted_at, phase_of, machine_in}
-use Rattle.a32_step.specs.Machine.{Machine, given, next_effect, next_in, after_in, after_next, moved_on, wanted_of, HasBegun, IsAwaiting, IsInside}
+use Rattle.a32_step.specs.Phase as phase
+use Rattle.a32_step.specs.ExecutionState.{ExecutionState, Stage, Between, Inside, Awaiting, Calling, Stopped, HasRoom, IsAwaited, IsCalled, moves, settled, wanted_at, phase_of, machine_in}
+use Rattle.a32_step.specs.Machine.{Machine, given, next_effect, next_in, after_in, after_next, moved_on, wanted_of, HasBegun, IsAwaiting, IsCalling, IsInside}
 
 -- one that is awaited has room
 pub room_of : (stage : Stage) (replies : List ℕ) → IsAwaited stage → HasRoom stage replies → length replies < 16
@@ -26,6 +28,16 @@ is_awaited instr Inside awaiting = awaiting
 is_awaited instr (Awaiting ask) awaiting = tt
 is_awaited instr (Calling call) awaiting = awaiting
 is_awaited instr (Stopped stop) awaiting = awaiting
+
+pub is_called : (instr : Instr) (stage : Stage) → IsCalling (phase_of instr stage) → IsCalled stage
+is_called instr Between calling = calling
+is_called instr Inside calling = calling
+is_called instr (Awaiting ask) calling = calling
+is_called instr (Calling call) calling = tt
+is_called instr (Stopped stop) calling = calling
+
+pub called : (instr : Instr) (stage : Stage) (call : CallAsk) → stage ≡ Calling call → phase_of instr stage ≡ phase.Calling call
+called instr stage call is = ap (phase_of instr) is
 
 replied_at : (instr : Instr) (standing : ExecutionState) (reply : ℕ) (stage : Stage) → IsAwaiting (phase_of instr stage)
     → machine_in instr (record standing { stage = Inside; replies = standing.replies ++ reply ∷ [] }) ≡ given (machine_in instr (record standing { stage = stage })) reply

@@ -51,6 +51,14 @@ IsAwaited (Awaiting ask) = Unit {0}
 IsAwaited (Calling call) = ⊥
 IsAwaited (Stopped stop) = ⊥
 
+-- a call is awaited
+abbrev pub IsCalled : Stage → Type 0
+IsCalled Between = ⊥
+IsCalled Inside = ⊥
+IsCalled (Awaiting ask) = ⊥
+IsCalled (Calling call) = Unit {0}
+IsCalled (Stopped stop) = ⊥
+
 -- an instruction has had no reply before it begins, and room is left for one that is awaited
 abbrev pub HasRoom : Stage → List ℕ → Type 0
 HasRoom Between replies = replies ≡ []

@@ -11,7 +11,7 @@ use crate::decoded::Decoded;
 use crate::execution::Execution;
 use crate::phases::{Passage, Point, Progress, Wanted};
 use crate::ports::Port;
-use a32_instr::{DecodeFault, Flags, Stop};
+use a32_instr::{CallAsk, DecodeFault, Flags, Stop};
 use llsc_base::Image;
 use std::marker::Model;
 
@@ -104,6 +104,15 @@ impl Cpu {
         ensures room { length self.new.replies ≤ 16 }
     {
         self.execution.reply(reply);
+    }
+
+    /// The guest call whose answer is awaited; one must be.
+    #[tactic(auto, using(crate::proofs::ExecutionStates::is_called, crate::proofs::ExecutionStates::called))]
+    pub fn asked_call(&self) -> CallAsk
+        requires { IsCalling self.now.phase }
+        ensures { self.now.phase ≡ phase.Calling result }
+    {
+        self.execution.asked_call()
     }
 
     /// The answer of the guest call that is awaited: it goes to r0, and the call is over.

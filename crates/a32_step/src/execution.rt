@@ -5,14 +5,14 @@ ghost use Rattle.a32_instr.specs.Condition.{passes};
 ghost use Rattle.a32_instr.specs.Effect.{acts};
 ghost use Rattle.a32_step.specs.Progress.{progress_of, stop_of};
 ghost use Rattle.a32_step.specs.Words.{AreWords};
-ghost use Rattle.a32_step.specs.ExecutionState.{Between, Inside, Awaiting, Stopped, IsAwaited, resting, moves, settled, wanted_at};
+ghost use Rattle.a32_step.specs.ExecutionState.{Between, Inside, Awaiting, Calling, Stopped, IsAwaited, IsCalled, resting, moves, settled, wanted_at};
 ghost use Rattle.a32_step.specs.Inside.{stage_held};
 ghost use Rattle.a32_step.specs.Machine.{wanted_of};
 
 use crate::conditions::passes;
 use crate::phases::{Hold, Point, Progress, Wanted};
 use crate::replies::Replies;
-use a32_instr::{Ask, Cond, Flags, Instr, Reg, Stop};
+use a32_instr::{Ask, CallAsk, Cond, Flags, Instr, Reg, Stop};
 use llsc_base::Image;
 use std::marker::Model;
 
@@ -178,6 +178,17 @@ impl Execution {
     {
         self.replies.push(reply);
         self.point = Point::Inside;
+    }
+
+    /// The guest call whose answer is awaited.
+    pub fn asked_call(&self) -> CallAsk
+        requires { IsCalled self.now.stage }
+        ensures { self.now.stage ≡ Calling result }
+    {
+        match self.wanted() {
+            Wanted::Call(call) => call,
+            _ => unreachable!(),
+        }
     }
 
     /// The answer of a guest call: it goes to r0, and the call is over.

@@ -5,6 +5,8 @@ use Rattle.a32_step.specs.Machine.{IsReady}
 use Rattle.guest_calls.specs.Calls.{CallEffect, exits, answers, writes_bytes, most_output}
 use Rattle.guest_calls.specs.Run.{byte_load, returned}
 use Rattle.guest_thread.specs.declared.guests.Printing.{Printing}
+use Rattle.guest_thread.specs.declared.guests.Called.{Called}
+use Rattle.guest_thread.specs.declared.guests.Called.TheVariants as called
 use Rattle.guest_thread.specs.declared.guests.Turn.{Turn}
 use Rattle.guest_thread.specs.declared.guests.Turn.TheVariants as turn
 use Rattle.guest_thread.specs.ThreadState.{ThreadState}
@@ -23,9 +25,15 @@ pub record IsOneStepOn (old new : ThreadState) : Type 0 where
 abbrev pub write_of : (from count : ℕ) → Printing
 write_of from count = record { from = from; len = count; loaded = 0 }
 
--- a write begins, whose bytes lie in memory of so many bytes and have room in the output, and asks for its first byte
-pub record BeginsWrite (mem from count : ℕ) (old : ThreadState) (result : Option Turn) (new : ThreadState) : Type 0 where
-  pub asks : result ≡ Some (turn.Asks (byte_load from))
+-- what a turn comes to by a call, None where the call was answered
+abbrev pub turn_by : Called → Option Turn
+turn_by called.Answered = None
+turn_by (called.Exits code) = Some (turn.Ended (stop.Exit code))
+turn_by (called.Writes from) = Some (turn.Asks (byte_load from))
+
+-- a write begins, whose bytes lie in memory of so many bytes and have room in the output, and wants its first byte
+pub record BeginsWrite (mem from count : ℕ) (old : ThreadState) (result : Called) (new : ThreadState) : Type 0 where
+  pub wants : result ≡ called.Writes from
   pub moved : new ≡ record old { printing = Some (write_of from count) }
   pub some : 0 < count
   pub inside : from + count ≤ mem
@@ -33,11 +41,11 @@ pub record BeginsWrite (mem from count : ℕ) (old : ThreadState) (result : Opti
 
 -- What a call makes of a thread that waits for its answer, in memory of so many bytes: the exit is one step, and so is
 -- an answer.
-abbrev pub AfterCall : ℕ → CallEffect → ThreadState → Option Turn → ThreadState → Type 0
+abbrev pub AfterCall : ℕ → CallEffect → ThreadState → Called → ThreadState → Type 0
 AfterCall mem (exits code) old result new =
-    (result ≡ Some (turn.Ended (stop.Exit code))) × (new ≡ record old { steps = old.steps + 1 })
+    (result ≡ called.Exits code) × (new ≡ record old { steps = old.steps + 1 })
 AfterCall mem (answers value) old result new =
-    (result ≡ None) × (new ≡ record old { cpu = returned old.cpu value; steps = old.steps + 1 })
+    (result ≡ called.Answered) × (new ≡ record old { cpu = returned old.cpu value; steps = old.steps + 1 })
 AfterCall mem (writes_bytes from count) old result new = BeginsWrite mem from count old result new
 
 -- a thread after a byte of its write that isn't the last one

@@ -3,13 +3,15 @@ ghost use Rattle.std.specs.Prelude.{◌≡◌, ◌≤◌, ◌<◌, ◌+◌, ◌^
 ghost use Rattle.llsc_base.specs.Limits.{most_budget};
 ghost use Rattle.llsc_base.specs.Images.{Program};
 ghost use Rattle.a32_instr.specs.declared.outside.Ask.{Ask};
+ghost use Rattle.a32_instr.specs.declared.outside.CallAsk.{CallAsk};
+ghost use Rattle.a32_step.specs.Phase as phase;
 ghost use Rattle.a32_step.specs.Machine.{Machine, IsReady, IsCalling};
 ghost use Rattle.guest_calls.specs.Run.{Pair, byte_load, effect_of_call};
 ghost use Rattle.guest_thread.specs.Ports.{IsAtRest};
 ghost use Rattle.guest_thread.specs.Progress.{HasKept, HasMoved, IsBounded};
 ghost use Rattle.guest_thread.specs.ThreadState.{HasLeft, IsReadyIn, IsWaitingIn, IsPendingAfter, MayGive};
 ghost use Rattle.guest_thread.specs.Start.{first_state, thread_start};
-ghost use Rattle.guest_thread.specs.Turns.{AfterCall, IsAtTurn, IsOneStepOn, after_byte};
+ghost use Rattle.guest_thread.specs.Turns.{AfterCall, IsAtTurn, IsOneStepOn, after_byte, turn_by};
 ghost use Rattle.guest_thread.specs.Under.{HasCome, Awaits, ComesTo};
 
 use crate::starts::start_cpu;
@@ -34,6 +36,31 @@ pub enum Turn {
     Asks(Ask),
     /// It has ended.
     Ended(Stop),
+}
+
+/// What a guest call comes to.
+#[derive(Clone, Copy)]
+enum Called {
+    /// It is answered, and over.
+    Answered,
+    /// It ends the thread with this code.
+    Exits(u8),
+    /// It writes the bytes from this address up, and wants the first of them.
+    Writes { from: u32 },
+}
+
+impl Called {
+    /// What the thread's turn comes to by it. `None` where it was answered.
+    #[inline(always)]
+    fn turn(self) -> Option<Turn>
+        ensures { result ≡ turn_by self }
+    {
+        match self {
+            Called::Answered => None,
+            Called::Exits(code) => Some(Turn::Ended(Stop::Exit(code))),
+            Called::Writes { from } => Some(Turn::Asks(byte_at(from))),
+        }
+    }
 }
 
 /// A guest thread under way: its core, its steps, and its output.
@@ -180,7 +207,10 @@ impl Guest {
     {
         match self.cpu.next(image) {
             Wanted::Access(ask) => Some(Turn::Asks(ask)),
-            Wanted::Call(call) => self.call(image, call),
+            Wanted::Call(_) => {
+                let called = self.call(image);
+                called.turn()
+            }
             Wanted::Done => {
                 self.steps += 1;
                 None
@@ -189,34 +219,55 @@ impl Guest {
         }
     }
 
-    /// A guest call is made. `None` where it was answered; a write asks for its first byte.
-    fn call(&mut self, image: &Image, call: CallAsk) -> Option<Turn>
+    /// The guest call that the core waits for is made.
+    #[inline(never)]
+    fn call(&mut self, image: &Image) -> Called
         requires calling { IsCalling self.old.cpu.phase }
         requires few { self.old.steps < most_budget }
         requires small { length image.now.bytes < 2 ^ 32 }
-        ensures made { AfterCall (length image.now.bytes) (effect_of_call image.now call (length self.old.output)) self.old result self.new }
+        ensures made { (call : CallAsk) → self.old.cpu.phase ≡ phase.Calling call
+            → AfterCall (length image.now.bytes) (effect_of_call image.now call (length self.old.output)) self.old result self.new }
+        ensures goes_on { self.old.printing ≡ None → IfNone (turn_by result) (IsOneStepOn self.old self.new) }
+        ensures pending { self.old.printing ≡ None
+            → IfSome (turn_by result) (λ turn. (budget : ℕ) → self.old.steps < budget → IsPendingAfter (length image.now.bytes) budget turn self.new) }
+        ensures output { self.new.output ≡ self.old.output }
+        ensures at_most { self.new.steps ≤ self.old.steps + 1 }
+        ensures kept { IsBounded self.old → HasKept self.old self.new }
+    {
+        let call = self.cpu.asked_call();
+        self.make(image, &call)
+    }
+
+    /// A guest call is made, which the core waits for.
+    fn make(&mut self, image: &Image, call: &CallAsk) -> Called
+        requires calling { IsCalling self.old.cpu.phase }
+        requires few { self.old.steps < most_budget }
+        requires small { length image.now.bytes < 2 ^ 32 }
+        ensures made { AfterCall (length image.now.bytes) (effect_of_call image.now call.now (length self.old.output)) self.old result self.new }
+        ensures goes_on { self.old.printing ≡ None → IfNone (turn_by result) (IsOneStepOn self.old self.new) }
+        ensures pending { self.old.printing ≡ None
+            → IfSome (turn_by result) (λ turn. (budget : ℕ) → self.old.steps < budget → IsPendingAfter (length image.now.bytes) budget turn self.new) }
         ensures output { self.new.output ≡ self.old.output }
         ensures at_most { self.new.steps ≤ self.old.steps + 1 }
         ensures kept { IsBounded self.old → HasKept self.old self.new }
     {
         let mem = image.bytes().len() as u32;
-        match guest_call(&mut self.cpu, &call, mem, &mut self.output) {
+        match guest_call(&mut self.cpu, call, mem, &mut self.output) {
             CallStep::Exit(code) => {
                 self.steps += 1;
-                Some(Turn::Ended(Stop::Exit(code)))
+                Called::Exits(code)
             }
             CallStep::Answered => {
                 self.steps += 1;
-                None
+                Called::Answered
             }
             CallStep::Bytes { from, len } => {
-                let printing = Printing {
+                self.printing = Some(Printing {
                     from,
                     len,
                     loaded: 0,
-                };
-                self.printing = Some(printing);
-                Some(Turn::Asks(byte_ask(printing)))
+                });
+                Called::Writes { from }
             }
         }
     }
@@ -263,8 +314,16 @@ fn byte_ask(printing: Printing) -> Ask
     requires inside { printing.from + printing.loaded < 2 ^ 32 }
     ensures { result ≡ byte_load (printing.from + printing.loaded) }
 {
+    byte_at(printing.from + printing.loaded)
+}
+
+/// The load of the byte at an address.
+#[inline]
+fn byte_at(addr: u32) -> Ask
+    ensures { result ≡ byte_load addr }
+{
     Ask::Load(Place {
-        addr: printing.from + printing.loaded,
+        addr,
         size: Size::B1,
     })
 }

@@ -1,6 +1,6 @@
 use Rattle.std.proofs.Common.{rules, ◌≡◌, ◌*◌, None, not, refl, sym, ap, ◌∙◌}
 use Rattle.llsc_base.specs.Images.{first_barred}
-use Rattle.a32_instr.specs.Block.{lowest_address}
+use Rattle.a32_instr.specs.Block.{count_of, lowest_address}
 use Rattle.a32_instr.specs.State.{register}
 use Rattle.a32_step.specs.declared.phases.Passage.TheVariants.{AtStart}
 use Rattle.a32_step.proofs.BlockPassages.{all_carried, part_carried}
@@ -15,10 +15,15 @@ pub returns-then-not-replied-clause-carried : goal.returns-then-not-replied-clau
 returns-then-not-replied-clause-carried g c =
     let t = c.args.transfer in
     let none : c.test_words.result ≡ None = search rules in
+    let base : c.lowest_address-lowest.result ≡ lowest_address t.up t.before (register c.args.self.now.state t.rn) (4 * c.count_of-count.result) =
+    ◌∙◌ {b = lowest_address t.up t.before c.operand-base.result (4 * c.count_of-count.result)} c.lowest_address-lowest.ensures
+    (ap (λ b. lowest_address t.up t.before b (4 * c.count_of-count.result)) c.operand-base.ensures) in
+    let lowest : c.lowest_address-lowest.result ≡ lowest_address t.up t.before (register c.args.self.now.state t.rn) (4 * count_of t.list) =
+    ◌∙◌ {b = lowest_address t.up t.before (register c.args.self.now.state t.rn) (4 * c.count_of-count.result)} base
+    (ap (λ n. lowest_address t.up t.before (register c.args.self.now.state t.rn) (4 * n)) c.count_of-count.ensures.count) in
     part_carried g.P.Port.replies c.args.image.now t.load t.before t.up t.wback t.rn t.list c.lowest_address-lowest.result
     c.args.self.now c.begin.new.self c.access_each-replied.new.self c.args.port.now c.access_each-replied.new.port c.requires.resting
-    (c.lowest_address-lowest.ensures ∙ ap (λ b. lowest_address t.up t.before b (4 * c.count_of-count.result)) c.operand-base.ensures
-    ∙ ap (λ n. lowest_address t.up t.before (register c.args.self.now.state t.rn) (4 * n)) c.count_of-count.ensures.count)
+    lowest
     c.begin.ensures c.access_each-replied.ensures.state
     (ap (first_barred c.args.image.now (not t.load) c.lowest_address-lowest.result) (sym c.count_of-count.ensures.count) ∙ sym c.test_words.ensures ∙ none)
     c.access_each-replied.ensures.given c.go_on.new.self c.go_on.result c.go_on.ensures.none c.go_on.ensures.some
@@ -27,10 +32,15 @@ pub returns-clause-carried : goal.returns-clause-carried
 returns-clause-carried g c =
     let t = c.args.transfer in
     let none : c.test_words.result ≡ None = search rules in
+    let base : c.lowest_address-lowest.result ≡ lowest_address t.up t.before (register c.args.self.now.state t.rn) (4 * c.count_of-count.result) =
+    ◌∙◌ {b = lowest_address t.up t.before c.operand-base.result (4 * c.count_of-count.result)} c.lowest_address-lowest.ensures
+    (ap (λ b. lowest_address t.up t.before b (4 * c.count_of-count.result)) c.operand-base.ensures) in
+    let lowest : c.lowest_address-lowest.result ≡ lowest_address t.up t.before (register c.args.self.now.state t.rn) (4 * count_of t.list) =
+    ◌∙◌ {b = lowest_address t.up t.before (register c.args.self.now.state t.rn) (4 * c.count_of-count.result)} base
+    (ap (λ n. lowest_address t.up t.before (register c.args.self.now.state t.rn) (4 * n)) c.count_of-count.ensures.count) in
     all_carried g.P.Port.replies c.args.image.now t.load t.before t.up t.wback t.rn t.list c.lowest_address-lowest.result
     c.args.self.now c.begin.new.self c.access_each-replied.new.self c.args.port.now c.access_each-replied.new.port c.requires.resting
-    (c.lowest_address-lowest.ensures ∙ ap (λ b. lowest_address t.up t.before b (4 * c.count_of-count.result)) c.operand-base.ensures
-    ∙ ap (λ n. lowest_address t.up t.before (register c.args.self.now.state t.rn) (4 * n)) c.count_of-count.ensures.count)
+    lowest
     c.begin.ensures c.access_each-replied.ensures.state
     (ap (first_barred c.args.image.now (not t.load) c.lowest_address-lowest.result) (sym c.count_of-count.ensures.count) ∙ sym c.test_words.ensures ∙ none)
     c.access_each-replied.ensures.given
