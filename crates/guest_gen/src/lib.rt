@@ -8,6 +8,7 @@
 
 mod counter_guest;
 mod faults;
+pub mod laws;
 
 pub use counter_guest::counters;
 pub use faults::GenFault;
