@@ -2,8 +2,8 @@
 //!
 //! [`counters`] gives a program whose threads add 1 to sixteen counters of memory, each thread so many times. Which counter
 //! is next a generator of numbers draws, which a seed starts; and each addition is a load-exclusive and a store-exclusive,
-//! tried until it succeeds. So whatever the threads do to each other, at the end the counters sum up to all additions. The
-//! program's words stand in `specs/Counters`.
+//! tried until it succeeds. The program's words stand in `specs/Counters`, and its text in `specs/Text`; that the text
+//! assembles to it is a law for worked numbers.
 #![tactic(auto)]
 
 mod counter_guest;
