@@ -24,90 +24,95 @@ svc #0
 .space 16
 ";
 
+/// Runs of one thread or of several.
+const RUNS: &[Case] = &[
+    (
+        "run --flat p",
+        Content::Words(LEAVE),
+        0,
+        "thread 0 stop exit 0 steps 3 out 0\n\nthread 1 stop exit 0 steps 3 out 0\n\nreads 0 writes 0 fails 0\n",
+    ),
+    (
+        "run --flat --threads 1 p",
+        Content::Words(EXCLUSIVES),
+        0,
+        "thread 0 stop exit 0 steps 7 out 0\n\nreads 1 writes 1 fails 0\n",
+    ),
+    (
+        "solo --flat p",
+        Content::Words(OWN_STORE),
+        0,
+        "thread 0 stop exit 0 steps 8 out 0\n\nreads 1 writes 2 fails 0\n",
+    ),
+    (
+        "run --flat --threads 1 p",
+        Content::Words(OWN_STORE),
+        1,
+        "thread 0 stop exit 1 steps 8 out 0\n\nreads 1 writes 1 fails 1\n",
+    ),
+];
+
 #[test]
 fn runs_threads(rt: HostRuntime) -> Result<(), Fail> {
-    let cases: [(&str, &[u32], u8, &str); 4] = [
-        (
-            "run --flat p",
-            LEAVE,
-            0,
-            "thread 0 stop exit 0 steps 3 out 0\n\nthread 1 stop exit 0 steps 3 out 0\n\nreads 0 writes 0 fails 0\n",
-        ),
-        (
-            "run --flat --threads 1 p",
-            EXCLUSIVES,
-            0,
-            "thread 0 stop exit 0 steps 7 out 0\n\nreads 1 writes 1 fails 0\n",
-        ),
-        (
-            "solo --flat p",
-            OWN_STORE,
-            0,
-            "thread 0 stop exit 0 steps 8 out 0\n\nreads 1 writes 2 fails 0\n",
-        ),
-        (
-            "run --flat --threads 1 p",
-            OWN_STORE,
-            1,
-            "thread 0 stop exit 1 steps 8 out 0\n\nreads 1 writes 1 fails 1\n",
-        ),
-    ];
-    for (words, program, status, text) in cases {
-        let file = bytes_of(rt.alloc(), program)?;
-        let (ended, host) = called(&rt, words, file, &[], 200)?;
-        assert_eq!(rt; ended, status, "for {words}");
-        assert_eq!(rt; host.written(), text.as_bytes(), "for {words}");
-    }
-    Ok(())
+    answer_all(&rt, RUNS)
 }
 
 #[test]
 fn runs_threads_that_wait_for_each_other(rt: HostRuntime) -> Result<(), Fail> {
     let text = FLAGS.as_bytes().to_vec(rt.alloc())?;
-    let (status, host) = called(&rt, "asm p", text, &[], 400)?;
-    assert_eq!(rt; status, 0);
-    let file = host.written().to_vec(rt.alloc())?;
-    let (status, host) = called(&rt, "run --threads 2 p", file, &[], 200)?;
-    assert_eq!(rt; status, 0);
-    assert!(rt; host.written().ends_with(b" writes 2 fails 0\n"));
+    let file = done(&rt, "asm p", text, SPACE)?;
+    let report = done(&rt, "run --threads 2 p", file, SPACE)?;
+    assert!(rt; report.as_slice().ends_with(b" writes 2 fails 0\n"));
     Ok(())
 }
+
+/// Runs that are refused.
+const REFUSED: &[Answer] = &[
+    ("run --flat --threads 17 p", 4, "llsc: Threads\n"),
+    ("run --flat --granule 9 p", 4, "llsc: Granule\n"),
+    ("run --flat --classes 3 p", 4, "llsc: Classes\n"),
+    ("run --flat --limit 0 p", 4, "llsc: Limit\n"),
+    ("run p", 4, "llsc: Short\n"),
+    ("run --flat --threads 01 p", 2, "llsc: words\n"),
+];
 
 #[test]
 fn refuses_runs(rt: HostRuntime) -> Result<(), Fail> {
-    let cases: [(&str, u8, &str); 6] = [
-        ("run --flat --threads 17 p", 4, "llsc: Threads\n"),
-        ("run --flat --granule 9 p", 4, "llsc: Granule\n"),
-        ("run --flat --classes 3 p", 4, "llsc: Classes\n"),
-        ("run --flat --limit 0 p", 4, "llsc: Limit\n"),
-        ("run p", 4, "llsc: Short\n"),
-        ("run --flat --threads 01 p", 2, "llsc: words\n"),
-    ];
-    for (words, status, text) in cases {
-        let file = bytes_of(rt.alloc(), LEAVE)?;
-        let (ended, host) = called(&rt, words, file, &[], 100)?;
-        assert_eq!(rt; ended, status, "for {words}");
-        assert_eq!(rt; host.written(), text.as_bytes(), "for {words}");
-    }
-    Ok(())
+    answer_over(&rt, Content::Words(LEAVE), REFUSED)
 }
 
-#[test]
-fn answers_failures_of_runs(rt: HostRuntime) -> Result<(), Fail> {
-    let cases: [(Failing, u8, &str); 3] = [
-        ((0, 0), 3, "llsc: read failed\n"),
-        ((2, 0), 5, "thread 0 stop exit 0 steps 3 out 0\n"),
+/// Runs whose host fails.
+const FAILURES: &[(Failing, Case)] = &[
+    (
+        (0, 0),
         (
-            (4, 1),
+            "run --flat p",
+            Content::Words(LEAVE),
+            3,
+            "llsc: read failed\n",
+        ),
+    ),
+    (
+        (2, 0),
+        (
+            "run --flat p",
+            Content::Words(LEAVE),
+            5,
+            "thread 0 stop exit 0 steps 3 out 0\n",
+        ),
+    ),
+    (
+        (4, 1),
+        (
+            "run --flat p",
+            Content::Words(LEAVE),
             5,
             "thread 0 stop exit 0 steps 3 out 0\n\nthread 1 stop exit 0 steps 3 out 0\n\n",
         ),
-    ];
-    for (failing, status, text) in cases {
-        let file = bytes_of(rt.alloc(), LEAVE)?;
-        let (ended, host) = called(&rt, "run --flat p", file, &[failing], 200)?;
-        assert_eq!(rt; ended, status, "for {text}");
-        assert_eq!(rt; host.written(), text.as_bytes());
-    }
-    Ok(())
+    ),
+];
+
+#[test]
+fn answers_failures_of_runs(rt: HostRuntime) -> Result<(), Fail> {
+    fail_all(&rt, FAILURES)
 }

@@ -1,18 +1,20 @@
 //! Images that are shown word by word.
 use super::*;
 
+/// The lines of the program that leaves.
+const LINES: &str = "00001000 e3a00000 mov r0, #0\n\
+    00001004 e3a07001 mov r7, #1\n\
+    00001008 ef000000 svc #0\n";
+
+/// Programs that are shown.
+const SHOWN: &[Case] = &[
+    ("dis --flat --mem 65536 p", Content::Words(LEAVE), 0, LINES),
+    ("dis p", Content::Words(LEAVE_FILE), 0, LINES),
+];
+
 #[test]
 fn shows_each_word(rt: HostRuntime) -> Result<(), Fail> {
-    let text = "00001000 e3a00000 mov r0, #0\n\
-                00001004 e3a07001 mov r7, #1\n\
-                00001008 ef000000 svc #0\n";
-    for (words, program) in [("dis --flat --mem 65536 p", LEAVE), ("dis p", LEAVE_FILE)] {
-        let file = bytes_of(rt.alloc(), program)?;
-        let (status, host) = called(&rt, words, file, &[], 200)?;
-        assert_eq!(rt; status, 0, "for {words}");
-        assert_eq!(rt; host.written(), text.as_bytes(), "for {words}");
-    }
-    Ok(())
+    answer_all(&rt, SHOWN)
 }
 
 #[test]
@@ -22,11 +24,10 @@ fn shows_a_page_at_a_time(rt: HostRuntime) -> Result<(), Fail> {
     for _ in 0..2500 {
         program.push(0xe3a0_0000)?;
     }
-    for (failing, status, written) in [((9, 0), 0, 72_500), ((2, 7), 5, 65_518)] {
+    for (failing, status, length) in [((9, 0), 0, 72_500), ((2, 7), 5, 65_518)] {
         let file = bytes_of(rt.alloc(), program.as_slice())?;
-        let (ended, host) = called(&rt, "dis --flat p", file, &[failing], 100_000)?;
-        assert_eq!(rt; ended, status);
-        assert_eq!(rt; host.written().len(), written);
+        let (ended, written) = called(&rt, "dis --flat p", file, &[failing], 100_000)?;
+        same(&rt, (ended, written.len()), (status, length));
     }
     Ok(())
 }

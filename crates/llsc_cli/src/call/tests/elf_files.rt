@@ -13,17 +13,20 @@ const LINKED: [u32; 53] = [
     0xe30010d0, 0xe3401002, 0xe5912000, 0xe5910004, 0xe0800002, 0xe3a07001, 0xef000000, 3,
 ];
 
+/// Programs that run.
+const RUNS: &[Case] = &[
+    ("solo p", Content::Words(LEAVE_FILE), 0, LEFT),
+    (
+        "solo p",
+        Content::Words(&LINKED),
+        1,
+        "thread 0 stop exit 3 steps 7 out 0\n\nreads 2 writes 0 fails 0\n",
+    ),
+];
+
 #[test]
 fn runs_elf_files(rt: HostRuntime) -> Result<(), Fail> {
-    let sum = "thread 0 stop exit 3 steps 7 out 0\n\nreads 2 writes 0 fails 0\n";
-    let cases: [(&[u32], u8, &str); 2] = [(LEAVE_FILE, 0, LEFT), (&LINKED, 1, sum)];
-    for (program, status, text) in cases {
-        let file = bytes_of(rt.alloc(), program)?;
-        let (ended, host) = called(&rt, "solo p", file, &[], 100)?;
-        assert_eq!(rt; ended, status, "for {text}");
-        assert_eq!(rt; host.written(), text.as_bytes());
-    }
-    Ok(())
+    answer_all(&rt, RUNS)
 }
 
 /// A change of the linked program: the words that are others, with their values, and how many bytes are left.
@@ -80,9 +83,7 @@ const FAULTS: &[(Change, &str)] = &[
 fn refuses_elf_files(rt: HostRuntime) -> Result<(), Fail> {
     for (change, refusal) in FAULTS {
         let file = changed(rt.alloc(), *change)?;
-        let (status, host) = called(&rt, "solo p", file, &[], 100)?;
-        assert_eq!(rt; host.written(), refusal.as_bytes());
-        assert_eq!(rt; status, 4, "for {refusal}");
+        compare(&rt, "solo p", file, 4, refusal.as_bytes())?;
     }
     Ok(())
 }
@@ -91,10 +92,7 @@ fn refuses_elf_files(rt: HostRuntime) -> Result<(), Fail> {
 fn enters_at_the_last_word_of_the_code(rt: HostRuntime) -> Result<(), Fail> {
     let text = "thread 0 stop outside 000100d0 steps 1 out 0\n\nreads 0 writes 0 fails 0\n";
     let file = changed(rt.alloc(), (&[(6, 0x100cc)], 212))?;
-    let (status, host) = called(&rt, "solo p", file, &[], 100)?;
-    assert_eq!(rt; host.written(), text.as_bytes());
-    assert_eq!(rt; status, 1);
-    Ok(())
+    compare(&rt, "solo p", file, 1, text.as_bytes())
 }
 
 /// A program whose file has so many program headers, the last of which is that of the code.
@@ -115,17 +113,14 @@ fn with_headers(alloc: Global, count: u32) -> Result<Vec<u8>, AllocError>
 
 #[test]
 fn reads_64_program_headers(rt: HostRuntime) -> Result<(), Fail> {
-    let cases: [(u32, u8, &str); 4] = [
+    for (count, status, text) in [
         (0, 4, "llsc: Headers\n"),
         (1, 0, LEFT),
         (64, 0, LEFT),
         (65, 4, "llsc: Headers\n"),
-    ];
-    for (count, status, text) in cases {
+    ] {
         let file = with_headers(rt.alloc(), count)?;
-        let (ended, host) = called(&rt, "solo p", file, &[], 100)?;
-        assert_eq!(rt; host.written(), text.as_bytes(), "for {count}");
-        assert_eq!(rt; ended, status, "for {count}");
+        compare(&rt, "solo p", file, status, text.as_bytes())?;
     }
     Ok(())
 }

@@ -88,43 +88,43 @@ const READS: &[(ReadFault, &str)] = &[
 #[test]
 fn names_faults_of_programs(rt: HostRuntime) {
     for (fault, name) in ELF {
-        assert_eq!(rt; fault.name(), *name);
-        assert_eq!(rt; ProgramFault::Elf(*fault).name(), *name);
+        same(&rt, fault.name(), name);
+        same(&rt, ProgramFault::Elf(*fault).name(), name);
     }
     for (fault, name) in FLAT {
-        assert_eq!(rt; fault.name(), *name);
-        assert_eq!(rt; ProgramFault::Flat(*fault).name(), *name);
+        same(&rt, fault.name(), name);
+        same(&rt, ProgramFault::Flat(*fault).name(), name);
     }
     for (fault, name) in SIZES {
-        assert_eq!(rt; fault.name(), *name);
+        same(&rt, fault.name(), name);
     }
 }
 
 #[test]
 fn names_faults_of_texts(rt: HostRuntime) {
     for (kind, name) in KINDS {
-        assert_eq!(rt; kind.name(), *name);
+        same(&rt, kind.name(), name);
         let fault = AsmFault {
             line: 3,
             kind: *kind,
         };
-        assert_eq!(rt; fault.name(), *name);
+        same(&rt, fault.name(), name);
     }
-    assert_eq!(rt; DecodeFault::Undefined.name(), "Undefined");
-    assert_eq!(rt; DecodeFault::Unpredictable.name(), "Unpredictable");
+    same(&rt, DecodeFault::Undefined.name(), "Undefined");
+    same(&rt, DecodeFault::Unpredictable.name(), "Unpredictable");
 }
 
 #[test]
 fn names_faults_of_records(rt: HostRuntime) {
     for (fault, name) in RECORDS {
-        assert_eq!(rt; fault.name(), *name);
+        same(&rt, fault.name(), name);
     }
     for (reason, name) in REASONS {
-        assert_eq!(rt; reason.name(), *name);
+        same(&rt, reason.name(), name);
     }
     for (fault, name) in READS {
-        assert_eq!(rt; fault.name(), *name);
+        same(&rt, fault.name(), name);
     }
-    assert_eq!(rt; TraceFault::TooLong.name(), "TooLong");
-    assert_eq!(rt; TraceFault::Memory.name(), "Memory");
+    same(&rt, TraceFault::TooLong.name(), "TooLong");
+    same(&rt, TraceFault::Memory.name(), "Memory");
 }

@@ -46,47 +46,70 @@ const STOP: &[u32] = &[
     0xe3a00001, 0xe3a01a01, 0xe3a02002, 0xe3a07004, 0xef000000, 0xffffffff,
 ];
 
+/// Programs that write.
+const WRITING: &[Case] = &[
+    (
+        "solo --flat p",
+        Content::Words(HELLO),
+        0,
+        "thread 0 stop exit 0 steps 12 out 5\nhello\nreads 5 writes 0 fails 0\n",
+    ),
+    (
+        "solo --flat p",
+        Content::Words(NOWHERE),
+        1,
+        "thread 0 stop exit 247 steps 6 out 0\n\nreads 0 writes 0 fails 0\n",
+    ),
+    (
+        "solo --flat p",
+        Content::Words(STOP),
+        1,
+        "thread 0 stop undefined 00001014 steps 5 out 2\n\x01\0\nreads 2 writes 0 fails 0\n",
+    ),
+];
+
 #[test]
 fn prints_what_is_written(rt: HostRuntime) -> Result<(), Fail> {
-    let cases: [(&[u32], u8, &str, u32); 3] = [
-        (HELLO, 0, "exit 0 steps 12 out 5\nhello", 5),
-        (NOWHERE, 1, "exit 247 steps 6 out 0\n", 0),
-        (STOP, 1, "undefined 00001014 steps 5 out 2\n\x01\0", 2),
-    ];
-    for (program, status, stop, reads) in cases {
-        let file = bytes_of(rt.alloc(), program)?;
-        let (ended, host) = called(&rt, "solo --flat p", file, &[], 100)?;
-        assert_eq!(rt; ended, status, "for {stop}");
-        let counts = format!(in rt.alloc(); "reads {reads} writes 0 fails 0")?;
-        let text = format!(in rt.alloc(); "thread 0 stop {stop}\n{}\n", counts.as_str())?;
-        assert_eq!(rt; host.written(), text.as_bytes());
-    }
-    Ok(())
+    answer_all(&rt, WRITING)
 }
 
 #[test]
 fn has_no_room_for_more(rt: HostRuntime) -> Result<(), Fail> {
     let file = bytes_of(rt.alloc(), FILL)?;
-    let (status, host) = called(&rt, "solo --flat p", file, &[], 66_000)?;
-    let mut text = b"thread 0 stop exit 228 steps 25 out 65536\n".to_vec(rt.alloc())?;
-    text.extend_from_slice(&[0; 65_536])?;
-    text.extend_from_slice(b"\nreads 65536 writes 0 fails 0\n")?;
-    assert_eq!(rt; status, 1);
-    assert_eq!(rt; host.written(), text.as_slice());
-    Ok(())
+    let first = "thread 0 stop exit 228 steps 25 out 65536\n";
+    let text = repeated(
+        rt.alloc(),
+        first,
+        "\0",
+        65_536,
+        "\nreads 65536 writes 0 fails 0\n",
+    )?;
+    compare(&rt, "solo --flat p", file, 1, text.as_slice())
 }
+
+/// Writes that fail on the way.
+const CUT: &[(Failing, Case)] = &[
+    (
+        (2, 3),
+        (
+            "solo --flat p",
+            Content::Words(HELLO),
+            5,
+            "thread 0 stop exit 0 steps 12 out 5\nhel",
+        ),
+    ),
+    (
+        (4, 5),
+        (
+            "solo --flat p",
+            Content::Words(HELLO),
+            5,
+            "thread 0 stop exit 0 steps 12 out 5\nhello\nreads",
+        ),
+    ),
+];
 
 #[test]
 fn cuts_the_output_off(rt: HostRuntime) -> Result<(), Fail> {
-    let cases: [(Failing, &str); 2] = [
-        ((2, 3), "thread 0 stop exit 0 steps 12 out 5\nhel"),
-        ((4, 5), "thread 0 stop exit 0 steps 12 out 5\nhello\nreads"),
-    ];
-    for (failing, text) in cases {
-        let file = bytes_of(rt.alloc(), HELLO)?;
-        let (status, host) = called(&rt, "solo --flat p", file, &[failing], 100)?;
-        assert_eq!(rt; status, 5, "for {text}");
-        assert_eq!(rt; host.written(), text.as_bytes());
-    }
-    Ok(())
+    fail_all(&rt, CUT)
 }

@@ -25,72 +25,76 @@ pub const TURNS: &str = "llsc-run 1 threads 2 budget 10000 accesses 4\n\
     1 load 4 00002000 0000000000000000\n\
     0 load 4 00002000 0000000000000000\n";
 
+/// Runs, with their records.
+const RECORDED: &[Case] = &[
+    (
+        "trace --flat --threads 1 p",
+        Content::Words(EXCLUSIVES),
+        0,
+        "llsc-run 1 threads 1 budget 10000 accesses 2\n\
+         0 loadex 4 00002000 0000000000000000\n\
+         0 storeex 4 00002000 0000000000000007\n",
+    ),
+    (
+        "trace --flat --threads 1 p",
+        Content::Words(BESIDE),
+        0,
+        "llsc-run 1 threads 1 budget 10000 accesses 3\n\
+         0 loadex 4 00002000 0000000000000000\n\
+         0 store 4 00002008 0000000000000000\n\
+         0 storeex 4 00002000 0000000000000000\n",
+    ),
+    (
+        "trace --granule 1 --flat --threads 1 p",
+        Content::Words(BESIDE),
+        1,
+        DISTURBED,
+    ),
+    ("trace --flat p", Content::Words(EACH), 0, TURNS),
+    (
+        "trace --seed 0 --threads 2 --flat p",
+        Content::Words(EACH),
+        0,
+        TURNS,
+    ),
+    (
+        "trace --flat --budget 9 --threads 1 p",
+        Content::Words(UNMARKED),
+        1,
+        "llsc-run 1 threads 1 budget 9 accesses 1\n\
+         0 fail 4 00002000 0000000000000000\n",
+    ),
+];
+
 #[test]
 fn records_runs(rt: HostRuntime) -> Result<(), Fail> {
-    let exclusives = "llsc-run 1 threads 1 budget 10000 accesses 2\n\
-                      0 loadex 4 00002000 0000000000000000\n\
-                      0 storeex 4 00002000 0000000000000007\n";
-    let unmarked = "llsc-run 1 threads 1 budget 9 accesses 1\n\
-                    0 fail 4 00002000 0000000000000000\n";
-    let undisturbed = "llsc-run 1 threads 1 budget 10000 accesses 3\n\
-                       0 loadex 4 00002000 0000000000000000\n\
-                       0 store 4 00002008 0000000000000000\n\
-                       0 storeex 4 00002000 0000000000000000\n";
-    let cases: [(&str, &[u32], u8, &str); 6] = [
-        ("trace --flat --threads 1 p", EXCLUSIVES, 0, exclusives),
-        ("trace --flat --threads 1 p", BESIDE, 0, undisturbed),
-        (
-            "trace --granule 1 --flat --threads 1 p",
-            BESIDE,
-            1,
-            DISTURBED,
-        ),
-        ("trace --flat p", EACH, 0, TURNS),
-        ("trace --seed 0 --threads 2 --flat p", EACH, 0, TURNS),
-        (
-            "trace --flat --budget 9 --threads 1 p",
-            UNMARKED,
-            1,
-            unmarked,
-        ),
-    ];
-    for (words, program, status, text) in cases {
-        let file = bytes_of(rt.alloc(), program)?;
-        let (ended, host) = called(&rt, words, file, &[], 200)?;
-        assert_eq!(rt; ended, status, "for {words}");
-        assert_eq!(rt; host.written(), text.as_bytes(), "for {words}");
-    }
-    Ok(())
+    answer_all(&rt, RECORDED)
 }
+
+/// Runs that are refused.
+const REFUSED: &[Answer] = &[
+    ("trace --flat --granule 9 q", 4, "llsc: Granule\n"),
+    (
+        "trace --flat --granule 9 --threads 17 p",
+        4,
+        "llsc: Threads\n",
+    ),
+    ("trace --flat --threads 0 p", 4, "llsc: Threads\n"),
+    ("trace --flat --threads 0 --mem 65537 p", 4, "llsc: Mem\n"),
+    // the size is refused before the file is read
+    ("trace --threads 17 q", 4, "llsc: Threads\n"),
+    ("trace --threads 16 q", 3, "llsc: read failed\n"),
+    // no room is left below the stacks
+    (
+        "trace --flat --threads 16 --mem 65536 p",
+        4,
+        "llsc: TooLong\n",
+    ),
+    ("trace p", 4, "llsc: Short\n"),
+    ("trace --seed 00 p", 2, "llsc: words\n"),
+];
 
 #[test]
 fn refuses_traces(rt: HostRuntime) -> Result<(), Fail> {
-    let cases: [(&str, u8, &str); 9] = [
-        ("trace --flat --granule 9 q", 4, "llsc: Granule\n"),
-        (
-            "trace --flat --granule 9 --threads 17 p",
-            4,
-            "llsc: Threads\n",
-        ),
-        ("trace --flat --threads 0 p", 4, "llsc: Threads\n"),
-        ("trace --flat --threads 0 --mem 65537 p", 4, "llsc: Mem\n"),
-        // the size is refused before the file is read
-        ("trace --threads 17 q", 4, "llsc: Threads\n"),
-        ("trace --threads 16 q", 3, "llsc: read failed\n"),
-        // no room is left below the stacks
-        (
-            "trace --flat --threads 16 --mem 65536 p",
-            4,
-            "llsc: TooLong\n",
-        ),
-        ("trace p", 4, "llsc: Short\n"),
-        ("trace --seed 00 p", 2, "llsc: words\n"),
-    ];
-    for (words, status, text) in cases {
-        let file = bytes_of(rt.alloc(), LEAVE)?;
-        let (ended, host) = called(&rt, words, file, &[], 200)?;
-        assert_eq!(rt; ended, status, "for {words}");
-        assert_eq!(rt; host.written(), text.as_bytes(), "for {words}");
-    }
-    Ok(())
+    answer_over(&rt, Content::Words(LEAVE), REFUSED)
 }

@@ -2,24 +2,6 @@
 use super::traces::EACH;
 use super::*;
 
-/// What the file `p` holds.
-#[derive(Clone, Copy)]
-enum Content {
-    Words(&'static [u32]),
-    Text(&'static str),
-}
-
-/// The bytes of a file.
-fn bytes_in(alloc: Global, content: Content) -> Result<Vec<u8>, AllocError> {
-    match content {
-        Content::Words(words) => bytes_of(alloc, words),
-        Content::Text(text) => text.as_bytes().to_vec(alloc),
-    }
-}
-
-/// A call's words, its file, its status, and its text.
-type Case = (&'static str, Content, u8, &'static str);
-
 /// Guests that load and store, exclusively or not.
 const ACCESSES: &[Case] = &[
     // mov r1, #0x2000; mov r0, #5; str r0, [r1]; ldr r0, [r1]; exit
@@ -225,14 +207,21 @@ const TURNS: &[Case] = &[
 ];
 
 #[test]
-fn answers_whole_calls(rt: HostRuntime) -> Result<(), Fail> {
-    for cases in [ACCESSES, CALLS, TEXTS, TURNS] {
-        for (words, content, status, text) in cases {
-            let file = bytes_in(rt.alloc(), *content)?;
-            let (ended, host) = called(&rt, words, file, &[], 1000)?;
-            assert_eq!(rt; host.written(), text.as_bytes(), "for {words}");
-            assert_eq!(rt; ended, *status, "for {text}");
-        }
-    }
-    Ok(())
+fn loads_and_stores(rt: HostRuntime) -> Result<(), Fail> {
+    answer_all(&rt, ACCESSES)
+}
+
+#[test]
+fn calls(rt: HostRuntime) -> Result<(), Fail> {
+    answer_all(&rt, CALLS)
+}
+
+#[test]
+fn reads_and_shows_texts(rt: HostRuntime) -> Result<(), Fail> {
+    answer_all(&rt, TEXTS)
+}
+
+#[test]
+fn takes_turns(rt: HostRuntime) -> Result<(), Fail> {
+    answer_all(&rt, TURNS)
 }

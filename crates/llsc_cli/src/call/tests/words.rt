@@ -1,37 +1,35 @@
 //! Words that ask for something, and words that don't.
 use super::*;
 
+/// The report of the program that leaves, where it may make two steps.
+const SHORT: &str = "thread 0 stop budget 2 steps 2 out 0\n\nreads 0 writes 0 fails 0\n";
+
+/// Options of each kind, before the file and behind it.
+const OPTIONS: &[Answer] = &[
+    ("solo --flat --budget 2 p", 1, SHORT),
+    ("solo --budget 3 --flat p", 0, LEFT),
+    ("solo --mem 65536 --budget 1000000000000 --flat p", 0, LEFT),
+    ("solo --flat --mem 16777216 p", 0, LEFT),
+    ("solo --flat --mem 65537 p", 4, "llsc: Mem\n"),
+    ("dis --flat --mem 18446744073709551615 p", 4, "llsc: Mem\n"),
+    // options behind the file, joined to their values, and before the end of options
+    ("solo p --flat", 0, LEFT),
+    ("solo p --flat --budget=2", 1, SHORT),
+    ("solo --budget=3 p --flat", 0, LEFT),
+    ("solo --flat -- p", 0, LEFT),
+    // names that begin with `-`
+    ("solo --flat -", 3, "llsc: read failed\n"),
+    ("solo --flat -- -p", 3, "llsc: read failed\n"),
+    // the size is refused before the file is read
+    ("solo --flat --mem 1 q", 4, "llsc: Mem\n"),
+    ("solo --flat --mem 65536 q", 3, "llsc: read failed\n"),
+    ("asm q", 3, "llsc: read failed\n"),
+    ("dis --flat q", 3, "llsc: read failed\n"),
+];
+
 #[test]
 fn reads_options(rt: HostRuntime) -> Result<(), Fail> {
-    let over = "thread 0 stop budget 2 steps 2 out 0\n\nreads 0 writes 0 fails 0\n";
-    let cases: [(&str, u8, &str); 16] = [
-        ("solo --flat --budget 2 p", 1, over),
-        ("solo --budget 3 --flat p", 0, LEFT),
-        ("solo --mem 65536 --budget 1000000000000 --flat p", 0, LEFT),
-        ("solo --flat --mem 16777216 p", 0, LEFT),
-        ("solo --flat --mem 65537 p", 4, "llsc: Mem\n"),
-        ("dis --flat --mem 18446744073709551615 p", 4, "llsc: Mem\n"),
-        // options behind the file, joined to their values, and before the end of options
-        ("solo p --flat", 0, LEFT),
-        ("solo p --flat --budget=2", 1, over),
-        ("solo --budget=3 p --flat", 0, LEFT),
-        ("solo --flat -- p", 0, LEFT),
-        // names that begin with `-`
-        ("solo --flat -", 3, "llsc: read failed\n"),
-        ("solo --flat -- -p", 3, "llsc: read failed\n"),
-        // the size is refused before the file is read
-        ("solo --flat --mem 1 q", 4, "llsc: Mem\n"),
-        ("solo --flat --mem 65536 q", 3, "llsc: read failed\n"),
-        ("asm q", 3, "llsc: read failed\n"),
-        ("dis --flat q", 3, "llsc: read failed\n"),
-    ];
-    for (words, status, text) in cases {
-        let file = bytes_of(rt.alloc(), LEAVE)?;
-        let (ended, host) = called(&rt, words, file, &[], 100)?;
-        assert_eq!(rt; ended, status, "for {words}");
-        assert_eq!(rt; host.written(), text.as_bytes(), "for {words}");
-    }
-    Ok(())
+    answer_over(&rt, Content::Words(LEAVE), OPTIONS)
 }
 
 /// Words that ask for nothing.
@@ -99,27 +97,44 @@ const REFUSED: &[&str] = &[
 fn refuses_words(rt: HostRuntime) -> Result<(), Fail> {
     for words in REFUSED {
         let file = bytes_of(rt.alloc(), LEAVE)?;
-        let (status, host) = called(&rt, words, file, &[], 100)?;
-        assert_eq!(rt; status, 2, "for {words}");
-        assert_eq!(rt; host.written(), b"llsc: words\n".as_slice());
+        compare(&rt, words, file, 2, b"llsc: words\n")?;
     }
     Ok(())
 }
 
+/// The read fails, the first write of the report, and the second one.
+const FAILURES: &[(Failing, Case)] = &[
+    (
+        (0, 0),
+        (
+            "solo --flat p",
+            Content::Words(LEAVE),
+            3,
+            "llsc: read failed\n",
+        ),
+    ),
+    (
+        (1, 6),
+        ("solo --flat p", Content::Words(LEAVE), 5, "thread"),
+    ),
+    (
+        (2, 0),
+        (
+            "solo --flat p",
+            Content::Words(LEAVE),
+            5,
+            "thread 0 stop exit 0 steps 3 out 0\n",
+        ),
+    ),
+];
+
 #[test]
 fn answers_failures(rt: HostRuntime) -> Result<(), Fail> {
-    let cases: [(Failing, u32, u8, &str); 4] = [
-        // the read fails, the first write of the report, the second one, and one for want of space
-        ((0, 0), 100, 3, "llsc: read failed\n"),
-        ((1, 6), 100, 5, "thread"),
-        ((2, 0), 100, 5, "thread 0 stop exit 0 steps 3 out 0\n"),
-        ((9, 0), 0, 5, ""),
-    ];
-    for (failing, space, status, text) in cases {
-        let file = bytes_of(rt.alloc(), LEAVE)?;
-        let (ended, host) = called(&rt, "solo --flat p", file, &[failing], space)?;
-        assert_eq!(rt; ended, status, "for {text}");
-        assert_eq!(rt; host.written(), text.as_bytes());
-    }
+    fail_all(&rt, FAILURES)?;
+
+    // a write fails for want of space
+    let file = bytes_of(rt.alloc(), LEAVE)?;
+    let (status, written) = called(&rt, "solo --flat p", file, &[(9, 0)], 0)?;
+    same(&rt, (status, written.as_slice()), (5, b"".as_slice()));
     Ok(())
 }
