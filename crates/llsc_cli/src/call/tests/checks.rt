@@ -208,7 +208,7 @@ fn refuses_records(rt: HostRuntime) -> Result<(), Fail> {
     check_all(&rt, REFUSED)
 }
 
-/// Calls whose files can't be read or whose text can't be written, in the order in which that shows.
+/// Calls whose files can't be read, or whose text can't be written.
 const FAILURES: &[(&str, Failing, u8, &str)] = &[
     ("check --flat q r", (9, 0), 3, "llsc: read failed\n"),
     ("check --flat p q", (9, 0), 3, "llsc: read failed\n"),

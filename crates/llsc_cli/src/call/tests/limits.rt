@@ -29,8 +29,8 @@ fn word_at(file: &[u8], at: usize) -> Option<u32> {
     Some(u32::from_le_bytes(*bytes.first_chunk()?))
 }
 
-/// Texts of so many instructions, where their data begin, and the word that moves their label, which stands behind a byte and
-/// a space: a full page is left at its end and not before.
+/// How many instructions a text has, where its data begin, and the word that moves its label, which stands behind a byte and a
+/// space: a full page is left at its end and not before.
 const PAGES: &[(u32, u32, u32)] = &[
     (1022, 0x2000, 0xe302_0004),
     (1023, 0x2000, 0xe302_0004),

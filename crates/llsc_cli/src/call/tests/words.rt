@@ -102,7 +102,7 @@ fn refuses_words(rt: HostRuntime) -> Result<(), Fail> {
     Ok(())
 }
 
-/// The read fails, the first write of the report, and the second one.
+/// Calls whose read fails, the first write of their report, or the second one.
 const FAILURES: &[(Failing, Case)] = &[
     (
         (0, 0),
