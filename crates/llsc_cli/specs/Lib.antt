@@ -8,6 +8,7 @@ pub mod Assembly
 pub mod Disassembly
 pub mod Trace
 pub mod Run
+pub mod Exclusives
 pub mod Check
 pub mod Answer
 pub mod Reads

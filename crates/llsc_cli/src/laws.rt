@@ -15,6 +15,7 @@ ghost use Rattle.guest_machine.specs.Traces.{IsTraceRecord};
 ghost use Rattle.guest_machine.specs.Turns.{IsTrace};
 ghost use Rattle.run_checker.specs.Verdict.{Judges};
 ghost use Rattle.llsc_cli.specs.Answer.{Answers};
+ghost use Rattle.llsc_cli.specs.Exclusives.{AreStoresExact};
 ghost use Rattle.llsc_cli.specs.Programs.{image_of};
 ghost use Rattle.llsc_cli.specs.Report.{report_of};
 ghost use Rattle.llsc_cli.specs.Run.{AnswersRun};
@@ -37,6 +38,14 @@ pub fn runs_have_one_history()
         AnswersRun format size budget file story status text → (status ≡ 0) ⊎ (status ≡ 1) →
         (history : List Entry) × (ends : List GuestEnd)
         × ((story ≡ Some history) × (IsOutcome (image_of format file size) size budget history ends × (text ≡ report_of budget ends))) }
+{}
+
+/// In the one history of a run, as in that of every outcome of guest threads, each store-exclusive that succeeded was undisturbed:
+/// the last load-exclusive of its thread read the same row, and nobody has written in that row since, whatever the value. And each
+/// that failed has its cause.
+pub fn store_exclusives_are_exact()
+    ensures { (program : Program) (size : Numbers) (budget : ℕ) (history : List Entry) (ends : List GuestEnd) →
+        IsOutcome program size budget history ends → AreStoresExact size program.bytes history }
 {}
 
 /// The record of a trace is good.
