@@ -4,7 +4,7 @@ use Rattle.std.proofs.lemmas.List.Elements.{recursion_from_All}
 use Rattle.history.specs.declared.entry.Entry.{Entry}
 use Rattle.hst_memory.specs.declared.passes.HstStory.{HstStory}
 use Rattle.llsc_cli.specs.Host.{AreBytes, Adds}
-use Rattle.llsc_words.specs.Request.{Request, Solo, Run, Assemble, Disassemble, Trace, Check, files_of}
+use Rattle.llsc_words.specs.Request.{Request, Solo, Run, Assemble, Disassemble, Trace, Check, Load, files_of}
 use Rattle.llsc_cli.specs.Answer.{Answers, AreFiles, AreTold, IsDue, IsNoneOf}
 use Rattle.llsc_cli.specs.Reads.{CallEnds, EndsAsked}
 use Rattle.llsc_cli.specs.Run.{told}
@@ -51,6 +51,7 @@ due_named held (Trace file format threads mem granule seed budget) name none due
 due_named held (Check file recorded format mem) name none (inl is) = not_first name file (recorded ∷ []) none is
 due_named held (Check file recorded format mem) name none (inr due) =
     (recursion_from_All (λ x. name ≢ x) (file ∷ recorded ∷ []) none).1.0 due.0
+due_named held (Load seed threads rounds budget) name none due = due
 
 -- a request whose files are told is answered, where no write failed and no read of its files
 pub told_answered : {R : Type 0} (held : List ℕ → Option (List ℕ)) (asked : Request) (files : List (List ℕ)) (lost : List ℕ) (story : Option (List Entry)) (old new : Option (List ℕ)) (status : ℕ)

@@ -9,7 +9,11 @@ pub mod Paging
 pub mod SoloAnswers
 pub mod Streams
 pub mod Sums
+pub mod Finished
 pub mod RunAnswers
+pub mod Counted
+pub mod Left
+pub mod LoadAnswers
 pub mod TraceAnswers
 pub mod Asked
 pub mod Kept

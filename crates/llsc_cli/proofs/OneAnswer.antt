@@ -20,11 +20,13 @@ use Rattle.llsc_cli.specs.Programs.{image_of, program_refusal}
 use Rattle.llsc_cli.specs.Refusals.{Answer, machine_of, solo_size, Unless}
 use Rattle.llsc_cli.specs.Report.{report_of}
 use Rattle.llsc_cli.specs.Run.{ReportsRun, UnlessRun}
+use Rattle.llsc_cli.specs.Beside.{left_by}
+use Rattle.llsc_cli.specs.Load.{TellsLoad, load_program, load_refusal, load_size, load_text}
 use Rattle.llsc_cli.specs.Assembly.{asm_answer}
 use Rattle.llsc_cli.specs.Disassembly.{dis_answer}
 use Rattle.llsc_cli.specs.Trace.{status_of, status_of_all, IsRecorded, Traces}
 use Rattle.llsc_cli.specs.Check.{files_refusal, verdict_status, verdict_text, IsJudged, JudgesRead}
-use Rattle.llsc_words.specs.Request.{Request, Solo, Run, Assemble, Disassemble, Trace, Check}
+use Rattle.llsc_words.specs.Request.{Request, Solo, Run, Assemble, Disassemble, Trace, Check, Load}
 use Rattle.llsc_cli.specs.Answer.{Answers, Is, IsReported}
 
 -- answers have one status and one text
@@ -96,6 +98,17 @@ run_one program size budget (Some history) status other text more a b =
     let ends : a.0 ≡ b.0 = one_list_on program size budget history a.0 b.0 a.1.0.ends b.1.0.ends in
     (a.1.1.1.0 ∙ ap status_of_all ends ∙ sym b.1.1.1.0, a.1.1.1.1 ∙ ap (report_of budget) ends ∙ sym b.1.1.1.1)
 
+-- a load, by its history
+load_one : (seed threads rounds budget : ℕ) (story : Option (List Entry)) → AreOne (TellsLoad story seed threads rounds budget)
+load_one seed threads rounds budget None status other text more a b = absurd a
+load_one seed threads rounds budget (Some history) status other text more a b =
+    let program = load_program seed threads rounds in
+    let size = load_size threads in
+    let ends : a.0 ≡ b.0 = one_list_on program size budget history a.0 b.0 a.1.0.ends b.1.0.ends in (
+      a.1.1.1.0 ∙ ap status_of_all ends ∙ sym b.1.1.1.0,
+      a.1.1.1.1 ∙ ap (load_text seed threads rounds budget (left_by program size history)) ends ∙ sym b.1.1.1.1,
+    )
+
 unless_run_one : (against : Option (List ℕ)) (story : Option (List Entry)) (answers : ℕ → List ℕ → Type 0) → AreOne answers → AreOne (UnlessRun against story answers)
 unless_run_one (Some name) story answers one status other text more a b = (a.1.0 ∙ sym b.1.0, a.1.1 ∙ sym b.1.1)
 unless_run_one None story answers one status other text more a b = one status other text more a b
@@ -117,6 +130,9 @@ answers_one (Trace name format threads mem granule seed budget) (file ∷ []) st
     untold_one (unless_one (Traces (image_of format file size) size seed budget) (program_refusal format size file) (trace_one (image_of format file size) size seed budget))
 answers_one (Check name second format mem) (file ∷ recorded ∷ []) story =
     untold_one (unless_one (JudgesRead format mem file (record_of recorded)) (files_refusal file recorded) (read_one format mem file (record_of recorded)))
+answers_one (Load seed threads rounds budget) [] story =
+    unless_run_one (load_refusal threads rounds) story (TellsLoad story seed threads rounds budget) (load_one seed threads rounds budget story)
+answers_one (Load seed threads rounds budget) (first ∷ rest) story = λ status other text more a b. absurd a
 answers_one (Solo name format mem budget) [] story = λ status other text more a b. absurd a
 answers_one (Solo name format mem budget) (first ∷ second ∷ rest) story = λ status other text more a b. absurd a
 answers_one (Run name format size budget) [] story = λ status other text more a b. absurd a

@@ -1,62 +1,27 @@
 -- What a run is answered with.
-use Rattle.std.proofs.Common.{◌≡◌, ◌⊎◌, inl, inr, ℕ, ◌*◌, ◌<◌, ◌≤◌, ◌^◌, Bool, true, false, All, List, Option, Some, None, length, arith, refl, sym, subst}
-use Rattle.std.specs.List.{sum_by}
-use Rattle.std.proofs.lemmas.List.Elements.{All-weaker}
-use Rattle.std.proofs.lemmas.List.Sums.{sum_by-le}
+use Rattle.std.proofs.Common.{◌≡◌, ◌⊎◌, inl, inr, ℕ, List, Option, Some, None, refl, sym, subst}
 use Rattle.llsc_base.specs.Images.{Program}
 use Rattle.llsc_base.specs.Sizes.{Numbers}
-use Rattle.a32_instr.specs.declared.outside.Stop.TheVariants.{TagLimit}
-use Rattle.history.specs.Legal.{IsComplete, IsLegal}
 use Rattle.history.specs.declared.entry.Entry.{Entry}
-use Rattle.guest_thread.specs.Counting.{accesses_counted, counts_in}
-use Rattle.guest_thread.specs.Outcome.{AreEndsOn, IsOutcome}
+use Rattle.guest_thread.specs.Outcome.{IsOutcome}
 use Rattle.guest_thread.specs.declared.ends.GuestEnd.{GuestEnd}
 use Rattle.llsc_words.specs.declared.formats.Format.{Format}
+use Rattle.llsc_cli.specs.Beside.{Ran}
 use Rattle.llsc_cli.specs.Programs.{image_of, program_refusal}
 use Rattle.llsc_cli.specs.Refusals.{Refuses}
-use Rattle.llsc_cli.specs.Report.{HasSums, report_of}
-use Rattle.llsc_cli.specs.Run.{AnswersRun, AreUnlimited, IsReportOf, ReportsRun, UnlessRun}
+use Rattle.llsc_cli.specs.Report.{report_of}
+use Rattle.llsc_cli.specs.Run.{AnswersRun, IsReportOf, ReportsRun, UnlessRun}
 use Rattle.llsc_cli.specs.Trace.{status_of_all}
-
--- ---- the ends
-
--- a memory that refuses no store stops no thread
-pub unlimited : (spends : Bool) (ends : List GuestEnd) → spends ≡ false → All (λ (end : GuestEnd). (addr : ℕ) → end.stop ≡ TagLimit addr → spends ≡ true) ends → AreUnlimited ends
-unlimited spends ends none all =
-    All-weaker (λ (end : GuestEnd). (addr : ℕ) → end.stop ≡ TagLimit addr → spends ≡ true) (λ (end : GuestEnd). (addr : ℕ) → end.stop ≡ TagLimit addr → ⊥)
-    (λ end one addr is. cc (none, one addr is)) ends all
-
--- the counts of 16 threads are small
-few_of : (end : GuestEnd) → accesses_counted (counts_in end) < 2 ^ 45 → (end.reads ≤ 2 ^ 45) × (end.writes ≤ 2 ^ 45) × (end.fails ≤ 2 ^ 45)
-few_of end few = (omega (arith, few), omega (arith, few), omega (arith, few))
-
-small : (n total : ℕ) → total ≤ n * 2 ^ 45 → n ≤ 16 → total < 2 ^ 64
-small n total most few = omega (arith, most, few)
-
-pub sums : (ends : List GuestEnd) → All (λ (end : GuestEnd). accesses_counted (counts_in end) < 2 ^ 45) ends → length ends ≤ 16 → HasSums ends
-sums ends all few = record {
-  reads = small (length ends) (sum_by (λ (end : GuestEnd). end.reads) ends) (sum_by-le (λ (end : GuestEnd). end.reads) (2 ^ 45) ends (All-weaker (λ (end : GuestEnd). accesses_counted (counts_in end) < 2 ^ 45) (λ (end : GuestEnd). end.reads ≤ 2 ^ 45) (λ end one. (few_of end one).0) ends all)) few;
-  writes = small (length ends) (sum_by (λ (end : GuestEnd). end.writes) ends) (sum_by-le (λ (end : GuestEnd). end.writes) (2 ^ 45) ends (All-weaker (λ (end : GuestEnd). accesses_counted (counts_in end) < 2 ^ 45) (λ (end : GuestEnd). end.writes ≤ 2 ^ 45) (λ end one. (few_of end one).1) ends all)) few;
-  fails = small (length ends) (sum_by (λ (end : GuestEnd). end.fails) ends) (sum_by-le (λ (end : GuestEnd). end.fails) (2 ^ 45) ends (All-weaker (λ (end : GuestEnd). accesses_counted (counts_in end) < 2 ^ 45) (λ (end : GuestEnd). end.fails ≤ 2 ^ 45) (λ end one. (few_of end one).2) ends all)) few;
-}
 
 -- ---- the report
 
-pub reported : (program : Program) (size : Numbers) (budget : ℕ) (bytes : List ℕ) (history seen : List Entry) (ends : List GuestEnd)
-    → history ≡ seen → bytes ≡ program.bytes → IsLegal size bytes seen → IsComplete seen → AreEndsOn program size budget seen ends → AreUnlimited ends
-    → IsReportOf history program size budget (status_of_all ends) (report_of budget ends)
-reported program size budget bytes history seen ends same begins legal complete are free = (
-  ends,
-  (
-    subst (λ h. IsOutcome program size budget h ends) (sym same)
-        (record { legal = subst (λ b. IsLegal size b seen) begins legal; complete = complete; ends = are }),
-    (free, (refl, refl)),
-  ),
-)
+pub reported : (program : Program) (size : Numbers) (budget : ℕ) (history : List Entry) (ends : List GuestEnd) (cells : List ℕ)
+    → Ran program size budget history ends cells → IsReportOf history program size budget (status_of_all ends) (report_of budget ends)
+reported program size budget history ends cells ran = (ends, (ran.outcome, (ran.free, (refl, refl))))
 
 -- ---- the answer
 
-run_refused_by : (against : Option (List ℕ)) (story : Option (List Entry)) (answers : ℕ → List ℕ → Type 0) (name : List ℕ) (status : ℕ) (text : List ℕ)
+pub run_refused_by : (against : Option (List ℕ)) (story : Option (List Entry)) (answers : ℕ → List ℕ → Type 0) (name : List ℕ) (status : ℕ) (text : List ℕ)
     → against ≡ Some name → UnlessRun (Some name) story answers status text → UnlessRun against story answers status text
 run_refused_by against story answers name status text is stands = subst (λ a. UnlessRun a story answers status text) (sym is) stands
 

@@ -8,12 +8,13 @@ use Rattle.guest_machine.specs.Alone.{IsSoloEnd}
 use Rattle.llsc_words.specs.declared.formats.Format.{Format}
 use Rattle.llsc_cli.specs.Report.{report_of}
 use Rattle.llsc_cli.specs.Host.{Rose, AreBytes, AddsFront}
-use Rattle.llsc_words.specs.Request.{Request, Solo, Run, Assemble, Disassemble, Trace, Check, files_of}
+use Rattle.llsc_words.specs.Request.{Request, Solo, Run, Assemble, Disassemble, Trace, Check, Load, files_of}
 use Rattle.llsc_cli.specs.Assembly.{asm_answer}
 use Rattle.llsc_cli.specs.Disassembly.{dis_answer}
 use Rattle.llsc_cli.specs.Run.{AnswersRun}
 use Rattle.llsc_cli.specs.Trace.{status_of, AnswersTrace}
 use Rattle.llsc_cli.specs.Check.{AnswersCheck}
+use Rattle.llsc_cli.specs.Load.{AnswersLoad}
 use Rattle.llsc_cli.specs.Refusals.{Answer, words_text, read_text, machine_of, most_program, solo_size, size_refusal, too_long, Unless}
 use Rattle.llsc_cli.specs.Programs.{image_of, program_refusal}
 
@@ -47,11 +48,13 @@ Answers (Assemble name format) (file ∷ []) story status text = (story ≡ None
 Answers (Disassemble name format mem) (file ∷ []) story status text = (story ≡ None) × AnswersDis format mem file status text
 Answers (Trace name format threads mem granule seed budget) (file ∷ []) story status text = (story ≡ None) × AnswersTrace format threads mem granule seed budget file status text
 Answers (Check name other format mem) (file ∷ recorded ∷ []) story status text = (story ≡ None) × AnswersCheck format mem file recorded status text
+Answers (Load seed threads rounds budget) [] story status text = AnswersLoad seed threads rounds budget story status text
 Answers _ _ story status text = ⊥
 
 -- it runs no threads beside each other
 abbrev pub IsAlone : Request → Type 0
 IsAlone (Run name format size budget) = ⊥
+IsAlone (Load seed threads rounds budget) = ⊥
 IsAlone _ = Unit {0}
 
 -- these are bytes that the files of these names may hold, one for each
@@ -79,6 +82,7 @@ IsDue held (Disassemble file format mem) name = (name ≡ file) × (size_refusal
 IsDue held (Trace file format threads mem granule seed budget) name = (name ≡ file) × (size_refusal (machine_of threads mem granule) ≡ None)
 IsDue held (Check file recorded format mem) name =
     (name ≡ file) ⊎ ((name ≡ recorded) × ((bytes : List ℕ) × (AreBytes (held file) bytes × (too_long most_program bytes ≡ None))))
+IsDue held (Load seed threads rounds budget) name = ⊥
 
 -- the statuses of an answer that was given whole
 abbrev pub IsDone : ℕ → Type 0

@@ -9,6 +9,8 @@ pub mod Disassembly
 pub mod Trace
 pub mod Run
 pub mod Exclusives
+pub mod Beside
+pub mod Load
 pub mod Check
 pub mod Answer
 pub mod Reads

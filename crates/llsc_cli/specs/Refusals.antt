@@ -2,7 +2,6 @@
 use Rattle.std.specs.Prelude.{◌≡◌, ℕ, ◌^◌, nat_lt, if◌then◌else◌, List, ◌++◌, length, Option, Some, None, codes}
 use Rattle.std.specs.Option.{option_map}
 use Rattle.llsc_base.specs.Sizes.{Numbers, numbers, size_fault, size_fault_name}
-use Rattle.llsc_cli.specs.declared.files.MachineNumbers.{MachineNumbers}
 
 -- the text for words that ask for nothing that there is
 abbrev pub words_text : List ℕ
@@ -33,10 +32,6 @@ unless None answer = answer
 -- the most bytes of a program file
 abbrev pub most_program : ℕ
 most_program = 33554432
-
--- the machine of these numbers
-abbrev pub machine_by : MachineNumbers → Numbers
-machine_by n = record (numbers n.mem n.threads n.classes n.limit) { granule = n.granule }
 
 -- the machine of so many threads with so much memory and rows of this granule: 4096 classes, and writes without a bound that
 -- a run could reach

@@ -2,7 +2,7 @@
 use Rattle.std.specs.Prelude.{◌≡◌, ◌≢◌, ℕ, All, List, Option, Some, None}
 use Rattle.std.specs.Option.{option_map}
 use Rattle.llsc_base.specs.Images.{Program}
-use Rattle.llsc_base.specs.Sizes.{Numbers, numbers}
+use Rattle.llsc_base.specs.Sizes.{Numbers}
 use Rattle.a32_instr.specs.declared.outside.Stop.TheVariants.{TagLimit}
 use Rattle.history.specs.declared.entry.Entry.{Entry}
 use Rattle.hst_memory.specs.declared.passes.HstStory.{HstStory}
@@ -10,15 +10,10 @@ use Rattle.hst_memory.specs.Memory.{story_history}
 use Rattle.guest_thread.specs.Outcome.{IsOutcome}
 use Rattle.guest_thread.specs.declared.ends.GuestEnd.{GuestEnd}
 use Rattle.llsc_words.specs.declared.formats.Format.{Format}
-use Rattle.llsc_words.specs.declared.requests.RunNumbers.{RunNumbers}
 use Rattle.llsc_cli.specs.Programs.{image_of, program_refusal}
 use Rattle.llsc_cli.specs.Refusals.{refusal_text}
 use Rattle.llsc_cli.specs.Report.{report_of}
 use Rattle.llsc_cli.specs.Trace.{status_of_all}
-
--- the machine of a run's numbers
-abbrev pub run_size : RunNumbers → Numbers
-run_size n = record (numbers n.mem n.threads n.classes n.limit) { granule = n.granule }
 
 -- the history that a story has, where there is one
 abbrev pub told : Option HstStory → Option (List Entry)

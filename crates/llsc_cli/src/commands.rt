@@ -9,6 +9,7 @@ ghost use Rattle.llsc_cli.specs.Run.{told};
 mod asm;
 mod check;
 mod dis;
+mod load;
 mod run;
 mod solo;
 mod trace;
@@ -52,7 +53,7 @@ fn answer_alone<H: Host>(alloc: Global, host: &mut H, request: Request<'_>) -> S
             format,
             mem,
         } => check::answer(alloc, host, file, recorded, format, mem),
-        Request::Run { .. } => unreachable!(),
+        Request::Run { .. } | Request::Load { .. } => unreachable!(),
     }
 }
 
@@ -78,6 +79,7 @@ pub fn answer<H: Host, R: Threads + Wait + Sync>(
             format,
             numbers,
         } => run::answer(rt, alloc, host, file, format, numbers),
+        Request::Load { numbers } => load::answer(rt, alloc, host, numbers),
         Request::Solo { .. }
         | Request::Assemble { .. }
         | Request::Disassemble { .. }

@@ -2,7 +2,8 @@
 ghost use Rattle.std.specs.Prelude.{◌≡◌, ◌≢◌, codes, ◌<◌, ◌≤◌, ◌⊎◌, List, ℕ, None, Some, IfOk, OnOk, IfErr, OnErr, IsTrue, MatchResult, length};
 ghost use Rattle.llsc_base.specs.Sizes.{size_fault};
 ghost use Rattle.llsc_cli.specs.Host.{Adds, AddsFront, AreBytes, KeepsReads, KeepsWrites, Rose};
-ghost use Rattle.llsc_cli.specs.Refusals.{machine_by, read_text, refusal_text, too_long, most_program, size_refusal, Refusal, Refuses};
+ghost use Rattle.llsc_words.specs.Request.{machine_by};
+ghost use Rattle.llsc_cli.specs.Refusals.{read_text, refusal_text, too_long, most_program, size_refusal, Refusal, Refuses};
 ghost use Rattle.llsc_cli.specs.Programs.{program_fault_name, image_of, is_wanting, program_refusal, refusal_on};
 ghost use Rattle.llsc_cli.specs.Reads.{Answered, CutAfter, CallEnds};
 
@@ -10,7 +11,7 @@ use crate::host::{Host, ReadFault};
 use crate::programs::{ProgramFault, image_of};
 use crate::said::{Said, out_of_memory, refuse, say};
 use llsc_base::{Image, MachineSize, SizeFault};
-use llsc_words::Format;
+use llsc_words::{Format, MachineNumbers};
 use std::alloc::Global;
 
 /// The most bytes of a program file.
@@ -24,21 +25,6 @@ pub const CLASSES: u64 = 4096;
 
 /// The most writes of a class.
 pub const MOST_WRITES: u64 = 1 << 62;
-
-/// The numbers of a machine, in their ranges or not.
-#[derive(Clone, Copy)]
-pub struct MachineNumbers {
-    /// The guest threads.
-    pub threads: u64,
-    /// The bytes of memory.
-    pub mem: u64,
-    /// The number of the granule, by which rows have their width.
-    pub granule: u64,
-    /// The classes of rows.
-    pub classes: u64,
-    /// The most writes of a class.
-    pub limit: u64,
-}
 
 /// Answers for a file that was not had.
 fn refuse_read<H: Host>(host: &mut H, fault: ReadFault) -> Said

@@ -15,7 +15,9 @@ ghost use Rattle.guest_machine.specs.Traces.{IsTraceRecord};
 ghost use Rattle.guest_machine.specs.Turns.{IsTrace};
 ghost use Rattle.run_checker.specs.Verdict.{Judges};
 ghost use Rattle.llsc_cli.specs.Answer.{Answers};
+ghost use Rattle.llsc_cli.specs.Beside.{left_by};
 ghost use Rattle.llsc_cli.specs.Exclusives.{AreStoresExact};
+ghost use Rattle.llsc_cli.specs.Load.{AnswersLoad, load_program, load_size, load_text};
 ghost use Rattle.llsc_cli.specs.Programs.{image_of};
 ghost use Rattle.llsc_cli.specs.Report.{report_of};
 ghost use Rattle.llsc_cli.specs.Run.{AnswersRun};
@@ -40,9 +42,21 @@ pub fn runs_have_one_history()
         × ((story ≡ Some history) × (IsOutcome (image_of format file size) size budget history ends × (text ≡ report_of budget ends))) }
 {}
 
-/// In the one history of a run, as in that of every outcome of guest threads, each store-exclusive that succeeded was undisturbed:
-/// the last load-exclusive of its thread read the same row, and nobody has written in that row since, whatever the value. And each
-/// that failed has its cause.
+/// What a load prints, where its status is 0 or 1, is by an outcome of its guest's threads: by one history, legal and complete, from
+/// the guest's memory on, that goes with the answer. It is the summary of the memory that this history leaves, where each thread
+/// left with code 0, and the report of the ends else.
+pub fn loads_have_one_history()
+    ensures { (seed threads rounds budget : ℕ) (story : Option (List Entry)) (status : ℕ) (text : List ℕ) →
+        AnswersLoad seed threads rounds budget story status text → (status ≡ 0) ⊎ (status ≡ 1) →
+        let program = load_program seed threads rounds in
+        let size = load_size threads in
+        (history : List Entry) × (ends : List GuestEnd)
+        × ((story ≡ Some history) × (IsOutcome program size budget history ends
+        × (text ≡ load_text seed threads rounds budget (left_by program size history) ends))) }
+{}
+
+/// In the one history of a run or of a load each store-exclusive that succeeded was undisturbed: the last load-exclusive of its
+/// thread read the same row, and nobody has written in that row since, whatever the value. And each that failed has its cause.
 pub fn store_exclusives_are_exact()
     ensures { (program : Program) (size : Numbers) (budget : ℕ) (history : List Entry) (ends : List GuestEnd) →
         IsOutcome program size budget history ends → AreStoresExact size program.bytes history }

@@ -5,6 +5,7 @@
 //! `real_host` as the program runs and by `memory_host` in tests.
 #![tactic(auto)]
 
+mod beside;
 mod call;
 mod commands;
 mod ended;
@@ -17,6 +18,7 @@ mod programs;
 mod real_host;
 mod report;
 mod said;
+mod summary;
 pub mod worked;
 
 use crate::call::llsc;

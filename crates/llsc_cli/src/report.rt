@@ -1,12 +1,14 @@
 //! The report of a run: of each thread a line and its output, and a line of the counts of all.
-ghost use Rattle.std.specs.Prelude.{◌≡◌, ◌≤◌, ◌+◌, ◌++◌, codes, length, OnOk, OnErr};
+ghost use Rattle.std.specs.Prelude.{◌≡◌, ◌≢◌, ◌≤◌, ◌+◌, ◌++◌, ◌⊎◌, codes, length, OnOk, OnErr};
 ghost use Rattle.std.specs.Fmt.{decimal};
 ghost use Rattle.number_text.specs.Hexadecimal.{word_text};
 ghost use Rattle.llsc_cli.specs.Host.{Adds, AddsFront, KeepsReads, Rose};
 ghost use Rattle.std.specs.List.{flat_map, sum_by};
 ghost use Rattle.llsc_cli.specs.Report.{HasSums, head_line, last_line, report_of, stop_text, thread_text};
+ghost use Rattle.llsc_cli.specs.Trace.{status_of_all};
 
 use crate::host::{Failed, Host};
+use crate::said::{Said, status_of_all};
 use a32_step::Stop;
 use guest_thread::{Counts, GuestEnd};
 use llsc_base::Line;
@@ -23,7 +25,7 @@ fn write_short(line: &mut Line, name: &str, number: u32)
 }
 
 /// Adds a name and a number at the end of a line.
-fn write_count(line: &mut Line, name: &str, number: u64)
+pub fn write_count(line: &mut Line, name: &str, number: u64)
     requires room { length line.old + (length name.now + 20) ≤ 96 }
     ensures text { line.new ≡ line.old ++ (name.now ++ decimal number) }
     ensures most { length line.new ≤ length line.old + (length name.now + 20) }
@@ -180,4 +182,22 @@ pub fn write_report<H: Host>(host: &mut H, budget: u64, ends: &[GuestEnd]) -> Re
     let last = last_line(ends);
     host.write(last.bytes())?;
     Ok(())
+}
+
+/// Writes the report of the threads' ends, and ends with 0 where each left by an exit call with code 0, else with 1, or with 5 where
+/// a write failed.
+pub fn say_report<H: Host>(host: &mut H, budget: u64, ends: &[GuestEnd]) -> Said
+    requires { HasSums ends.now }
+    ensures ended { (result.status ≡ status_of_all ends.now) ⊎ ((result.status ≡ 5) ⊎ (result.status ≡ 6)) }
+    ensures said { result.status ≡ status_of_all ends.now → Adds (H.written host.old) (H.written host.new) (report_of budget ends.now) }
+    ensures cut { result.status ≡ 5 → Rose (H.write_faults host.old) (H.write_faults host.new) × AddsFront (H.written host.old) (H.written host.new) (report_of budget ends.now) }
+    ensures memory { result.status ≢ 6 }
+    ensures write_answered { result.status ≢ 5 → H.write_faults host.new ≡ H.write_faults host.old }
+    ensures reads { KeepsReads (H.file host.old) (H.file host.new) (H.read_faults host.old) (H.read_faults host.new) (H.lost host.old) (H.lost host.new) }
+{
+    let status = status_of_all(ends);
+    match write_report(host, budget, ends) {
+        Ok(()) => Said { status },
+        Err(_) => Said { status: 5 },
+    }
 }

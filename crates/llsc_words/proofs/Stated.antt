@@ -3,7 +3,7 @@ use Rattle.std.specs.Prelude.{◌≡◌, true}
 use Rattle.std.proofs.Common.{refl, subst, sym}
 use Rattle.clap.specs.Words.{App, is_simple_and_free}
 use Rattle.clap.proofs.OnLiterals.{clap_on_literals}
-use Rattle.llsc_words.specs.Commands.{asm_app, check_app, dis_app, run_app, solo_app, trace_app, IsStated}
+use Rattle.llsc_words.specs.Commands.{asm_app, check_app, dis_app, load_app, run_app, solo_app, trace_app, IsStated}
 
 pub simple_and_free : (app : App) → IsStated app → is_simple_and_free app ≡ true
 unfolding IsStated
@@ -54,3 +54,10 @@ check_simple = refl
 
 pub check_stated : (app : App) → app ≡ check_app → IsStated app
 check_stated app is = stated_as app check_app is check_simple
+
+load_simple : is_simple_and_free load_app ≡ true
+unfolding load_app clap_on_literals
+load_simple = refl
+
+pub load_stated : (app : App) → app ≡ load_app → IsStated app
+load_stated app is = stated_as app load_app is load_simple

@@ -11,9 +11,9 @@ option_rule name = record (new_rule name) { long = Some name }
 abbrev pub flag_rule : Text → Rule
 flag_rule name = record (new_rule name) { long = Some name; action = Some SetTrue }
 
--- a file, which has to be there
-abbrev pub file_rule : Text → Rule
-file_rule name = record (new_rule name) { required = true }
+-- a file or a number that stands by itself, and has to be there
+abbrev pub positional_rule : Text → Rule
+positional_rule name = record (new_rule name) { required = true }
 
 -- a command with nothing behind it: not even a call for help is read
 abbrev pub plain_app : Text → App
@@ -21,7 +21,7 @@ plain_app name = record (new_app name) { top = record (new_app name).top { no_bi
 
 -- the program's file, and whether it is a flat image
 abbrev pub file : Rule
-file = file_rule (codes "FILE")
+file = positional_rule (codes "FILE")
 
 abbrev pub flat : Rule
 flat = flag_rule (codes "flat")
@@ -57,7 +57,13 @@ trace_app = with_rule (with_rule (machine_app (codes "trace")) (option_rule (cod
 -- `check` has FILE, RECORD, `--flat` and `--mem`
 unfoldable pub check_app : App
 check_app =
-    with_rule (with_rule (with_rule (with_rule (plain_app (codes "check")) file) (file_rule (codes "RECORD"))) flat) (option_rule (codes "mem"))
+    with_rule (with_rule (with_rule (with_rule (plain_app (codes "check")) file) (positional_rule (codes "RECORD"))) flat) (option_rule (codes "mem"))
+
+-- `load` has SEED, `--threads`, `--rounds` and `--budget`
+unfoldable pub load_app : App
+load_app =
+    with_rule (with_rule (with_rule (with_rule (plain_app (codes "load")) (positional_rule (codes "SEED"))) (option_rule (codes "threads")))
+    (option_rule (codes "rounds"))) (option_rule (codes "budget"))
 
 -- `clap` states to the letter which words such a command takes, and what it finds in them
 unfoldable pub IsStated : App → Type 0

@@ -9,6 +9,7 @@ use Rattle.llsc_words.specs.declared.given.Given.{Given as Read}
 pub record Given : Type 0 where
   pub file : Option Text
   pub recorded : Option Text
+  pub number : Option Text
   pub flat : Bool
   pub threads : Option Text
   pub mem : Option Text
@@ -16,17 +17,19 @@ pub record Given : Type 0 where
   pub classes : Option Text
   pub limit : Option Text
   pub seed : Option Text
+  pub rounds : Option Text
   pub budget : Option Text
 
 -- a flag is there
 abbrev pub is_true : Option Text → Bool
 is_true value = option_map_or (λ text. bytes_eq text (codes "true")) value false
 
--- what the values are that `clap` found, by the names of the options and the files
+-- what the values are that `clap` found, by the names of the options and of what stands by itself
 abbrev pub given_by : List Row → Given
 given_by rows = record {
   file = first_of (codes "FILE") rows;
   recorded = first_of (codes "RECORD") rows;
+  number = first_of (codes "SEED") rows;
   flat = is_true (first_of (codes "flat") rows);
   threads = first_of (codes "threads") rows;
   mem = first_of (codes "mem") rows;
@@ -34,6 +37,7 @@ given_by rows = record {
   classes = first_of (codes "classes") rows;
   limit = first_of (codes "limit") rows;
   seed = first_of (codes "seed") rows;
+  rounds = first_of (codes "rounds") rows;
   budget = first_of (codes "budget") rows;
 }
 
@@ -51,6 +55,7 @@ abbrev pub seen : Read → Given
 seen read = record {
   file = option_map (λ text. text.now) read.file;
   recorded = option_map (λ text. text.now) read.recorded;
+  number = option_map (λ text. text.now) read.number;
   flat = read.flat;
   threads = option_map (λ text. text.now) read.threads;
   mem = option_map (λ text. text.now) read.mem;
@@ -58,5 +63,6 @@ seen read = record {
   classes = option_map (λ text. text.now) read.classes;
   limit = option_map (λ text. text.now) read.limit;
   seed = option_map (λ text. text.now) read.seed;
+  rounds = option_map (λ text. text.now) read.rounds;
   budget = option_map (λ text. text.now) read.budget;
 }

@@ -9,14 +9,15 @@ use Rattle.llsc_words.specs.declared.formats.Format.{Format}
 use Rattle.llsc_words.specs.declared.formats.Format.TheVariants.{Elf, Flat}
 use Rattle.llsc_words.specs.declared.requests.Request.{Request as Call}
 use Rattle.llsc_words.specs.declared.requests.Request.TheVariants as call
-use Rattle.llsc_words.specs.Commands.{solo_app, run_app, asm_app, dis_app, trace_app, check_app}
+use Rattle.llsc_words.specs.declared.requests.MachineNumbers.{MachineNumbers}
+use Rattle.llsc_words.specs.Commands.{solo_app, run_app, asm_app, dis_app, trace_app, check_app, load_app}
 use Rattle.llsc_words.specs.Given.{Given, given_in}
 
 -- what a call asks for: to run the file of that name, of that format, as one thread, with so many bytes of memory and so
 -- many steps; to run it as all threads of a machine, beside each other; to assemble the text of that name as a file of that
 -- format; to show a file as text, in so many bytes of memory; to run a file as so many guest threads on one host thread, with
--- rows of a granule and in the order that a seed fixes, and to record that; or to check such a record, the second file, against
--- a program
+-- rows of a granule and in the order that a seed fixes, and to record that; to check such a record, the second file, against a
+-- program; or to run the counter guest of a seed, as so many threads of so many rounds each, with so many steps for each
 pub data Request : Type 0 where
   Solo : (file : List ℕ) (format : Format) (mem budget : ℕ) → Request
   Run : (file : List ℕ) (format : Format) (size : Numbers) (budget : ℕ) → Request
@@ -24,6 +25,7 @@ pub data Request : Type 0 where
   Disassemble : (file : List ℕ) (format : Format) (mem : ℕ) → Request
   Trace : (file : List ℕ) (format : Format) (threads mem granule seed budget : ℕ) → Request
   Check : (file recorded : List ℕ) (format : Format) (mem : ℕ) → Request
+  Load : (seed threads rounds budget : ℕ) → Request
 
 -- the names of a request's files, in the order in which they are read
 abbrev pub files_of : Request → List (List ℕ)
@@ -33,6 +35,7 @@ files_of (Assemble file format) = file ∷ []
 files_of (Disassemble file format mem) = file ∷ []
 files_of (Trace file format threads mem granule seed budget) = file ∷ []
 files_of (Check file recorded format mem) = file ∷ recorded ∷ []
+files_of (Load seed threads rounds budget) = []
 
 -- the bytes of memory where none are given
 abbrev pub default_mem : ℕ
@@ -67,6 +70,18 @@ trace_seed = 0
 
 abbrev pub trace_budget : ℕ
 trace_budget = 10000
+
+-- the threads and the rounds of each where none are given for a load
+abbrev pub load_threads : ℕ
+load_threads = 2
+
+abbrev pub load_rounds : ℕ
+load_rounds = 1000
+
+-- the number that a value is, None where it is none or isn't given
+abbrev pub number_in : Option (List ℕ) → Option ℕ
+number_in None = None
+number_in (Some text) = plain_number text
 
 -- the number that an option's value is, None where it is none, and the default where no value is given
 abbrev pub number_or : ℕ → Option (List ℕ) → Option ℕ
@@ -138,6 +153,15 @@ check_by _ _ _ _ = None
 abbrev pub check_for : Given → Option Request
 check_for given = check_by given.file given.recorded (format_of given) (number_or default_mem given.mem)
 
+abbrev pub load_by : (seed threads rounds budget : Option ℕ) → Option Request
+load_by (Some seed) (Some threads) (Some rounds) (Some budget) = Some (Load seed threads rounds budget)
+load_by _ _ _ _ = None
+
+abbrev pub load_for : Given → Option Request
+load_for given =
+    load_by (number_in given.number) (number_or load_threads given.threads) (number_or load_rounds given.rounds)
+    (budget_or default_budget given.budget)
+
 -- what a command asks for with the words behind it
 abbrev pub request_for : List ℕ → List (List ℕ) → Option Request
 request_for command words =
@@ -147,6 +171,7 @@ request_for command words =
     if bytes_eq command (codes "dis") then option_and_then disassemble_for (given_in dis_app words) else
     if bytes_eq command (codes "trace") then option_and_then trace_for (given_in trace_app words) else
     if bytes_eq command (codes "check") then option_and_then check_for (given_in check_app words) else
+    if bytes_eq command (codes "load") then option_and_then load_for (given_in load_app words) else
     None
 
 -- what the words ask for, None where they are refused
@@ -154,18 +179,24 @@ abbrev pub request_of : List (List ℕ) → Option Request
 request_of [] = None
 request_of (command ∷ words) = request_for command words
 
+-- the machine of these numbers
+abbrev pub machine_by : MachineNumbers → Numbers
+machine_by n = record (numbers n.mem n.threads n.classes n.limit) { granule = n.granule }
+
 -- what borrows from the words, as what it is
 abbrev pub asked : Call → Request
 asked (call.Solo file format mem budget) = Solo file.now format mem budget
-asked (call.Run file format n) = Run file.now format (record (numbers n.mem n.threads n.classes n.limit) { granule = n.granule }) n.budget
+asked (call.Run file format n) = Run file.now format (machine_by n.machine) n.budget
 asked (call.Assemble file format) = Assemble file.now format
 asked (call.Disassemble file format mem) = Disassemble file.now format mem
 asked (call.Trace file format numbers) = Trace file.now format numbers.threads numbers.mem numbers.granule numbers.seed numbers.budget
 asked (call.Check file recorded format mem) = Check file.now recorded.now format mem
+asked (call.Load n) = Load n.seed n.threads n.rounds n.budget
 
 -- a request's budget, where it has one, is in its range
 abbrev pub HasBudget : Call → Type 0
 HasBudget (call.Solo file format mem budget) = (1 ≤ budget) × (budget ≤ most_budget)
 HasBudget (call.Run file format numbers) = (1 ≤ numbers.budget) × (numbers.budget ≤ most_budget)
 HasBudget (call.Trace file format numbers) = (1 ≤ numbers.budget) × (numbers.budget ≤ most_budget)
+HasBudget (call.Load numbers) = (1 ≤ numbers.budget) × (numbers.budget ≤ most_budget)
 HasBudget _ = Unit {0}

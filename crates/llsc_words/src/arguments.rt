@@ -1,7 +1,7 @@
 //! The kinds of arguments that a command may have.
 ghost use Rattle.std.specs.Prelude.{◌≡◌, false};
 ghost use Rattle.clap.specs.Words.{app_of, rule_of};
-ghost use Rattle.llsc_words.specs.Commands.{file_rule, flag_rule, option_rule, plain_app};
+ghost use Rattle.llsc_words.specs.Commands.{flag_rule, option_rule, plain_app, positional_rule};
 
 use clap::{Arg, ArgAction, Command};
 use std::alloc::Global;
@@ -22,9 +22,9 @@ pub fn flag<'a>(alloc: Global, name: &'a str) -> Arg<'a>
     Arg::new(alloc, name).long(name).action(ArgAction::SetTrue)
 }
 
-/// A file, which has to be there.
-pub fn file<'a>(alloc: Global, name: &'a str) -> Arg<'a>
-    ensures rule { rule_of result ≡ file_rule name.entry.now }
+/// A file or a number that stands by itself, and has to be there.
+pub fn positional<'a>(alloc: Global, name: &'a str) -> Arg<'a>
+    ensures rule { rule_of result ≡ positional_rule name.entry.now }
     ensures local { result.global ≡ false }
 {
     Arg::new(alloc, name).required(true)

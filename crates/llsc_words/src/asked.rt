@@ -2,12 +2,12 @@
 ghost use Rattle.std.specs.Prelude.{◌≡◌, IfSome};
 ghost use Rattle.std.specs.Option.{option_map};
 ghost use Rattle.llsc_words.specs.Given.{seen};
-ghost use Rattle.llsc_words.specs.Request.{asked, assemble_for, check_for, disassemble_for, format_of, run_for, solo_for, trace_for, HasBudget};
+ghost use Rattle.llsc_words.specs.Request.{asked, assemble_for, check_for, disassemble_for, format_of, load_for, run_for, solo_for, trace_for, HasBudget};
 
 use crate::formats::Format;
 use crate::given::Given;
-use crate::numbers::{budget_or, number_or};
-use crate::requests::{Request, RunNumbers, TraceNumbers};
+use crate::numbers::{budget_or, number_in, number_or};
+use crate::requests::{LoadNumbers, MachineNumbers, Request, RunNumbers, TraceNumbers};
 
 /// The bytes of memory where none are given.
 const MEM: u64 = 1_048_576;
@@ -38,6 +38,12 @@ const TRACE_SEED: u64 = 0;
 
 /// The steps of a thread of a trace where no budget is given.
 const TRACE_BUDGET: u64 = 10_000;
+
+/// The threads of a load where none are given.
+const LOAD_THREADS: u64 = 2;
+
+/// The rounds of each thread of a load where none are given.
+const LOAD_ROUNDS: u64 = 1000;
 
 impl Given<'_> {
     /// The format of the file.
@@ -73,11 +79,13 @@ pub fn run(given: Given<'_>) -> Option<Request<'_>>
         file: given.file?,
         format: given.format(),
         numbers: RunNumbers {
-            threads: number_or(RUN_THREADS, given.threads)?,
-            mem: number_or(MEM, given.mem)?,
-            granule: number_or(RUN_GRANULE, given.granule)?,
-            classes: number_or(RUN_CLASSES, given.classes)?,
-            limit: number_or(RUN_LIMIT, given.limit)?,
+            machine: MachineNumbers {
+                threads: number_or(RUN_THREADS, given.threads)?,
+                mem: number_or(MEM, given.mem)?,
+                granule: number_or(RUN_GRANULE, given.granule)?,
+                classes: number_or(RUN_CLASSES, given.classes)?,
+                limit: number_or(RUN_LIMIT, given.limit)?,
+            },
             budget: budget_or(BUDGET, given.budget)?,
         },
     })
@@ -134,5 +142,20 @@ pub fn check(given: Given<'_>) -> Option<Request<'_>>
         recorded: given.recorded?,
         format: given.format(),
         mem: number_or(MEM, given.mem)?,
+    })
+}
+
+/// What `load` asks for.
+pub fn load(given: Given<'_>) -> Option<Request<'_>>
+    ensures request { option_map asked result ≡ load_for (seen given.entry) }
+    ensures budget { IfSome result HasBudget }
+{
+    Some(Request::Load {
+        numbers: LoadNumbers {
+            seed: number_in(given.number)?,
+            threads: number_or(LOAD_THREADS, given.threads)?,
+            rounds: number_or(LOAD_ROUNDS, given.rounds)?,
+            budget: budget_or(BUDGET, given.budget)?,
+        },
     })
 }

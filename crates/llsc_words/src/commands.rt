@@ -1,9 +1,9 @@
 //! The commands, each with its options and files.
 ghost use Rattle.std.specs.Prelude.{◌≡◌, IfOk, codes};
 ghost use Rattle.clap.specs.Words.{app_of};
-ghost use Rattle.llsc_words.specs.Commands.{asm_app, check_app, dis_app, machine_app, program_app, run_app, solo_app, trace_app};
+ghost use Rattle.llsc_words.specs.Commands.{asm_app, check_app, dis_app, load_app, machine_app, program_app, run_app, solo_app, trace_app};
 
-use crate::arguments::{file, flag, option, plain};
+use crate::arguments::{flag, option, plain, positional};
 use clap::Command;
 use std::alloc::{AllocError, Global};
 
@@ -12,7 +12,7 @@ fn program<'a>(alloc: Global, name: &'a str) -> Result<Command<'a>, AllocError>
     ensures { IfOk result (λ command. app_of command ≡ program_app name.entry.now) }
 {
     plain(alloc, name)
-        .arg(file(alloc, "FILE"))?
+        .arg(positional(alloc, "FILE"))?
         .arg(flag(alloc, "flat"))
 }
 
@@ -79,8 +79,20 @@ pub fn check<'a>(alloc: Global) -> Result<Command<'a>, AllocError>
     ensures { IfOk result (λ command. app_of command ≡ check_app) }
 {
     plain(alloc, "check")
-        .arg(file(alloc, "FILE"))?
-        .arg(file(alloc, "RECORD"))?
+        .arg(positional(alloc, "FILE"))?
+        .arg(positional(alloc, "RECORD"))?
         .arg(flag(alloc, "flat"))?
         .arg(option(alloc, "mem"))
+}
+
+/// `load`: runs the counter guest of a seed.
+#[tactic(auto, unfolding(crate::specs::Commands::load_app))]
+pub fn load<'a>(alloc: Global) -> Result<Command<'a>, AllocError>
+    ensures { IfOk result (λ command. app_of command ≡ load_app) }
+{
+    plain(alloc, "load")
+        .arg(positional(alloc, "SEED"))?
+        .arg(option(alloc, "threads"))?
+        .arg(option(alloc, "rounds"))?
+        .arg(option(alloc, "budget"))
 }

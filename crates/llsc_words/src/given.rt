@@ -16,6 +16,8 @@ pub struct Given<'a> {
     pub file: Option<&'a str>,
     /// The record's file.
     pub recorded: Option<&'a str>,
+    /// The number that names a load.
+    pub number: Option<&'a str>,
     /// `--flat`: the file is a flat image.
     pub flat: bool,
     /// `--threads`: the guest threads.
@@ -30,6 +32,8 @@ pub struct Given<'a> {
     pub limit: Option<&'a str>,
     /// `--seed`: the number that fixes the order of the threads' turns.
     pub seed: Option<&'a str>,
+    /// `--rounds`: the rounds of each thread of a load.
+    pub rounds: Option<&'a str>,
     /// `--budget`: the most steps of a thread.
     pub budget: Option<&'a str>,
 }
@@ -59,6 +63,7 @@ fn read<'a>(matches: &ArgMatches<'a>) -> Given<'a>
     Given {
         file: value(matches, "FILE"),
         recorded: value(matches, "RECORD"),
+        number: value(matches, "SEED"),
         flat: has_flag(matches, "flat"),
         threads: value(matches, "threads"),
         mem: value(matches, "mem"),
@@ -66,6 +71,7 @@ fn read<'a>(matches: &ArgMatches<'a>) -> Given<'a>
         classes: value(matches, "classes"),
         limit: value(matches, "limit"),
         seed: value(matches, "seed"),
+        rounds: value(matches, "rounds"),
         budget: value(matches, "budget"),
     }
 }

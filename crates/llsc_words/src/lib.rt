@@ -14,5 +14,5 @@ mod requests;
 mod words;
 
 pub use formats::Format;
-pub use requests::{Request, RunNumbers, TraceNumbers};
+pub use requests::{LoadNumbers, MachineNumbers, Request, RunNumbers, TraceNumbers};
 pub use words::parse;

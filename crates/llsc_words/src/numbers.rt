@@ -2,10 +2,17 @@
 ghost use Rattle.std.specs.Prelude.{◌≡◌, ◌≤◌, IfSome};
 ghost use Rattle.std.specs.Option.{option_map};
 ghost use Rattle.llsc_base.specs.Limits.{most_budget};
-ghost use Rattle.llsc_words.specs.Request.{budget_or, is_budget, number_or};
+ghost use Rattle.llsc_words.specs.Request.{budget_or, is_budget, number_in, number_or};
 
 use llsc_base::MOST_STEPS;
 use number_text::plain_number;
+
+/// The number that a value is, `None` where it is none or isn't given.
+pub fn number_in(value: Option<&str>) -> Option<u64>
+    ensures { result ≡ number_in (option_map (λ text. text.now) value.entry) }
+{
+    plain_number(value?.as_bytes())
+}
 
 /// The number that an option's value is, `None` where it is none, and the default where no value is given.
 pub fn number_or(default: u64, value: Option<&str>) -> Option<u64>

@@ -1,9 +1,9 @@
 //! What a call may ask for.
 use crate::formats::Format;
 
-/// The numbers of a run.
+/// The numbers that make a machine.
 #[derive(Clone, Copy)]
-pub struct RunNumbers {
+pub struct MachineNumbers {
     /// The guest threads.
     pub threads: u64,
     /// The bytes of memory.
@@ -14,6 +14,13 @@ pub struct RunNumbers {
     pub classes: u64,
     /// The most writes of a class, for a memory that counts them.
     pub limit: u64,
+}
+
+/// The numbers of a run.
+#[derive(Clone, Copy)]
+pub struct RunNumbers {
+    /// The machine.
+    pub machine: MachineNumbers,
     /// The most steps of a thread.
     pub budget: u64,
 }
@@ -29,6 +36,19 @@ pub struct TraceNumbers {
     pub granule: u64,
     /// The number that fixes the order of the threads' turns.
     pub seed: u64,
+    /// The most steps of a thread.
+    pub budget: u64,
+}
+
+/// The numbers of a load.
+#[derive(Clone, Copy)]
+pub struct LoadNumbers {
+    /// The number that the counter guest is made of.
+    pub seed: u64,
+    /// The guest threads.
+    pub threads: u64,
+    /// The rounds of each thread.
+    pub rounds: u64,
     /// The most steps of a thread.
     pub budget: u64,
 }
@@ -74,5 +94,9 @@ pub enum Request<'a> {
         recorded: &'a str,
         format: Format,
         mem: u64,
+    },
+    /// To run the counter guest of these numbers, and to say what its threads counted.
+    Load {
+        numbers: LoadNumbers,
     },
 }

@@ -1,9 +1,9 @@
 //! The words of a call, and what they ask for.
 ghost use Rattle.std.specs.Prelude.{◌≡◌, IfOk, IfSome, map, string_bytes};
 ghost use Rattle.std.specs.Option.{option_and_then, option_map};
-ghost use Rattle.llsc_words.specs.Commands.{asm_app, check_app, dis_app, run_app, solo_app, trace_app};
+ghost use Rattle.llsc_words.specs.Commands.{asm_app, check_app, dis_app, load_app, run_app, solo_app, trace_app};
 ghost use Rattle.llsc_words.specs.Given.{given_in};
-ghost use Rattle.llsc_words.specs.Request.{asked, assemble_for, check_for, disassemble_for, request_for, request_of, run_for, solo_for, trace_for, HasBudget};
+ghost use Rattle.llsc_words.specs.Request.{asked, assemble_for, check_for, disassemble_for, load_for, request_for, request_of, run_for, solo_for, trace_for, HasBudget};
 
 use crate::given::given_in;
 use crate::requests::Request;
@@ -88,6 +88,19 @@ fn check<'a>(alloc: Global, words: &'a [String]) -> Result<Option<Request<'a>>, 
     Ok(asked::check(given))
 }
 
+/// What the words behind `load` ask for.
+#[tactic(auto, using(crate::proofs::Stated::load_stated))]
+fn load<'a>(alloc: Global, words: &'a [String]) -> Result<Option<Request<'a>>, AllocError>
+    ensures request { IfOk result (λ request. option_map asked request ≡ option_and_then load_for (given_in load_app (map string_bytes words.now))) }
+    ensures budget { IfOk result (λ request. IfSome request HasBudget) }
+{
+    let command = commands::load(alloc)?;
+    let Some(given) = given_in(command, words)? else {
+        return Ok(None);
+    };
+    Ok(asked::load(given))
+}
+
 /// What a command asks for with the words behind it.
 fn request_of<'a>(
     alloc: Global,
@@ -114,6 +127,9 @@ fn request_of<'a>(
     }
     if command == "check" {
         return check(alloc, words);
+    }
+    if command == "load" {
+        return load(alloc, words);
     }
     Ok(None)
 }

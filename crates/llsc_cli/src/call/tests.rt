@@ -12,6 +12,7 @@ mod checks;
 mod disassembles;
 mod elf_files;
 mod limits;
+mod loads;
 mod mnemonics;
 mod names;
 mod prints;

@@ -10,11 +10,11 @@ ghost use Rattle.llsc_cli.specs.Check.{files_refusal, most_record, record_fault_
 ghost use Rattle.llsc_cli.specs.Answer.{IsDue};
 ghost use Rattle.llsc_cli.specs.Reads.{Answered, EndsAsked};
 
-use crate::files::{CLASSES, MOST_BYTES, MOST_WRITES, MachineNumbers, image_on, machine, read};
+use crate::files::{CLASSES, MOST_BYTES, MOST_WRITES, image_on, machine, read};
 use crate::host::Host;
 use crate::said::{Said, out_of_memory, refuse, say};
 use llsc_base::{Image, MachineSize};
-use llsc_words::Format;
+use llsc_words::{Format, MachineNumbers};
 use run_checker::{Verdict, check_record};
 use run_record::{RecordFault, RunRecord, read_record};
 use std::alloc::{AllocError, Global};

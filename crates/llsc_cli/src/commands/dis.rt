@@ -7,13 +7,13 @@ ghost use Rattle.llsc_cli.specs.Disassembly.{disassembly, head_text, line_at, wo
 ghost use Rattle.llsc_cli.specs.Answer.{AnswersDis};
 ghost use Rattle.llsc_cli.specs.Reads.{CallEnds, Gives};
 
-use crate::files::{CLASSES, LEAST_GRANULE, MOST_WRITES, MachineNumbers, load};
+use crate::files::{CLASSES, LEAST_GRANULE, MOST_WRITES, load};
 use crate::host::{Failed, Host};
 use crate::pages::Page;
 use crate::said::{Said, out_of_memory};
 use a32_asm::disassemble;
 use llsc_base::{Image, Line};
-use llsc_words::Format;
+use llsc_words::{Format, MachineNumbers};
 use number_text::write_word;
 use std::alloc::Global;
 

@@ -10,13 +10,13 @@ ghost use Rattle.llsc_cli.specs.Trace.{status_of};
 ghost use Rattle.llsc_cli.specs.Answer.{AnswersSolo};
 ghost use Rattle.llsc_cli.specs.Reads.{CallEnds};
 
-use crate::files::{CLASSES, LEAST_GRANULE, MOST_WRITES, MachineNumbers, load};
+use crate::files::{CLASSES, LEAST_GRANULE, MOST_WRITES, load};
 use crate::host::Host;
 use crate::report::write_report;
 use crate::said::{Said, out_of_memory, status};
 use guest_machine::solo;
 use llsc_base::{Image, MachineSize};
-use llsc_words::Format;
+use llsc_words::{Format, MachineNumbers};
 use std::alloc::Global;
 
 /// Runs an image and writes the report.

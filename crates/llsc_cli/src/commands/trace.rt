@@ -10,12 +10,12 @@ ghost use Rattle.llsc_cli.specs.Refusals.{machine_of, refusal_text, size_refusal
 ghost use Rattle.llsc_cli.specs.Trace.{status_of_all, AnswersTrace, Traces};
 ghost use Rattle.llsc_cli.specs.Reads.{Answered, CallEnds};
 
-use crate::files::{CLASSES, MOST_WRITES, MachineNumbers, load};
+use crate::files::{CLASSES, MOST_WRITES, load};
 use crate::host::Host;
 use crate::said::{Said, out_of_memory, say, status_of_all};
 use guest_machine::{TraceFault, Traced, trace};
 use llsc_base::{Image, MachineSize};
-use llsc_words::{Format, TraceNumbers};
+use llsc_words::{Format, MachineNumbers, TraceNumbers};
 use run_record::print_record;
 use std::alloc::Global;
 

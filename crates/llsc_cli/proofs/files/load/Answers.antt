@@ -1,5 +1,6 @@
 use Rattle.std.proofs.Common.{◌≡◌, None}
-use Rattle.llsc_cli.specs.Refusals.{machine_by, size_refusal, too_long, most_program}
+use Rattle.llsc_words.specs.Request.{machine_by}
+use Rattle.llsc_cli.specs.Refusals.{size_refusal, too_long, most_program}
 use Rattle.llsc_cli.specs.Host.{AreBytes}
 use Rattle.llsc_cli.proofs.Answering.{answered_for, are_held, ends_as, held_bytes, refused_short, refused_unsized, refuses_sized}
 use Rattle.llsc_cli.proofs.Fronts.{owed_as}

@@ -1,7 +1,8 @@
 use Rattle.std.proofs.Common.{◌≡◌, Some, sym, ◌∙◌, ap}
 use Rattle.std.specs.Option.{option_map}
 use Rattle.llsc_base.specs.Sizes.{size_fault_name}
-use Rattle.llsc_cli.specs.Refusals.{machine_by, size_refusal}
+use Rattle.llsc_words.specs.Request.{machine_by}
+use Rattle.llsc_cli.specs.Refusals.{size_refusal}
 use Rattle.llsc_cli.proofs.Answering.{answered_refused}
 use Rattle.llsc_cli.proofs.files.machine.Goals as goal
 

@@ -1,5 +1,6 @@
 use Rattle.std.proofs.Common.{◌≡◌, None, ap}
-use Rattle.llsc_cli.specs.Run.{run_size, told}
+use Rattle.llsc_words.specs.Request.{machine_by}
+use Rattle.llsc_cli.specs.Run.{told}
 use Rattle.llsc_cli.proofs.Answering.{answered_for, ends_as}
 use Rattle.llsc_cli.proofs.RunAnswers.{run_ran, run_refused}
 use Rattle.llsc_cli.proofs.commands.run.answer.Goals as goal
@@ -10,7 +11,7 @@ returns-in-Ok-clause-ends g c =
     let numbers = c.args.numbers in
     let answered = rw loaded.writes.written at c.run.ensures.answered in
     answered_for (g.H.Host.written c.args.host.now) (g.H.Host.written c.run.new.host) c.run.result.status loaded.image.0 loaded.image.1.0
-    (run_ran c.args.format (run_size numbers) numbers.budget (told c.run.result.story) loaded.image.0 c.in-Ok.loaded.size c.in-Ok.loaded.image
+    (run_ran c.args.format (machine_by numbers.machine) numbers.budget (told c.run.result.story) loaded.image.0 c.in-Ok.loaded.size c.in-Ok.loaded.image
     loaded.image.1.1.0 loaded.size loaded.image.1.1.1)
     answered
 
@@ -20,4 +21,4 @@ returns-in-Err-clause-ends g c =
     let none : told c.from.result.story ≡ None = ap told c.from.ensures.story in
     rw c.from.ensures.status
     (ends_as (g.H.Host.file c.args.host.now c.args.file.now) (g.H.Host.written c.args.host.now) (g.H.Host.written c.load.new.host) c.in-Err.said.status
-    (run_refused c.args.format (run_size numbers) numbers.budget (told c.from.result.story) none) (λ failed. (failed, c.from.ensures.story)) c.in-Err.ensures.ends)
+    (run_refused c.args.format (machine_by numbers.machine) numbers.budget (told c.from.result.story) none) (λ failed. (failed, c.from.ensures.story)) c.in-Err.ensures.ends)
