@@ -45,8 +45,8 @@ fn total(rows: &Rows) -> u64
     ensures value { result ≡ total_of (counter_of rows.now) 16 }
 {
     let mut total = 0;
-    for index in 0..COUNTERS {
-        total += counter(rows, index);
+    for i in 0..COUNTERS {
+        total += counter(rows, i);
     }
     total
 }

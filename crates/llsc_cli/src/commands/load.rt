@@ -123,7 +123,8 @@ fn tell<H: Host>(host: &mut H, numbers: &LoadNumbers, done: &Finished<HstStory>)
     ensures reads { KeepsReads (H.file host.old) (H.file host.new) (H.read_faults host.old) (H.read_faults host.new) (H.lost host.old) (H.lost host.new) }
 {
     let ends = done.ends.as_slice();
-    if status_of_all(ends) != 0 {
+    let all_left = status_of_all(ends) == 0;
+    if !all_left {
         return say_report(host, numbers.budget, ends);
     }
     match write_summary(host, numbers, &done.rows) {

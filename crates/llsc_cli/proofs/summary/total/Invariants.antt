@@ -3,8 +3,8 @@ use Rattle.llsc_cli.specs.Load.{counter_of, total_of}
 use Rattle.llsc_cli.proofs.summary.total.Given as goal
 
 -- the counters before this one were summed up
-abbrev pub invariant-loop-index : goal.invariant-loop-index
-invariant-loop-index l = record {
-  sum : l.total ≡ total_of (counter_of l.rows) l.index;
-  most : l.total ≤ l.index * 2 ^ 32;
+abbrev pub invariant-loop-i : goal.invariant-loop-i
+invariant-loop-i l = record {
+  sum : l.total ≡ total_of (counter_of l.rows) l.i;
+  most : l.total ≤ l.i * 2 ^ 32;
 }

@@ -10,8 +10,8 @@ pub returns-in-Ok-clause-answered : goal.returns-in-Ok-clause-answered
 returns-in-Ok-clause-answered g c =
     let numbers = c.args.numbers.now in
     let done = c.args.done.now in
-    let zero : c.status_of_all.result ≡ 0 = grind (arith, c.if-status_of_all-ne0.false) in
-    let all : status_of_all done.ends.items ≡ 0 = ap status_of_all (sym c.as_slice-ends.ensures.value) ∙ sym c.status_of_all.ensures.value ∙ zero in
+    let zero : c.status_of_all-all_left.result ≡ 0 = grind (arith, c.if-not-all_left.false) in
+    let all : status_of_all done.ends.items ≡ 0 = ap status_of_all (sym c.as_slice-ends.ensures.value) ∙ sym c.status_of_all-all_left.ensures.value ∙ zero in
     answered_one (g.H.Host.written c.args.host.now) (g.H.Host.written c.write_summary.new.host) 0 0
     (summary_by numbers.seed numbers.threads numbers.rounds (counter_of done.rows)) (inl refl)
     (loaded_all numbers.seed numbers.threads numbers.rounds numbers.budget (story_history done.story) done.ends.items done.rows c.requires all)
@@ -21,8 +21,8 @@ pub returns-in-Err-clause-answered : goal.returns-in-Err-clause-answered
 returns-in-Err-clause-answered g c =
     let numbers = c.args.numbers.now in
     let done = c.args.done.now in
-    let zero : c.status_of_all.result ≡ 0 = grind (arith, c.if-status_of_all-ne0.false) in
-    let all : status_of_all done.ends.items ≡ 0 = ap status_of_all (sym c.as_slice-ends.ensures.value) ∙ sym c.status_of_all.ensures.value ∙ zero in
+    let zero : c.status_of_all-all_left.result ≡ 0 = grind (arith, c.if-not-all_left.false) in
+    let all : status_of_all done.ends.items ≡ 0 = ap status_of_all (sym c.as_slice-ends.ensures.value) ∙ sym c.status_of_all-all_left.ensures.value ∙ zero in
     answered_one (g.H.Host.written c.args.host.now) (g.H.Host.written c.write_summary.new.host) 5 0
     (summary_by numbers.seed numbers.threads numbers.rounds (counter_of done.rows)) (inl refl)
     (loaded_all numbers.seed numbers.threads numbers.rounds numbers.budget (story_history done.story) done.ends.items done.rows c.requires all)
