@@ -1,0 +1,113 @@
+-- A seat's step: from what is kept before it to what is kept after it, and what is told.
+use Rattle.std.proofs.Common.{◌≡◌, ◌≢◌, ℕ, ◌<◌, true, List, [], ◌∷◌, ◌++◌, set, refl, ap, sym, ◌∙◌}
+use mathlib.Core.Option.{some}
+use lib.ListN.{get_elem?}
+use Rattle.std.proofs.lemmas.Bool.{eq-eqb, ne_eqb}
+use Rattle.history.specs.Entry.{thread_of}
+use Rattle.history.specs.Standing.{joined, standing_after}
+use Rattle.history.specs.Follow.{MayFollow, MayJoin}
+use Rattle.history.specs.declared.entry.Entry.{Entry}
+use Rattle.shared_memory.specs.declared.views.View.{View}
+use Rattle.shared_memory.specs.Seen.{IsOneOf, IsSingle}
+use Rattle.shared_memory.specs.Passes.{marked, moved}
+use Rattle.shared_memory.proofs.Grown.{AreBy, are_by-none, grown, legal-tells, sees-grown}
+use Rattle.version_rule.specs.declared.hands.Hand.{Hand}
+use Rattle.version_rule.specs.declared.plans.Plan.{Plan}
+use Rattle.version_rule.specs.Knowledge.{Knows}
+use Rattle.version_rule.specs.Kept.{AreClasses, IsLaid, Kept, origin_of}
+use Rattle.version_rule.specs.Told.{Decides, Goes}
+use Rattle.version_rule.proofs.Classes.{IsOrderly, classes-joined}
+use Rattle.version_rule.proofs.Others.{knows-other}
+
+pub are_by-one : (e : Entry) (lead : ℕ) → thread_of e ≡ lead → AreBy lead (e ∷ [])
+are_by-one e lead own = record {
+  own = rw (eq-eqb (thread_of e) lead own) refl;
+  none = λ u ne. rw (ne_eqb (thread_of e) u (λ same. ne (sym same ∙ own))) refl;
+}
+
+are_by-two : (e f : Entry) (lead : ℕ) → thread_of e ≡ lead → thread_of f ≡ lead → AreBy lead (e ∷ f ∷ [])
+are_by-two e f lead own_e own_f = record {
+  own = rw (eq-eqb (thread_of e) lead own_e, eq-eqb (thread_of f) lead own_f) refl;
+  none = λ u ne. rw (ne_eqb (thread_of e) u (λ same. ne (sym same ∙ own_e)), ne_eqb (thread_of f) u (λ same. ne (sym same ∙ own_f))) refl;
+}
+
+module _ (plan : Plan) (words : List ℕ) (views : List (View Hand)) (k : Kept plan words views) (seat : ℕ) (v : View Hand) (at : get_elem? views seat ≡ some v)
+    (single : IsSingle v.lead (marked v.numbers)) where
+  -- what is kept after entries of the seat's thread
+  moves : (words' : List ℕ) (es : List Entry) (h : Hand) → AreBy v.lead es → MayFollow plan.size k.standing es
+      → Knows plan.size (standing_after plan.size k.standing es) v.lead h
+      → ((j : ℕ) (w : View Hand) → j ≢ seat → get_elem? views j ≡ some w → (u : ℕ) → IsOneOf u (marked w.numbers) → u ≢ v.lead → Knows plan.size k.standing u w.doing
+      → Knows plan.size (standing_after plan.size k.standing es) u w.doing)
+      → IsLaid plan.size words' (standing_after plan.size k.standing es)
+      → AreClasses plan.size (standing_after plan.size k.standing es)
+      → Kept plan words' (set views seat (moved v k.history es h))
+  moves words' es h by may known frame laid classes = record {
+    history = k.history ++ es;
+    standing = standing_after plan.size k.standing es;
+    tells = grown (Knows plan.size) plan.size plan.image.value.bytes views k.history es k.standing (standing_after plan.size k.standing es) seat v h k.tells at single by may refl known frame;
+    laid = laid;
+    classes = classes;
+  }
+
+  told : (es : List Entry) (h : Hand) (slots : List (ℕ × Unit {0})) → AreBy v.lead es → MayFollow plan.size k.standing es
+      → Knows plan.size (standing_after plan.size k.standing es) v.lead h
+      → ((j : ℕ) (w : View Hand) → j ≢ seat → get_elem? views j ≡ some w → (u : ℕ) → IsOneOf u (marked w.numbers) → u ≢ v.lead → Knows plan.size k.standing u w.doing
+      → Knows plan.size (standing_after plan.size k.standing es) u w.doing)
+      → Goes (origin_of plan) (v, slots) es h (moved v k.history es h, slots)
+  told es h slots by may known frame =
+      let s' = standing_after plan.size k.standing es in
+      let new = grown (Knows plan.size) plan.size plan.image.value.bytes views k.history es k.standing s' seat v h k.tells at single by may refl known frame in
+      record {
+        sees = sees-grown (origin_of plan) v.lead v.numbers v.seen k.history es (k.tells.each seat v at).part single.has by
+            (legal-tells (Knows plan.size) plan.size plan.image.value.bytes (set views seat (moved v k.history es h)) (k.history ++ es) s' plan.size.threads true new);
+        numbers = refl;
+        lead = refl;
+        left = refl;
+        right = refl;
+        doing_is = refl;
+        slots = refl;
+      }
+
+  -- what holds of the history before
+  pub decides : (es : List Entry) (h : Hand) (slots : List (ℕ × Unit {0})) (about : List Entry → Type 0) → about k.history
+      → Goes (origin_of plan) (v, slots) es h (moved v k.history es h, slots) → Decides (origin_of plan) (v, slots) es about h (moved v k.history es h, slots)
+  decides es h slots about fact goes = record { goes = goes; past = k.history; since = (k.tells.each seat v at).part.front; is = refl; fact = fact }
+
+  -- no entry
+  pub moves-none : (words' : List ℕ) (h : Hand) → Knows plan.size k.standing v.lead h → IsLaid plan.size words' k.standing
+      → Kept plan words' (set views seat (moved v k.history [] h))
+  moves-none words' h known laid = moves words' [] h (are_by-none v.lead) tt known (λ j w ne there u has other knows. knows) laid k.classes
+
+  pub told-none : (h : Hand) (slots : List (ℕ × Unit {0})) → Knows plan.size k.standing v.lead h
+      → Goes (origin_of plan) (v, slots) [] h (moved v k.history [] h, slots)
+  told-none h slots known = told [] h slots (are_by-none v.lead) tt known (λ j w ne there u has other knows. knows)
+
+  -- one entry
+  module _ (e : Entry) (own : thread_of e ≡ v.lead) (may : MayJoin plan.size k.standing e) (orderly : IsOrderly plan.size k.standing e) where
+    frame : (j : ℕ) (w : View Hand) → j ≢ seat → get_elem? views j ≡ some w → (u : ℕ) → IsOneOf u (marked w.numbers) → u ≢ v.lead → Knows plan.size k.standing u w.doing
+        → Knows plan.size (joined plan.size k.standing e) u w.doing
+    frame j w ne there u has other known = knows-other plan.size k.standing k.classes e u w.doing (λ same. other (same ∙ own)) may orderly known
+
+    pub moves-one : (words' : List ℕ) (h : Hand) → Knows plan.size (joined plan.size k.standing e) v.lead h → IsLaid plan.size words' (joined plan.size k.standing e)
+        → Kept plan words' (set views seat (moved v k.history (e ∷ []) h))
+    moves-one words' h known laid = moves words' (e ∷ []) h (are_by-one e v.lead own) (may, tt) known frame laid (classes-joined plan.size k.standing e may orderly k.classes)
+
+    pub told-one : (h : Hand) (slots : List (ℕ × Unit {0})) → Knows plan.size (joined plan.size k.standing e) v.lead h
+        → Goes (origin_of plan) (v, slots) (e ∷ []) h (moved v k.history (e ∷ []) h, slots)
+    told-one h slots known = told (e ∷ []) h slots (are_by-one e v.lead own) (may, tt) known frame
+
+    -- and another
+    module _ (f : Entry) (own_f : thread_of f ≡ v.lead) (may_f : MayJoin plan.size (joined plan.size k.standing e) f) (orderly_f : IsOrderly plan.size (joined plan.size k.standing e) f) where
+      frame-two : (j : ℕ) (w : View Hand) → j ≢ seat → get_elem? views j ≡ some w → (u : ℕ) → IsOneOf u (marked w.numbers) → u ≢ v.lead → Knows plan.size k.standing u w.doing
+          → Knows plan.size (joined plan.size (joined plan.size k.standing e) f) u w.doing
+      frame-two j w ne there u has other known = knows-other plan.size (joined plan.size k.standing e) (classes-joined plan.size k.standing e may orderly k.classes) f u w.doing (λ same. other (same ∙ own_f)) may_f orderly_f
+          (frame j w ne there u has other known)
+
+      pub moves-two : (words' : List ℕ) (h : Hand) → Knows plan.size (joined plan.size (joined plan.size k.standing e) f) v.lead h → IsLaid plan.size words' (joined plan.size (joined plan.size k.standing e) f)
+          → Kept plan words' (set views seat (moved v k.history (e ∷ f ∷ []) h))
+      moves-two words' h known laid = moves words' (e ∷ f ∷ []) h (are_by-two e f v.lead own own_f) (may, may_f, tt) known frame-two laid
+          (classes-joined plan.size (joined plan.size k.standing e) f may_f orderly_f (classes-joined plan.size k.standing e may orderly k.classes))
+
+      pub told-two : (h : Hand) (slots : List (ℕ × Unit {0})) → Knows plan.size (joined plan.size (joined plan.size k.standing e) f) v.lead h
+          → Goes (origin_of plan) (v, slots) (e ∷ f ∷ []) h (moved v k.history (e ∷ f ∷ []) h, slots)
+      told-two h slots known = told (e ∷ f ∷ []) h slots (are_by-two e f v.lead own own_f) (may, may_f, tt) known frame-two

@@ -1,0 +1,27 @@
+-- What becomes of a thread's reservation. This project's own.
+use Rattle.std.specs.Prelude.{ℕ, ◌==◌, if◌then◌else◌}
+use Rattle.llsc_base.specs.Memory.{class_of, row_of}
+use Rattle.llsc_base.specs.Sizes.{Numbers}
+use Rattle.llsc_base.specs.declared.access.Place.{Place}
+use Rattle.shared_memory.specs.declared.views.View.{View}
+use Rattle.version_rule.specs.declared.hands.Doing.{Doing}
+use Rattle.version_rule.specs.declared.hands.Reserve.{Reserve}
+use Rattle.version_rule.specs.declared.hands.Reserve.TheVariants.{Nothing, Row, Several}
+use Rattle.version_rule.specs.declared.hands.Hand.{Hand}
+
+abbrev pub hand : Doing → Reserve → Hand
+hand doing reserve = record { doing = doing; reserve = reserve }
+
+-- the class of a place
+abbrev pub class_at : Numbers → Place → ℕ
+class_at size place = class_of size.classes (row_of size.granule place)
+
+-- a reservation after the thread's own store to a place, which ends it where it falls into the class
+abbrev pub reserve_after : Numbers → Place → Reserve → Reserve
+reserve_after size place Nothing = Nothing
+reserve_after size place Several = Several
+reserve_after size place (Row row version) = if class_at size place == class_of size.classes row then Nothing else Row row version
+
+-- the reservation of a seat that has taken in another: of several threads it isn't known
+abbrev pub reserve_joined : View Hand → View Hand → Reserve
+reserve_joined one other = if one.lead == other.lead then Nothing else Several

@@ -1,0 +1,5 @@
+pub mod Hands
+pub mod Knowledge
+pub mod Kept
+pub mod Exact
+pub mod Told

@@ -1,0 +1,171 @@
+-- What a step tells its caller. This project's own.
+use Rattle.std.specs.Prelude.{◌≡◌, ◌≢◌, ◌*◌, ◌%◌, ℕ, Bool, true, false, List, [], ◌∷◌, ◌++◌}
+use Rattle.llsc_base.specs.Memory.{row_of}
+use Rattle.llsc_base.specs.declared.access.Place.{Place}
+use Rattle.llsc_base.specs.declared.access.Size.TheVariants.{B1}
+use Rattle.row_bytes.specs.Cell.{value_in_cell}
+use Rattle.history.specs.declared.entry.Entry.{Entry}
+use Rattle.history.specs.declared.entry.Entry.TheVariants.{Read, Write, Fail, Clear, Watch, Miss, Begin, End}
+use Rattle.history.specs.declared.entry.Cause.TheVariants.{Absent, Lost, Limit}
+use Rattle.atomic_table.specs.Table.{Me, Step}
+use Rattle.shared_memory.specs.declared.views.View.{View}
+use Rattle.shared_memory.specs.Origin.{Origin}
+use Rattle.shared_memory.specs.Passes.{IsSettled, nobody}
+use Rattle.shared_memory.specs.Seen.{IsFront, Sees}
+use Rattle.version_rule.specs.declared.hands.Hand.{Hand}
+use Rattle.version_rule.specs.declared.hands.Doing.TheVariants.{Rest, Claimed, Holding, Written, Looking, First, Second}
+use Rattle.version_rule.specs.declared.hands.Reserve.TheVariants.{Nothing, Row}
+use Rattle.version_rule.specs.Exact.{IsOvertaken, IsSpent, IsUndisturbed, IsVersion}
+use Rattle.version_rule.specs.Hands.{hand, reserve_after}
+
+-- what a call is about: the memory, the place, and the value to store
+pub record Ask : Type 0 where
+  pub origin : Origin
+  pub place : Place
+  pub value : ℕ
+
+abbrev pub ask : Origin → Place → ℕ → Ask
+ask origin place value = record { origin = origin; place = place; value = value }
+
+abbrev pub Mine : Type 0
+Mine = Me (Unit {0}) (View Hand)
+
+-- a seat has seen the whole history, to which it has added these entries, and is doing this
+pub record Goes (origin : Origin) (old : Mine) (entries : List Entry) (doing : Hand) (new : Mine) : Type 0 where
+  pub sees : Sees origin old.0.lead old.0.seen entries new.0.seen
+  pub numbers : new.0.numbers ≡ old.0.numbers
+  pub lead : new.0.lead ≡ old.0.lead
+  pub left : new.0.left ≡ nobody
+  pub right : new.0.right ≡ nobody
+  pub doing_is : new.0.doing ≡ doing
+  pub slots : new.1 ≡ old.1
+
+-- the same, with what is so of the history before these entries, which are its last
+pub record Decides (origin : Origin) (old : Mine) (entries : List Entry) (about : List Entry → Type 0) (doing : Hand) (new : Mine) : Type 0 where
+  pub goes : Goes origin old entries doing new
+  pub past : List Entry
+  pub since : IsFront old.0.seen past
+  pub is : new.0.seen ≡ past ++ entries
+  pub fact : about past
+
+-- where a call doesn't say what it is about
+abbrev pub no_ask : Ask
+no_ask = ask (record { size = record { mem = 0; threads = 0; classes = 0; limit = 0; granule = 0 }; first = 0; bytes = []; spends = true }) (record { addr = 0; size = B1 }) 0
+
+-- ---- loads and stores
+
+-- a load of a cell, as a load of the place
+abbrev pub loaded : Ask → Step (Unit {0}) → Mine → ℕ → Mine → Type 0
+loaded q st old n new = Goes q.origin old (Read old.0.lead q.place (value_in_cell n q.place) false ∷ []) old.0.doing new
+
+-- a load that is no access
+abbrev pub looked_at : Ask → Step (Unit {0}) → Mine → ℕ → Mine → Type 0
+looked_at q st old n new = Goes q.origin old [] old.0.doing new
+
+-- a load of the tag of a place's class, which tells where the class has had all of its writes
+pub record HasFoundTag (q : Ask) (old : Mine) (tag : ℕ) (new : Mine) : Type 0 where
+  pub goes : Goes q.origin old [] old.0.doing new
+  pub spent : tag ≡ 2 * q.origin.size.limit → IsSpent q.origin.size q.place new.0.seen
+
+abbrev pub tag_found : Ask → Step (Unit {0}) → Mine → ℕ → Mine → Type 0
+tag_found q st old n new = HasFoundTag q old n new
+
+-- a store begins where the tag is still the version that was expected
+abbrev pub claimed : Ask → Step (Unit {0}) → Mine → ℕ → Mine → Type 0
+claimed q st old n new =
+    (n ≡ st.first → Decides q.origin old (Begin old.0.lead q.place ∷ []) (IsVersion q.origin.size q.place st.first) (hand (Claimed q.place st.first false) (reserve_after q.origin.size q.place old.0.doing.reserve)) new)
+    × (n ≢ st.first → Goes q.origin old [] old.0.doing new)
+
+-- a write that holds its class loads the cell
+abbrev pub taken : Ask → Step (Unit {0}) → Mine → ℕ → Mine → Type 0
+taken q st old n new = (version : ℕ) (ex : Bool) → old.0.doing.doing ≡ Claimed q.place version ex
+    → Goes q.origin old [] (hand (Holding q.place version ex n) old.0.doing.reserve) new
+
+-- it is written
+abbrev pub changed : Ask → Step (Unit {0}) → Mine → ℕ → Mine → Type 0
+changed q st old n new = (version : ℕ) (ex : Bool) (cell : ℕ) → old.0.doing.doing ≡ Holding q.place version ex cell
+    → Decides q.origin old (Write old.0.lead q.place q.value ex ∷ []) (IsVersion q.origin.size q.place version) (hand (Written q.place version) old.0.doing.reserve) new
+
+-- it gives the class back
+abbrev pub released : Ask → Step (Unit {0}) → Mine → ℕ → Mine → Type 0
+released q st old n new = Goes q.origin old (End old.0.lead q.place ∷ []) (hand Rest old.0.doing.reserve) new
+
+-- ---- exclusive accesses
+
+-- a load-exclusive begins: with a reservation where no write in the class is in flight, and else without one
+abbrev pub watched : Ask → Step (Unit {0}) → Mine → ℕ → Mine → Type 0
+watched q st old n new =
+    (n % 2 ≡ 0 → Goes q.origin old (Watch old.0.lead q.place ∷ []) (hand (Looking q.place) (Row (row_of q.origin.size.granule q.place) n)) new)
+    × (n % 2 ≢ 0 → Goes q.origin old (Miss old.0.lead q.place ∷ []) (hand (Looking q.place) Nothing) new)
+
+-- and loads the cell
+abbrev pub read_ex : Ask → Step (Unit {0}) → Mine → ℕ → Mine → Type 0
+read_ex q st old n new = Goes q.origin old (Read old.0.lead q.place (value_in_cell n q.place) true ∷ []) (hand Rest old.0.doing.reserve) new
+
+-- its store-exclusive was undisturbed, at a version
+pub record IsUndisturbedAt (q : Ask) (thread version : ℕ) (history : List Entry) : Type 0 where
+  pub undisturbed : IsUndisturbed q.origin.size thread q.place history
+  pub version_is : IsVersion q.origin.size q.place version history
+
+-- it wasn't
+abbrev pub IsDisturbed : Ask → ℕ → List Entry → Type 0
+IsDisturbed q thread history = IsUndisturbed q.origin.size thread q.place history → ⊥
+
+-- for a write of another has begun in the class since its reservation
+pub record HasLost (q : Ask) (thread : ℕ) (history : List Entry) : Type 0 where
+  pub overtaken : IsOvertaken q.origin.size thread q.place history
+  pub disturbed : IsDisturbed q thread history
+
+-- it begins where the tag is still the version of the reservation, and else fails
+abbrev pub claimed_ex : Ask → Step (Unit {0}) → Mine → ℕ → Mine → Type 0
+claimed_ex q st old n new =
+    (n ≡ st.first → Decides q.origin old (Begin old.0.lead q.place ∷ []) (IsUndisturbedAt q old.0.lead st.first) (hand (Claimed q.place st.first true) Nothing) new)
+    × (n ≢ st.first → Decides q.origin old (Fail old.0.lead q.place q.value Lost ∷ []) (HasLost q old.0.lead) (hand Rest Nothing) new)
+
+-- it fails for want of a reservation
+abbrev pub absent : Ask → Step (Unit {0}) → Mine → ℕ → Mine → Type 0
+absent q st old n new = Decides q.origin old (Fail old.0.lead q.place q.value Absent ∷ []) (IsDisturbed q old.0.lead) (hand Rest Nothing) new
+
+-- it fails since the class has had all of its writes
+abbrev pub limited : Ask → Step (Unit {0}) → Mine → ℕ → Mine → Type 0
+limited q st old n new = Decides q.origin old (Fail old.0.lead q.place q.value Limit ∷ []) (IsDisturbed q old.0.lead) (hand Rest Nothing) new
+
+-- CLREX
+abbrev pub cleared : Ask → Step (Unit {0}) → Mine → ℕ → Mine → Type 0
+cleared q st old n new = Goes q.origin old (Clear old.0.lead ∷ []) (hand Rest Nothing) new
+
+-- ---- stamped loads
+
+-- a stamped load finds a version, where no write in the class is in flight
+abbrev pub first_found : Ask → Step (Unit {0}) → Mine → ℕ → Mine → Type 0
+first_found q st old n new =
+    (n % 2 ≡ 0 → Goes q.origin old [] (hand (First q.place n) old.0.doing.reserve) new)
+    × (n % 2 ≢ 0 → Goes q.origin old [] old.0.doing new)
+
+-- it loads the cell
+abbrev pub second_found : Ask → Step (Unit {0}) → Mine → ℕ → Mine → Type 0
+second_found q st old n new = (version : ℕ) → old.0.doing.doing ≡ First q.place version
+    → Goes q.origin old [] (hand (Second q.place version n) old.0.doing.reserve) new
+
+-- it is over where it finds the same version again: the cell was memory's all the time
+abbrev pub third_found : Ask → Step (Unit {0}) → Mine → ℕ → Mine → Type 0
+third_found q st old n new = (version cell : ℕ) → old.0.doing.doing ≡ Second q.place version cell
+    → (n ≡ version → Decides q.origin old (Read old.0.lead q.place (value_in_cell cell q.place) false ∷ []) (IsVersion q.origin.size q.place version) (hand Rest old.0.doing.reserve) new)
+    × (n ≢ version → Goes q.origin old [] (hand Rest old.0.doing.reserve) new)
+
+-- the same of a load-exclusive, whose reservation begins there too
+abbrev pub third_found_ex : Ask → Step (Unit {0}) → Mine → ℕ → Mine → Type 0
+third_found_ex q st old n new = (version cell : ℕ) → old.0.doing.doing ≡ Second q.place version cell
+    → (n ≡ version → Decides q.origin old (Watch old.0.lead q.place ∷ Read old.0.lead q.place (value_in_cell cell q.place) true ∷ []) (IsVersion q.origin.size q.place version)
+    (hand Rest (Row (row_of q.origin.size.granule q.place) version)) new)
+    × (n ≢ version → Goes q.origin old [] (hand Rest old.0.doing.reserve) new)
+
+-- ---- seats that are joined
+
+-- a seat that has taken in another is as one from then on
+pub record Settles (old new : Mine) : Type 0 where
+  pub settled : IsSettled old.0 new.0
+  pub slots : new.1 ≡ old.1
+
+abbrev pub settled_at : Step (Unit {0}) → Mine → ℕ → Mine → Type 0
+settled_at st old n new = Settles old new

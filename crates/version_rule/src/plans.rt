@@ -1,0 +1,35 @@
+//! The rule of the table.
+use crate::hands::VersionView;
+use atomic_table::{Seat, Shared, Table, TableRule};
+use llsc_base::{Image, MachineSize};
+use std::alloc::Global;
+use std::snapshot::Snapshot;
+
+/// What the table is told once: what the memory was made with.
+#[derive(Drop)]
+pub struct Plan {
+    pub size: MachineSize,
+    pub image: Snapshot<Image>,
+}
+
+/// Versions: word 0 is 0, the words behind it are the tags of the classes, each twice the writes of the class that are over,
+/// and one more while one of them is in flight, and then come the cells.
+pub struct VersionRule;
+
+impl TableRule<(), VersionView, Plan> for VersionRule {
+    ghost use Rattle.version_rule.specs.Hands.{hand};
+    ghost use Rattle.version_rule.specs.Kept.{KeptBy};
+    ghost use Rattle.shared_memory.specs.Passes.{first_view};
+    ghost use Rattle.version_rule.specs.declared.hands.Doing.TheVariants.{Rest};
+    ghost use Rattle.version_rule.specs.declared.hands.Reserve.TheVariants.{Nothing};
+
+    ghost holds = { KeptBy };
+
+    ghost first = { λ plan. first_view plan.size.threads (hand Rest Nothing) };
+}
+
+pub type VersionTable = Table<(), VersionView, Plan, VersionRule, Global>;
+
+pub type VersionShared = Shared<(), VersionView, Plan, VersionRule>;
+
+pub type VersionSeat = Seat<(), VersionView>;
