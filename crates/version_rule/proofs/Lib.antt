@@ -5,3 +5,12 @@ mod Others
 mod Own
 mod Laid
 mod Moves
+mod Facts
+pub mod PlainSteps
+pub mod ExclusiveSteps
+pub mod StampedSteps
+pub mod SeatSteps
+pub mod Opening
+pub mod Closing
+pub mod Waits
+pub mod Sequences

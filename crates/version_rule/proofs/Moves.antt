@@ -1,5 +1,5 @@
 -- A seat's step: from what is kept before it to what is kept after it, and what is told.
-use Rattle.std.proofs.Common.{◌≡◌, ◌≢◌, ℕ, ◌<◌, true, List, [], ◌∷◌, ◌++◌, set, refl, ap, sym, ◌∙◌}
+use Rattle.std.proofs.Common.{◌≡◌, ◌≢◌, ℕ, true, List, [], ◌∷◌, ◌++◌, set, refl, sym, ◌∙◌}
 use mathlib.Core.Option.{some}
 use lib.ListN.{get_elem?}
 use Rattle.std.proofs.lemmas.Bool.{eq-eqb, ne_eqb}
@@ -105,9 +105,9 @@ module _ (plan : Plan) (words : List ℕ) (views : List (View Hand)) (k : Kept p
 
       pub moves-two : (words' : List ℕ) (h : Hand) → Knows plan.size (joined plan.size (joined plan.size k.standing e) f) v.lead h → IsLaid plan.size words' (joined plan.size (joined plan.size k.standing e) f)
           → Kept plan words' (set views seat (moved v k.history (e ∷ f ∷ []) h))
-      moves-two words' h known laid = moves words' (e ∷ f ∷ []) h (are_by-two e f v.lead own own_f) (may, may_f, tt) known frame-two laid
+      moves-two words' h known laid = moves words' (e ∷ f ∷ []) h (are_by-two e f v.lead own own_f) (may, (may_f, tt)) known frame-two laid
           (classes-joined plan.size (joined plan.size k.standing e) f may_f orderly_f (classes-joined plan.size k.standing e may orderly k.classes))
 
       pub told-two : (h : Hand) (slots : List (ℕ × Unit {0})) → Knows plan.size (joined plan.size (joined plan.size k.standing e) f) v.lead h
           → Goes (origin_of plan) (v, slots) (e ∷ f ∷ []) h (moved v k.history (e ∷ f ∷ []) h, slots)
-      told-two h slots known = told (e ∷ f ∷ []) h slots (are_by-two e f v.lead own own_f) (may, may_f, tt) known frame-two
+      told-two h slots known = told (e ∷ f ∷ []) h slots (are_by-two e f v.lead own own_f) (may, (may_f, tt)) known frame-two

@@ -1,5 +1,5 @@
 -- What a thread knows stays so when another thread's entry comes.
-use Rattle.std.proofs.Common.{◌≡◌, ◌≢◌, ◌⊎◌, ℕ, ◌+◌, ◌*◌, ◌%◌, ◌<◌, ◌≤◌, ◌||◌, Bool, true, false, Option, Some, refl, ap, sym, ◌∙◌, subst, inl, inr, ⊎_elim, arith}
+use Rattle.std.proofs.Common.{◌≡◌, ◌≢◌, ℕ, ◌+◌, ◌*◌, ◌%◌, ◌<◌, ◌||◌, Bool, true, false, Option, Some, refl, ap, sym, ◌∙◌, subst, inl, inr, ⊎_elim, arith}
 use Rattle.std.proofs.lemmas.Bool.{cases_Bool, cases_eq, eq-eqb, ne_eqb}
 use Rattle.llsc_base.specs.Memory.{class_of, row_of}
 use Rattle.llsc_base.specs.Sizes.{Numbers}
@@ -17,7 +17,7 @@ use Rattle.version_rule.specs.declared.hands.Reserve.TheVariants.{Nothing, Row, 
 use Rattle.version_rule.specs.declared.hands.Hand.{Hand}
 use Rattle.version_rule.specs.Hands.{class_at}
 use Rattle.version_rule.specs.Kept.{AreClasses}
-use Rattle.version_rule.specs.Knowledge.{Flies, HasBegun, HasFound, IsAt, IsMarked, IsReserve, IsWritten, Knows, Watches}
+use Rattle.version_rule.specs.Knowledge.{HasBegun, HasFound, IsAt, IsMarked, IsReserve, IsWritten, Knows, Watches}
 use Rattle.version_rule.proofs.Apart.{mark-other, reserved-other, stage-other}
 use Rattle.version_rule.proofs.Classes.{IsOrderly, flies-at, odd-even}
 use Rattle.version_rule.proofs.Held.{edges-grow, found-cell, held-cell, held-edges, held-mark, held-writes, other-row}
@@ -91,10 +91,13 @@ watches-begun size s s' u row version reserved overtaken stirred passed edges k 
   is = reserved ∙ k.is;
   even = k.even;
   still = λ h. true-false (s'.overtaken u) overtaken h;
-  gone = λ h. (elim (cases_Bool (s.overtaken u)) [
-    | inl gone ↦ let g = (k.gone gone).0 in omega arith
-    | inr not ↦ let g = k.still not in omega arith
-  ], passed);
+  gone = λ h. (
+    elim (cases_Bool (s.overtaken u)) [
+      | inl gone ↦ let g = (k.gone gone).0 in omega arith
+      | inr not ↦ let g = k.still not in omega arith
+    ],
+    passed,
+  );
   stirs = stirred ∙ sym overtaken;
   marks = λ h. true-false (s'.overtaken u) overtaken h;
 }

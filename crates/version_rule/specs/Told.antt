@@ -1,5 +1,5 @@
 -- What a step tells its caller. This project's own.
-use Rattle.std.specs.Prelude.{◌≡◌, ◌≢◌, ◌*◌, ◌%◌, ℕ, Bool, true, false, List, [], ◌∷◌, ◌++◌}
+use Rattle.std.specs.Prelude.{◌≡◌, ◌≢◌, ◌*◌, ◌%◌, ◌≤◌, ℕ, Bool, true, false, List, [], ◌∷◌, ◌++◌}
 use Rattle.llsc_base.specs.Memory.{row_of}
 use Rattle.llsc_base.specs.declared.access.Place.{Place}
 use Rattle.llsc_base.specs.declared.access.Size.TheVariants.{B1}
@@ -62,9 +62,11 @@ loaded q st old n new = Goes q.origin old (Read old.0.lead q.place (value_in_cel
 abbrev pub looked_at : Ask → Step (Unit {0}) → Mine → ℕ → Mine → Type 0
 looked_at q st old n new = Goes q.origin old [] old.0.doing new
 
--- a load of the tag of a place's class, which tells where the class has had all of its writes
+-- a load of the tag of a place's class, which is never above twice the limit, and there says that the class has had all of
+-- its writes
 pub record HasFoundTag (q : Ask) (old : Mine) (tag : ℕ) (new : Mine) : Type 0 where
   pub goes : Goes q.origin old [] old.0.doing new
+  pub most : tag ≤ 2 * q.origin.size.limit
   pub spent : tag ≡ 2 * q.origin.size.limit → IsSpent q.origin.size q.place new.0.seen
 
 abbrev pub tag_found : Ask → Step (Unit {0}) → Mine → ℕ → Mine → Type 0
