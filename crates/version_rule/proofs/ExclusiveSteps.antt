@@ -46,6 +46,7 @@ module _ (plan : Plan) where
       let knows = known plan s.words s.views k seat v at single in
       let stage = subst (λ (d : Doing). IsAt plan.size k.standing v.lead d) rest knows.at in
       let tag = tag-is plan s.words s.views k p some_class in
+      let most : n ≤ 2 * plan.size.limit = subst (λ (m : ℕ). m ≤ 2 * plan.size.limit) (sym tag) (k.classes.most class) in
       elim (cases_eq (n % 2) 0) [
         | inl even ↦
             let e = Watch v.lead p in
@@ -57,7 +58,7 @@ module _ (plan : Plan) where
               tt,
               as-found plan s.words i (set s.views seat w) (moves-one plan s.words s.views k seat v at single e refl stage tt s.words h after
                   (laid-same plan.size s.words k.standing (joined plan.size k.standing e) refl refl k.laid)),
-              ((λ is. told-one plan s.words s.views k seat v at single e refl stage tt h me.1 after), λ not. absurd (not even)),
+              ((λ is. told-one plan s.words s.views k seat v at single e refl stage tt h me.1 after), (λ not. absurd (not even)), most),
             )
         | inr odd ↦
             let e = Miss v.lead p in
@@ -82,7 +83,7 @@ module _ (plan : Plan) where
               tt,
               as-found plan s.words i (set s.views seat w) (moves-one plan s.words s.views k seat v at single e refl may tt s.words h after
                   (laid-same plan.size s.words k.standing (joined plan.size k.standing e) refl refl k.laid)),
-              ((λ is. absurd (odd is)), λ not. told-one plan s.words s.views k seat v at single e refl may tt h me.1 after),
+              ((λ is. absurd (odd is)), (λ not. told-one plan s.words s.views k seat v at single e refl may tt h me.1 after), most),
             )
       ]
 
@@ -116,11 +117,11 @@ module _ (plan : Plan) where
 
   -- a store-exclusive with a reservation on the row is decided
   pub claims-ex : (slots seat : ℕ) (me : Mine) (version : ℕ) (p : Place) (value : ℕ) → IsSingle me.0.lead (marked me.0.numbers) → me.0.doing ≡ hand Rest (Row (row_of plan.size.granule p) version)
-      → 0 < plan.size.classes → version < 2 * plan.size.limit
+      → 0 < plan.size.classes → version ≢ 2 * plan.size.limit
       → is_aligned p ≡ true → p.addr + size_bytes p.size ≤ plan.size.mem → value < 256 ^ size_bytes p.size
       → Allows (KeptBy plan) slots seat me (tag_word (class_at plan.size p)) (λ n. either (n == version) (version + 1) n)
       (claimed_ex (ask (origin_of plan) p value) (step slots (tag_word (class_at plan.size p)) version (version + 1) none) me)
-  claims-ex slots seat me version p value single doing some_class room aligned inside fits s k long at small =
+  claims-ex slots seat me version p value single doing some_class other aligned inside fits s k long at small =
       let class = class_at plan.size p in
       let i = tag_word class in
       let n = slice_index s.words i in
@@ -136,6 +137,8 @@ module _ (plan : Plan) where
       elim (cases_eq n version) [
         | inl hit ↦
             let is : k.standing.edges class ≡ version = sym tag ∙ hit in
+            let most = k.classes.most class in
+            let room : version < 2 * plan.size.limit = omega arith in
             let quiet : k.standing.overtaken v.lead ≡ false = elim (cases_Bool (k.standing.overtaken v.lead)) [
               | inl gone ↦ let more = (kp.gone gone).0 in absurd (omega arith)
               | inr quiet ↦ quiet

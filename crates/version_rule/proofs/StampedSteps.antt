@@ -39,6 +39,7 @@ module _ (plan : Plan) where
       let all = known plan s.words s.views k seat v at single in
       let knows = subst (λ (d : Doing). Knows plan.size k.standing v.lead (hand d v.doing.reserve)) rest all in
       let tag = tag-is plan s.words s.views k p some_class in
+      let most : n ≤ 2 * plan.size.limit = subst (λ (m : ℕ). m ≤ 2 * plan.size.limit) (sym tag) (k.classes.most (class_at plan.size p)) in
       elim (cases_eq (n % 2) 0) [
         | inl even ↦
             let h = hand (First p n) v.doing.reserve in
@@ -48,7 +49,7 @@ module _ (plan : Plan) where
               keeps,
               tt,
               as-found plan s.words i (set s.views seat w) (moves-none plan s.words s.views k seat v at single s.words h after k.laid),
-              ((λ is. told-none plan s.words s.views k seat v at single h me.1 after), λ not. absurd (not even)),
+              ((λ is. told-none plan s.words s.views k seat v at single h me.1 after), (λ not. absurd (not even)), most),
             )
         | inr odd ↦
             let w = moved v k.history [] v.doing in (
@@ -56,7 +57,7 @@ module _ (plan : Plan) where
               keeps,
               tt,
               as-found plan s.words i (set s.views seat w) (moves-none plan s.words s.views k seat v at single s.words v.doing all k.laid),
-              ((λ is. absurd (odd is)), λ not. told-none plan s.words s.views k seat v at single v.doing me.1 all),
+              ((λ is. absurd (odd is)), (λ not. told-none plan s.words s.views k seat v at single v.doing me.1 all), most),
             )
       ]
 

@@ -94,11 +94,13 @@ released q st old n new = Goes q.origin old (End old.0.lead q.place ∷ []) (han
 
 -- ---- exclusive accesses
 
--- a load-exclusive begins: with a reservation where no write in the class is in flight, and else without one
+-- a load-exclusive begins: with a reservation where no write in the class is in flight, and else without one. A tag is at most
+-- twice the limit
 abbrev pub watched : Ask → Step (Unit {0}) → Mine → ℕ → Mine → Type 0
 watched q st old n new =
     (n % 2 ≡ 0 → Goes q.origin old (Watch old.0.lead q.place ∷ []) (hand (Looking q.place) (Row (row_of q.origin.size.granule q.place) n)) new)
     × (n % 2 ≢ 0 → Goes q.origin old (Miss old.0.lead q.place ∷ []) (hand (Looking q.place) Nothing) new)
+    × (n ≤ 2 * q.origin.size.limit)
 
 -- and loads the cell
 abbrev pub read_ex : Ask → Step (Unit {0}) → Mine → ℕ → Mine → Type 0
@@ -143,6 +145,7 @@ abbrev pub first_found : Ask → Step (Unit {0}) → Mine → ℕ → Mine → T
 first_found q st old n new =
     (n % 2 ≡ 0 → Goes q.origin old [] (hand (First q.place n) old.0.doing.reserve) new)
     × (n % 2 ≢ 0 → Goes q.origin old [] old.0.doing new)
+    × (n ≤ 2 * q.origin.size.limit)
 
 -- it loads the cell
 abbrev pub second_found : Ask → Step (Unit {0}) → Mine → ℕ → Mine → Type 0

@@ -1,0 +1,6 @@
+mod FirstWords
+mod HeldMarks
+mod Ready
+mod After
+mod Waited
+mod Exactly

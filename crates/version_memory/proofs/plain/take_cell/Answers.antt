@@ -1,0 +1,27 @@
+use Rattle.std.proofs.Common.{[]}
+use Rattle.version_rule.proofs.PlainSteps.{takes}
+use Rattle.version_rule.specs.declared.hands.Doing.TheVariants.{Holding}
+use Rattle.version_rule.specs.Hands.{hand}
+use Rattle.version_rule.specs.Kept.{origin_of}
+use Rattle.version_rule.specs.Told.{Goes, ask, taken}
+use Rattle.atomic_table.specs.Table.{step}
+use Rattle.version_memory.proofs.Ready.{cell_word-below, ready-goes}
+use Rattle.version_memory.proofs.plain.take_cell.Goals as goal
+
+pub load-requires : goal.load-requires
+load-requires g c =
+    let q = c.requires in
+    let t = c.args.target in (
+      q.ready.home_is,
+      rw q.target.word_is (cell_word-below c.args.shared.now.key c.args.shared.now.table_id t.place q.ready.made q.target.may),
+      rw (q.asked, q.target.word_is) (takes c.args.shared.now.key _ _ c.args.seat.now.me c.args.version c.args.ex t.place t.value q.ready.single q.claimed q.target.may.inside),
+    )
+
+pub returns-clause-goes : goal.returns-clause-goes
+returns-clause-goes g c = (rw c.requires.asked at c.load.ensures.2) c.args.version c.args.ex c.requires.claimed
+
+pub returns-clause-ready : goal.returns-clause-ready
+returns-clause-ready g c =
+    let goes : Goes (origin_of c.args.shared.now.key) c.args.seat.now.me [] (hand (Holding c.args.target.place c.args.version c.args.ex c.load.result) c.args.seat.now.me.0.doing.reserve) c.load.new.seat.me =
+    (rw c.requires.asked at c.load.ensures.2) c.args.version c.args.ex c.requires.claimed in
+    ready-goes _ _ _ _ _ _ _ _ _ c.requires.ready c.load.ensures.0 goes

@@ -1,0 +1,21 @@
+use Rattle.version_rule.proofs.StampedSteps.{looks-first}
+use Rattle.version_memory.proofs.Ready.{tag_word-below}
+use Rattle.version_memory.proofs.stamped.find_version.Goals as goal
+
+pub load-requires : goal.load-requires
+load-requires g c =
+    let q = c.requires in
+    let t = c.args.target in (
+      q.ready.home_is,
+      rw q.target.tag_is (tag_word-below c.args.shared.now.key c.args.shared.now.table_id t.place q.ready.made),
+      rw (q.asked, q.target.tag_is) (looks-first c.args.shared.now.key _ _ c.args.seat.now.me t.place t.value q.ready.single q.rest q.ready.made.some_class),
+    )
+
+pub returns-clause-found : goal.returns-clause-found
+returns-clause-found g c = (rw c.requires.asked at c.load.ensures.2).0
+
+pub returns-clause-not_yet : goal.returns-clause-not_yet
+returns-clause-not_yet g c = (rw c.requires.asked at c.load.ensures.2).1
+
+pub returns-clause-most : goal.returns-clause-most
+returns-clause-most g c = (rw c.requires.asked at c.load.ensures.2).2

@@ -1,0 +1,4 @@
+pub mod Stands
+pub mod Passes
+pub mod Memory
+pub mod Stored

@@ -1,0 +1,62 @@
+-- What holds of a pass between two calls, and of a seat in a call. This project's own.
+use Rattle.std.specs.Prelude.{◌≡◌, ◌+◌, ◌%◌, ◌^◌, ◌<◌, ◌≤◌, ℕ, Bool, true, Option, Some, None, List, []}
+use Rattle.llsc_base.specs.Memory.{cell_of, is_aligned, size_bytes}
+use Rattle.llsc_base.specs.declared.access.Place.{Place}
+use Rattle.atomic_table.specs.Seated.{TableId}
+use Rattle.shared_memory.specs.Passes.{marked, nobody}
+use Rattle.shared_memory.specs.Seen.{IsOneOf, IsSingle}
+use Rattle.version_rule.specs.declared.hands.Doing.TheVariants.{Rest}
+use Rattle.version_rule.specs.declared.hands.Reserve.{Reserve}
+use Rattle.version_rule.specs.declared.hands.Reserve.TheVariants.{Nothing, Row, Several}
+use Rattle.version_rule.specs.declared.plans.Plan.{Plan}
+use Rattle.version_rule.specs.Hands.{class_at}
+use Rattle.version_rule.specs.Kept.{cell_word, tag_word, words_of}
+use Rattle.version_rule.specs.Told.{Mine}
+use Rattle.version_memory.specs.declared.passes.Reserved.{Reserved}
+use Rattle.version_memory.specs.declared.targets.Target.{Target}
+
+-- the table of a memory of this plan
+pub record IsMade (plan : Plan) (table : TableId) : Type 0 where
+  pub sized : table.words ≡ words_of plan.size
+  pub slotless : table.slots ≡ 0
+  pub few : plan.size.threads ≤ 16
+  pub some_class : 0 < plan.size.classes
+  pub whole : plan.size.mem % 8 ≡ 0
+  pub short : plan.size.limit ≤ 2 ^ 62
+
+-- a seat of the table that has one number may make a step
+pub record IsReady (plan : Plan) (table home : TableId) (me : Mine) : Type 0 where
+  pub made : IsMade plan table
+  pub home_is : home ≡ table
+  pub single : IsSingle me.0.lead (marked me.0.numbers)
+
+-- the place may be accessed
+pub record IsPlace (plan : Plan) (place : Place) : Type 0 where
+  pub aligned : is_aligned place ≡ true
+  pub inside : place.addr + size_bytes place.size ≤ plan.size.mem
+
+-- what a pass keeps of a reservation
+abbrev pub reserved_of : Reserve → Option Reserved
+reserved_of Nothing = None
+reserved_of (Row row version) = Some (record { row = row; version = version })
+reserved_of Several = None
+
+-- between two calls: the marks and the number are the seat's, no call is in flight, and the reservation is known where the
+-- pass has one number
+pub record IsBetween (me : Mine) (has : List Bool) (number : ℕ) (reserved : Option Reserved) : Type 0 where
+  pub numbers : (t : ℕ) → marked me.0.numbers t ≡ marked has t
+  pub lead : me.0.lead ≡ number
+  pub holds_it : IsOneOf number (marked has)
+  pub left : me.0.left ≡ nobody
+  pub right : me.0.right ≡ nobody
+  pub rest : me.0.doing.doing ≡ Rest
+  pub tied : reserved_of me.0.doing.reserve ≡ reserved
+  pub several : me.0.doing.reserve ≡ Several → (t : ℕ) → IsSingle t (marked me.0.numbers) → ⊥
+  pub slots : me.1 ≡ []
+
+-- the place may be accessed, the value is one of its size, and the words are its own
+pub record IsTarget (plan : Plan) (target : Target) : Type 0 where
+  pub may : IsPlace plan target.place
+  pub fits : target.value < 256 ^ size_bytes target.place.size
+  pub tag_is : target.tag ≡ tag_word (class_at plan.size target.place)
+  pub word_is : target.word ≡ cell_word plan.size (cell_of target.place)

@@ -1,0 +1,15 @@
+//! A shared memory by versions: each class of rows counts its writes.
+#![tactic(auto)]
+
+mod exclusive;
+mod making;
+mod marks;
+mod memory;
+mod passes;
+mod plain;
+mod seats;
+mod stamped;
+mod targets;
+
+pub use memory::VersionMemory;
+pub use passes::{VersionPass, VersionStory};

@@ -1,0 +1,78 @@
+//! A memory is made.
+ghost use Rattle.std.specs.Prelude.{◌≡◌, ◌+◌, ◌/◌, ◌%◌, ◌*◌, ◌<◌, ◌≤◌, ℕ, [], true, IfOk, length, nat_lt, slice_index, take, vec_len};
+ghost use Rattle.llsc_base.specs.Memory.{number_of};
+ghost use Rattle.row_bytes.specs.Cell.{cell_at};
+ghost use Rattle.shared_memory.specs.Passes.{marked};
+ghost use Rattle.version_memory.specs.Memory.{memory_id, memory_origin, pass_home, pass_numbers, pass_seen};
+
+use crate::memory::VersionMemory;
+use crate::passes::VersionPass;
+use llsc_base::{Image, MachineSize};
+use row_bytes::first_cell;
+use std::alloc::{AllocError, Global};
+use std::snapshot::Snapshot;
+use version_rule::{Plan, VersionTable};
+
+/// The words of the table at first: so many that are 0, and then the cells that spell these bytes.
+fn first_words(alloc: Global, bytes: &[u8], zeros: usize) -> Result<Vec<u64>, AllocError>
+    requires { zeros ≤ 5000 }
+    ensures long { IfOk result (λ words. vec_len words ≡ zeros + length bytes.now / 8) }
+    ensures zeros { IfOk result (λ words. (i : ℕ) → i < zeros → slice_index words.items i ≡ 0) }
+    ensures cells { IfOk result (λ words. (i : ℕ) → i < length bytes.now / 8 → slice_index words.items (zeros + i) ≡ cell_at bytes.now i) }
+    ensures bytes { (k : ℕ) → slice_index bytes.now k < 256 }
+{
+    let mut words = vec![in alloc; 0; zeros]?;
+    for i in 0..bytes.len() / 8 {
+        words.push(first_cell(&bytes[8 * i..]))?;
+    }
+    Ok(words)
+}
+
+/// The marks of the first numbers.
+fn first_marks(threads: u32) -> [bool; 16]
+    requires { threads ≤ 16 }
+    ensures { (t : ℕ) → marked result t ≡ nat_lt t threads }
+{
+    let mut has = [false; 16];
+    for t in 0..threads as usize {
+        has[t] = true;
+    }
+    has
+}
+
+impl VersionMemory {
+    /// A memory of these bytes at first, as many as the machine has, with the pass that holds the numbers of all its threads.
+    ///
+    /// # Errors
+    ///
+    /// `AllocError` is want of memory.
+    pub fn new(
+        alloc: Global,
+        image: &Image,
+        size: &MachineSize,
+    ) -> Result<(VersionMemory, VersionPass), AllocError>
+        requires { length image.now.bytes ≡ size.now.mem }
+        ensures origin { IfOk result (λ made. memory_origin made.0 ≡ record { size = size.now; first = size.now.threads; bytes = image.now.bytes; spends = true }) }
+        ensures pass { IfOk result (λ made. pass_home made.1 ≡ memory_id made.0) }
+        ensures numbers { IfOk result (λ made. (t : ℕ) → pass_numbers made.1 t ≡ nat_lt t size.now.threads) }
+        ensures seen { IfOk result (λ made. pass_seen made.1 ≡ []) }
+    {
+        let (threads, mem, limit) = (size.threads(), size.mem(), size.limit());
+        prove!(mem % 8 == 0);
+        prove!(limit <= 1 << 62);
+        let words = first_words(alloc, image.bytes(), 1 + size.classes() as usize)?;
+        let plan = Plan {
+            size: *size,
+            image: Snapshot::of(image),
+        };
+        let (table, seat) = VersionTable::of_words(alloc, words.as_slice(), &plan)?;
+        let memory = VersionMemory { table, size: *size };
+        let pass = VersionPass {
+            seat,
+            has: first_marks(threads),
+            number: 0,
+            reserved: None,
+        };
+        Ok((memory, pass))
+    }
+}

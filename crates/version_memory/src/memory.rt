@@ -1,0 +1,20 @@
+//! The memory.
+ghost use Rattle.std.specs.Prelude.{◌≡◌};
+ghost use Rattle.version_memory.specs.Passes.{IsMade};
+
+use llsc_base::MachineSize;
+use version_rule::VersionTable;
+
+/// A memory that guest threads share, kept by versions.
+///
+/// Each class of rows has a tag: twice the number of its writes that are over, and one more while one of them is in flight. A
+/// load is one load of a cell. A store claims its class, by a tag that was even and becomes odd; then it loads the cell,
+/// stores it changed, and gives the class back with the next even tag. A load-exclusive keeps the even tag that it finds, and
+/// its store-exclusive claims the class by that tag alone: it succeeds just where no write has begun in the class since.
+#[derive(Drop)]
+pub struct VersionMemory {
+    pub(crate) table: VersionTable,
+    pub(crate) size: MachineSize,
+    ghost sized: { size ≡ table.shared.key.size },
+    ghost made: { IsMade table.shared.key table.shared.table_id },
+}
