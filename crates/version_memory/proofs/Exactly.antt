@@ -1,9 +1,8 @@
 -- A store-exclusive succeeds exactly where its thread was undisturbed before the entry that decided it.
-use Rattle.std.proofs.Common.{◌≡◌, ℕ, ◌/◌, ◌*◌, ◌<◌, true, List, [], ◌∷◌, ◌++◌, refl, ap, sym, ◌∙◌, subst, arith}
+use Rattle.std.proofs.Common.{◌≡◌, ℕ, ◌/◌, ◌*◌, ◌<◌, true, [], ◌∷◌, subst, arith}
 use Rattle.llsc_base.specs.declared.access.Place.{Place}
 use Rattle.history.specs.declared.entry.Cause.{Cause}
 use Rattle.history.specs.declared.entry.Cause.TheVariants.{Absent, Lost, Limit}
-use Rattle.history.specs.declared.entry.Entry.{Entry}
 use Rattle.history.specs.declared.entry.Entry.TheVariants.{Write, Fail, Begin, End}
 use Rattle.shared_memory.specs.Origin.{Origin}
 use Rattle.shared_memory.proofs.Fronts.{front-all}
@@ -14,6 +13,7 @@ use Rattle.version_rule.specs.Exact.{IsUndisturbed}
 use Rattle.version_rule.specs.Hands.{hand}
 use Rattle.version_rule.specs.Told.{Decides, Goes, HasLost, IsDisturbed, IsUndisturbedAt, Mine, ask}
 use Rattle.version_rule.proofs.Sequences.{goes-then_by}
+use Rattle.version_memory.specs.Exact.{HasFailedAt}
 use Rattle.version_memory.specs.Stands.{IsStamped}
 use Rattle.version_memory.specs.Stored.{HasFailed, HasStoredEx}
 use Rattle.version_memory.proofs.After.{front-goes, stands-decides, stands-within}
@@ -40,6 +40,10 @@ module _ (origin : Origin) (p : Place) (value : ℕ) (a b : Mine) where
     exact = stands-decides origin a b (Fail a.0.lead p value Lost) (HasLost (ask origin p value) a.0.lead) _ _ d (λ l h. h.disturbed);
     steady = λ _. stands-decides origin a b (Fail a.0.lead p value Lost) (HasLost (ask origin p value) a.0.lead) _ _ d (λ l h. h.overtaken);
   }
+
+  -- the same, of the thread by its number
+  pub failed-at : (t : ℕ) → a.0.lead ≡ t → HasFailed origin p value a b → HasFailedAt origin.size t p value a.0.seen b.0.seen
+  failed-at t same f = subst (λ (u : ℕ). HasFailedAt origin.size u p value a.0.seen b.0.seen) same (record { cause = f.cause; exact = f.exact; steady = f.steady })
 
   -- one that has begun takes the class below twice its limit
   pub room-won : (version : ℕ) (h : Hand) → Decides origin a (Begin a.0.lead p ∷ []) (IsUndisturbedAt (ask origin p value) a.0.lead version) h b → version < 2 * origin.size.limit

@@ -4,3 +4,4 @@ mod Ready
 mod After
 mod Waited
 mod Exactly
+mod Betweens

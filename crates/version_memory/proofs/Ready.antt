@@ -1,5 +1,5 @@
 -- A seat that may make a step: which words it steps on, and that it may make the next one.
-use Rattle.std.proofs.Common.{◌≡◌, ℕ, ◌/◌, ◌<◌, List, ap, sym, ◌∙◌, arith}
+use Rattle.std.proofs.Common.{◌≡◌, ◌/◌, ◌<◌, List, ◌∙◌, arith}
 use Rattle.llsc_base.specs.Memory.{cell_of, row_of}
 use Rattle.llsc_base.specs.declared.access.Place.{Place}
 use Rattle.llsc_base.proofs.Cells.{cell_of-lt, class_of-lt}

@@ -1,5 +1,5 @@
 -- What is told of a seat that has waited before.
-use Rattle.std.proofs.Common.{ℕ, false, List, [], ◌∷◌, subst}
+use Rattle.std.proofs.Common.{ℕ, false, [], ◌∷◌, subst}
 use Rattle.llsc_base.specs.declared.access.Place.{Place}
 use Rattle.row_bytes.specs.Cell.{value_in_cell}
 use Rattle.history.specs.declared.entry.Entry.TheVariants.{Read, Write, Begin, End}

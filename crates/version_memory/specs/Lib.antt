@@ -1,4 +1,5 @@
 pub mod Stands
+pub mod Exact
 pub mod Passes
 pub mod Memory
 pub mod Stored

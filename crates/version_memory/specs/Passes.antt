@@ -1,6 +1,7 @@
 -- What holds of a pass between two calls, and of a seat in a call. This project's own.
-use Rattle.std.specs.Prelude.{◌≡◌, ◌+◌, ◌%◌, ◌^◌, ◌<◌, ◌≤◌, ℕ, Bool, true, Option, Some, None, List, []}
-use Rattle.llsc_base.specs.Memory.{cell_of, is_aligned, size_bytes}
+use Rattle.std.specs.Prelude.{◌≡◌, ◌+◌, ◌%◌, ◌^◌, ◌<◌, ◌≤◌, ◌==◌, if◌then◌else◌, ℕ, Bool, true, Option, Some, None, List, []}
+use Rattle.llsc_base.specs.Memory.{cell_of, class_of, is_aligned, size_bytes}
+use Rattle.llsc_base.specs.Sizes.{Numbers}
 use Rattle.llsc_base.specs.declared.access.Place.{Place}
 use Rattle.atomic_table.specs.Seated.{TableId}
 use Rattle.shared_memory.specs.Passes.{marked, nobody}
@@ -41,6 +42,11 @@ reserved_of Nothing = None
 reserved_of (Row row version) = Some (record { row = row; version = version })
 reserved_of Several = None
 
+-- a reservation after the thread's own store to a place, which ends it where it falls into the class
+abbrev pub reserved_after : Numbers → Place → Option Reserved → Option Reserved
+reserved_after size place None = None
+reserved_after size place (Some reserved) = if class_at size place == class_of size.classes reserved.row then None else Some reserved
+
 -- between two calls: the marks and the number are the seat's, no call is in flight, and the reservation is known where the
 -- pass has one number
 pub record IsBetween (me : Mine) (has : List Bool) (number : ℕ) (reserved : Option Reserved) : Type 0 where
@@ -51,6 +57,7 @@ pub record IsBetween (me : Mine) (has : List Bool) (number : ℕ) (reserved : Op
   pub right : me.0.right ≡ nobody
   pub rest : me.0.doing.doing ≡ Rest
   pub tied : reserved_of me.0.doing.reserve ≡ reserved
+  pub short : (row version : ℕ) → me.0.doing.reserve ≡ Row row version → version ≤ 2 ^ 63
   pub several : me.0.doing.reserve ≡ Several → (t : ℕ) → IsSingle t (marked me.0.numbers) → ⊥
   pub slots : me.1 ≡ []
 

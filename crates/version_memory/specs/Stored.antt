@@ -1,10 +1,9 @@
 -- What stamped loads, stores and store-exclusives tell: that they are done, where they stand, and with which stamp. This project's own.
-use Rattle.std.specs.Prelude.{◌≡◌, ℕ, true, false, List, [], ◌∷◌}
+use Rattle.std.specs.Prelude.{◌≡◌, ℕ, true, false, [], ◌∷◌}
 use Rattle.llsc_base.specs.declared.access.Place.{Place}
 use Rattle.row_bytes.specs.Cell.{value_in_cell}
 use Rattle.history.specs.Operation.{entries_of_operation, fail, store}
 use Rattle.history.specs.declared.entry.Entry.TheVariants.{Read, Write, Fail, Begin}
-use Rattle.history.specs.declared.entry.Entry.{Entry}
 use Rattle.history.specs.declared.entry.Cause.{Cause}
 use Rattle.history.specs.declared.entry.Cause.TheVariants.{Lost}
 use Rattle.shared_memory.specs.Origin.{Origin}

@@ -15,7 +15,9 @@ ghost use Rattle.version_memory.specs.Stored.{HasFailed, HasStoredEx};
 use crate::plain::write_held;
 use crate::targets::Target;
 use history::Entry;
-use version_rule::{Absent, Asks, ClaimEx, Clear, Limited, ReadEx, VersionSeat, VersionShared, Watch};
+use version_rule::{
+    Absent, Asks, ClaimEx, Clear, Limited, ReadEx, VersionSeat, VersionShared, Watch,
+};
 
 /// What a load-exclusive has found.
 #[derive(Clone, Copy)]

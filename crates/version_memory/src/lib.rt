@@ -8,7 +8,9 @@ mod memory;
 mod passes;
 mod plain;
 mod seats;
+mod sharing;
 mod stamped;
+mod stamps;
 mod targets;
 
 pub use memory::VersionMemory;

@@ -19,7 +19,9 @@ use history::Entry;
 use llsc_base::Place;
 use row_bytes::put;
 use std::sync::Wait;
-use version_rule::{Asks, Change, Claim, Load, LookAtTag, Release, Take, VersionSeat, VersionShared};
+use version_rule::{
+    Asks, Change, Claim, Load, LookAtTag, Release, Take, VersionSeat, VersionShared,
+};
 
 /// Loads the cell of a place, as a load of the place.
 #[inline]
@@ -42,7 +44,7 @@ pub fn load_cell<J: Asks>(
 
 /// The tag of the class of a place, which is even where no write of the class is in flight.
 #[inline]
-fn look_at_tag<J: Asks>(shared: &VersionShared, seat: &mut VersionSeat, target: Target) -> u64
+pub fn look_at_tag<J: Asks>(shared: &VersionShared, seat: &mut VersionSeat, target: Target) -> u64
     requires asked { J.ask ≡ ask (origin_of shared.now.key) target.place target.value }
     requires ready { IsReady shared.now.key shared.now.table_id seat.old.table_id seat.old.me }
     requires target { IsTarget shared.now.key target }
@@ -114,21 +116,12 @@ fn change_cell<J: Asks>(
     ensures ready { IsReady shared.now.key shared.now.table_id seat.new.table_id seat.new.me }
     ensures home { seat.new.table_id ≡ seat.old.table_id }
 {
-    shared.store::<Change<J>>(
-        seat,
-        target.word,
-        put(cell, target.place, target.value),
-    );
+    shared.store::<Change<J>>(seat, target.word, put(cell, target.place, target.value));
 }
 
 /// It gives the class back, at the next version.
 #[inline]
-fn release<J: Asks>(
-    shared: &VersionShared,
-    seat: &mut VersionSeat,
-    target: Target,
-    version: u64,
-)
+fn release<J: Asks>(shared: &VersionShared, seat: &mut VersionSeat, target: Target, version: u64)
     requires asked { J.ask ≡ ask (origin_of shared.now.key) target.place target.value }
     requires ready { IsReady shared.now.key shared.now.table_id seat.old.table_id seat.old.me }
     requires target { IsTarget shared.now.key target }

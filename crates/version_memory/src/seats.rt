@@ -66,7 +66,12 @@ impl Play<(), VersionView> for Settle {
 }
 
 /// A seat gives a number away before any of its numbers has an entry, and another of its numbers leads it.
-pub fn split_number<J: Gives>(shared: &VersionShared, seat: &mut VersionSeat, t: u32, lead: u32) -> VersionSeat
+pub fn split_number<J: Gives>(
+    shared: &VersionShared,
+    seat: &mut VersionSeat,
+    t: u32,
+    lead: u32,
+) -> VersionSeat
     requires gives { (J.thread ≡ t) × (J.lead ≡ lead) }
     requires made { IsMade shared.now.key shared.now.table_id }
     requires home { seat.old.table_id ≡ shared.now.table_id }

@@ -13,5 +13,5 @@ returns-clause-done g c stamp is =
     let limit : c.args.limit ≡ c.args.shared.now.key.size.limit = c.requires.limit in
     let room : tag < 2 * c.args.shared.now.key.size.limit = (let below = c.if-tag-limit.false in let even = c.if-tag-ne0.false in omega arith) in
     subst (λ (n : ℕ). HasStored origin t.place t.value n c.args.seat.now.me c.write_held.new.seat.me) same
-        (stored origin t.place c.args.seat.now.me c.look_at_tag-tag.new.seat.me c.claim.new.seat.me c.write_held.new.seat.me t.value tag room
-        c.look_at_tag-tag.ensures.found.goes (c.if-not-claim.ensures.claimed) c.write_held.ensures.goes c.write_held.ensures.stamped)
+    (stored origin t.place c.args.seat.now.me c.look_at_tag-tag.new.seat.me c.claim.new.seat.me c.write_held.new.seat.me t.value tag room
+    c.look_at_tag-tag.ensures.found.goes (c.if-not-claim.ensures.claimed) c.write_held.ensures.goes c.write_held.ensures.stamped)

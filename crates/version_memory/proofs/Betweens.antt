@@ -1,0 +1,98 @@
+-- What holds of a pass after it was split or joined.
+use Rattle.std.proofs.Common.{◌≡◌, ◌≢◌, ◌==◌, ◌&&◌, ◌||◌, not, ℕ, Bool, true, false, if◌then◌else◌, Option, None, List, [], set, take, drop, slice_index, get_or-take, get_or-drop, ◌+◌, ◌<◌, refl, ap, sym, ◌∙◌, subst, inl, inr}
+use Rattle.std.proofs.lemmas.Bool.{cases_Bool, eqb-false}
+use Rattle.shared_memory.specs.declared.views.View.{View}
+use Rattle.shared_memory.specs.Passes.{alone_mark, joined_view, marked, merged, one_mark, without_mark}
+use Rattle.shared_memory.specs.Seen.{IsOneOf, IsSingle, joint}
+use Rattle.shared_memory.proofs.Joined.{merged-left, merged-right}
+use Rattle.shared_memory.proofs.Marks.{marked-merged, marked-taken, one-here, taken-other}
+use Rattle.version_rule.specs.declared.hands.Doing.TheVariants.{Rest}
+use Rattle.version_rule.specs.declared.hands.Reserve.TheVariants.{Nothing, Row, Several}
+use Rattle.version_memory.specs.declared.passes.Reserved.{Reserved}
+use Rattle.version_rule.specs.declared.hands.Hand.{Hand}
+use Rattle.version_rule.specs.Hands.{hand, reserve_joined}
+use Rattle.version_memory.specs.Passes.{IsBetween, reserved_of}
+use Rattle.version_rule.specs.Told.{Mine, Settles}
+
+nothing-row : {A : Type 0} → (row version : ℕ) → Nothing ≡ Row row version → A
+nothing-row row version h = let f : ⊥ = cc in absurd f
+
+nothing-several : Nothing ≡ Several → ⊥
+nothing-several h = let f : ⊥ = cc in f
+
+-- what is left of a pass that has given a number away
+pub between-left : (me : Mine) (has : List Bool) (number : ℕ) (reserved : Option Reserved) (t lead : ℕ) → IsBetween me has number reserved → IsOneOf lead (marked has) → lead ≢ t
+    → IsBetween (without_mark t lead (hand Rest Nothing) me.0, me.1) (set has t false) lead None
+between-left me has number reserved t lead b one other = record {
+  numbers = λ u. marked-taken me.0.numbers t u ∙ ap (λ (x : Bool). x && not (u == t)) (b.numbers u) ∙ sym (marked-taken has t u);
+  lead = refl;
+  holds_it = taken-other has t lead other one;
+  left = b.left;
+  right = b.right;
+  rest = refl;
+  tied = refl;
+  short = λ row version h. nothing-row row version h;
+  several = λ h. absurd (nothing-several h);
+  slots = b.slots;
+}
+
+-- the pass that has it
+pub between-given : (me : Mine) (only : List Bool) (number : ℕ) (has : List Bool) (reserved : Option Reserved) (t : ℕ) → IsBetween me has number reserved
+    → ((u : ℕ) → marked only u ≡ marked (one_mark t) u) → IsBetween (alone_mark t (hand Rest Nothing) me.0, []) only t None
+between-given me only number has reserved t b same = record {
+  numbers = λ u. sym (same u);
+  lead = refl;
+  holds_it = same t ∙ one-here t;
+  left = b.left;
+  right = b.right;
+  rest = refl;
+  tied = refl;
+  short = λ row version h. nothing-row row version h;
+  several = λ h. absurd (nothing-several h);
+  slots = refl;
+}
+
+several-joined : (v w : View Hand) → IsOneOf v.lead (marked v.numbers) → IsOneOf w.lead (marked w.numbers) → reserve_joined v w ≡ Several
+    → (t : ℕ) → IsSingle t (marked (merged v.numbers w.numbers)) → ⊥
+several-joined v w one two is t single = elim (cases_Bool (v.lead == w.lead)) [
+  | inl same ↦ nothing-several (sym (ap (λ (b : Bool). if b then Nothing else Several) same) ∙ is)
+  | inr differ ↦ eqb-false v.lead w.lead differ (single.only v.lead (merged-left v.numbers w.numbers v.lead one) ∙ sym (single.only w.lead (merged-right v.numbers w.numbers w.lead two)))
+]
+
+tied-joined : (b : Bool) → reserved_of (if b then Nothing else Several) ≡ None
+tied-joined true = refl
+tied-joined false = refl
+
+joined-row : {A : Type 0} → (b : Bool) (row version : ℕ) → (if b then Nothing else Several) ≡ Row row version → A
+joined-row true row version h = let f : ⊥ = cc in absurd f
+joined-row false row version h = let f : ⊥ = cc in absurd f
+
+pub lead-held : (me : Mine) (has : List Bool) (number : ℕ) (reserved : Option Reserved) → IsBetween me has number reserved → IsOneOf me.0.lead (marked me.0.numbers)
+lead-held me has number reserved b = b.numbers me.0.lead ∙ ap (marked has) b.lead ∙ b.holds_it
+
+-- a pass that has taken in another
+pub between-joined : (me other new : Mine) (has has_other has_both : List Bool) (number number_other : ℕ) (reserved reserved_other : Option Reserved)
+    → IsBetween me has number reserved → IsBetween other has_other number_other reserved_other
+    → Settles (joined_view (hand Rest (reserve_joined me.0 other.0)) me.0 other.0, me.1) new
+    → ((u : ℕ) → marked has_both u ≡ joint (marked has) (marked has_other) u) → IsBetween new has_both number None
+between-joined me other new has has_other has_both number number_other reserved reserved_other b o both same =
+    let view = both.settled.view in
+    let numbers : new.0.numbers ≡ merged me.0.numbers other.0.numbers = ap (λ (v : View Hand). v.numbers) view in
+    let reserve : new.0.doing.reserve ≡ reserve_joined me.0 other.0 = ap (λ (v : View Hand). v.doing.reserve) view in
+    record {
+      numbers = λ u. ap (λ (ns : List Bool). marked ns u) numbers ∙ marked-merged me.0.numbers other.0.numbers u
+          ∙ ap (λ (x : Bool). x || marked other.0.numbers u) (b.numbers u) ∙ ap (λ (x : Bool). marked has u || x) (o.numbers u) ∙ sym (same u);
+      lead = ap (λ (v : View Hand). v.lead) view ∙ b.lead;
+      holds_it = same number ∙ ap (λ (x : Bool). x || marked has_other number) b.holds_it;
+      left = ap (λ (v : View Hand). v.left) view;
+      right = ap (λ (v : View Hand). v.right) view;
+      rest = ap (λ (v : View Hand). v.doing.doing) view;
+      tied = ap reserved_of reserve ∙ tied-joined (me.0.lead == other.0.lead);
+      short = λ row version h. joined-row (me.0.lead == other.0.lead) row version (sym reserve ∙ h);
+      several = λ h t single. several-joined me.0 other.0 (lead-held me has number reserved b) (lead-held other has_other number_other reserved_other o) (sym reserve ∙ h) t
+          (subst (λ (ns : List Bool). IsSingle t (marked ns)) numbers single);
+      slots = both.slots ∙ b.slots;
+    }
+
+pub part-at : (words : List ℕ) (first count i : ℕ) → i < count → slice_index (take count (drop first words)) i ≡ slice_index words (first + i)
+part-at words first count i h = get_or-take count (drop first words) i 0 h ∙ get_or-drop first words i 0

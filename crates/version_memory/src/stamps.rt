@@ -1,0 +1,170 @@
+//! The calls that this memory has beside those of every shared memory: accesses that give their stamps, and exclusive ones that
+//! wait for nobody.
+ghost use Rattle.std.specs.Prelude.{◌≡◌, ◌≢◌, ◌+◌, ◌^◌, ◌<◌, ◌≤◌, ℕ, [], None, Some, IfErr, IfOk, IfSome, IsTrue, false, true};
+ghost use Rattle.std.specs.Bool.{OnFalse, OnTrue};
+ghost use Rattle.std.specs.Result.{OnOk};
+ghost use Rattle.llsc_base.specs.Memory.{is_aligned, size_bytes};
+ghost use Rattle.history.specs.Operation.{entries_of_operation, fail, load, load_missed, load_watched, store};
+ghost use Rattle.history.specs.declared.entry.Cause.{Cause};
+ghost use Rattle.shared_memory.specs.Seen.{IsSingle, IsUsedUp, Sees};
+ghost use Rattle.version_rule.specs.Exact.{IsSpent, IsUndisturbed};
+ghost use Rattle.version_memory.specs.Exact.{HasFailedAt};
+ghost use Rattle.version_memory.specs.Memory.{memory_id, memory_origin, pass_home, pass_numbers, pass_seen};
+ghost use Rattle.version_memory.specs.Stands.{HasRoom, IsStamped, Stands};
+
+use crate::exclusive::{fail_absent, load_ex_cell, store_ex_cell};
+use crate::memory::VersionMemory;
+use crate::passes::{Reserved, VersionPass};
+use crate::plain::store_cell;
+use crate::stamped::load_stamped_cell;
+use history::Entry;
+use llsc_base::Place;
+use row_bytes::take;
+use shared_memory::Spent;
+use std::marker::Brand;
+use std::sync::Wait;
+
+/// The version of a reservation, where it is on this row.
+#[inline]
+fn version_on(reserved: Option<Reserved>, row: u32) -> Option<u64>
+    ensures some { IfSome result (λ version. reserved ≡ Some (record { row = row; version = version })) }
+    ensures none { result ≡ None → (version : ℕ) → reserved ≢ Some (record { row = row; version = version }) }
+{
+    let held = reserved?;
+    if held.row != row {
+        return None;
+    }
+    Some(held.version)
+}
+
+impl VersionMemory {
+    /// A load, and its stamp: how many writes the class of the place had had before. It may wait for other threads.
+    pub fn load_stamped<R: Wait>(&self, rt: &R, pass: &mut VersionPass, place: Place) -> (u64, u64)
+        requires memory { pass_home pass.old ≡ memory_id self.now }
+        requires single { (t : ℕ) × IsSingle t (pass_numbers pass.old) × (t < (memory_origin self.now).first) }
+        requires aligned { IsTrue (is_aligned place) }
+        requires inside { place.addr + size_bytes place.size ≤ (memory_origin self.now).size.mem }
+        ensures seen { (t : ℕ) → IsSingle t (pass_numbers pass.old) → Sees (memory_origin self.now) t (pass_seen pass.old) (entries_of_operation t (load place result.0)) (pass_seen pass.new) }
+        ensures stamp { (t : ℕ) → IsSingle t (pass_numbers pass.old) → IsStamped (memory_origin self.now).size place result.1 (Entry.Read t place result.0 false) (pass_seen pass.old) (pass_seen pass.new) }
+        ensures fits { result.0 < 256 ^ size_bytes place.size }
+        ensures memory { pass_home pass.new ≡ pass_home pass.old }
+        ensures numbers { pass_numbers pass.new ≡ pass_numbers pass.old }
+    {
+        let target = self.target(place, 0);
+        let found = load_stamped_cell::<R, Brand>(rt, &self.table.shared, &mut pass.seat, target);
+        (take(found.cell, place), found.stamp)
+    }
+
+    /// A store of a value below 2 to the 8, 16, 32 or 64 by the place's size, and its stamp: how many writes the class of the
+    /// place had had before. It may wait for other threads.
+    ///
+    /// # Errors
+    ///
+    /// [`Spent`] exactly where the class has had as many writes as it may have, and none of them is in flight. Then nothing is
+    /// stored.
+    pub fn store_stamped<R: Wait>(
+        &self,
+        rt: &R,
+        pass: &mut VersionPass,
+        place: Place,
+        value: u64,
+    ) -> Result<u64, Spent>
+        requires memory { pass_home pass.old ≡ memory_id self.now }
+        requires single { (t : ℕ) × IsSingle t (pass_numbers pass.old) × (t < (memory_origin self.now).first) }
+        requires aligned { IsTrue (is_aligned place) }
+        requires inside { place.addr + size_bytes place.size ≤ (memory_origin self.now).size.mem }
+        requires fits { value < 256 ^ size_bytes place.size }
+        ensures done { OnOk result ((t : ℕ) → IsSingle t (pass_numbers pass.old) → Sees (memory_origin self.now) t (pass_seen pass.old) (entries_of_operation t (store place value false)) (pass_seen pass.new)) }
+        ensures stamp { IfOk result (λ stamp. (t : ℕ) → IsSingle t (pass_numbers pass.old) → IsStamped (memory_origin self.now).size place stamp (Entry.Write t place value false) (pass_seen pass.old) (pass_seen pass.new)) }
+        ensures room { OnOk result ((t : ℕ) → IsSingle t (pass_numbers pass.old) → HasRoom (memory_origin self.now).size place (Entry.Begin t place) (pass_seen pass.old) (pass_seen pass.new)) }
+        ensures spent { IfErr result (λ s. IsUsedUp (memory_origin self.now) place s.class s.writes (pass_seen pass.new)) }
+        ensures exact { IfErr result (λ _. IsSpent (memory_origin self.now).size place (pass_seen pass.new)) }
+        ensures refused { IfErr result (λ _. (t : ℕ) → IsSingle t (pass_numbers pass.old) → Sees (memory_origin self.now) t (pass_seen pass.old) [] (pass_seen pass.new)) }
+        ensures memory { pass_home pass.new ≡ pass_home pass.old }
+        ensures numbers { pass_numbers pass.new ≡ pass_numbers pass.old }
+    {
+        let target = self.target(place, value);
+        let limit = self.size.limit();
+        let stored = store_cell::<R, Brand>(rt, &self.table.shared, &mut pass.seat, target, limit);
+        let Some(stamp) = stored else {
+            return Err(Spent {
+                class: self.class_at(place),
+                writes: limit,
+            });
+        };
+        pass.reserved = self.reserved_after(pass.reserved, place);
+        Ok(stamp)
+    }
+
+    /// A load-exclusive that waits for nobody, and whether the thread holds a reservation on the row from now on: it does
+    /// unless a write of another thread in the class of the row is in flight.
+    pub fn load_ex_now(&self, pass: &mut VersionPass, place: Place) -> (u64, bool)
+        requires memory { pass_home pass.old ≡ memory_id self.now }
+        requires single { (t : ℕ) × IsSingle t (pass_numbers pass.old) × (t < (memory_origin self.now).first) }
+        requires aligned { IsTrue (is_aligned place) }
+        requires inside { place.addr + size_bytes place.size ≤ (memory_origin self.now).size.mem }
+        ensures reserved { OnTrue result.1 ((t : ℕ) → IsSingle t (pass_numbers pass.old) → Sees (memory_origin self.now) t (pass_seen pass.old) (entries_of_operation t (load_watched place result.0)) (pass_seen pass.new)) }
+        ensures missed { OnFalse result.1 ((t : ℕ) → IsSingle t (pass_numbers pass.old) → Sees (memory_origin self.now) t (pass_seen pass.old) (entries_of_operation t (load_missed place result.0)) (pass_seen pass.new)) }
+        ensures fits { result.0 < 256 ^ size_bytes place.size }
+        ensures memory { pass_home pass.new ≡ pass_home pass.old }
+        ensures numbers { pass_numbers pass.new ≡ pass_numbers pass.old }
+    {
+        let target = self.target(place, 0);
+        let linked = load_ex_cell::<Brand>(&self.table.shared, &mut pass.seat, target);
+        let value = take(linked.cell, place);
+        if linked.tag % 2 != 0 {
+            pass.reserved = None;
+            return (value, false);
+        }
+        pass.reserved = Some(Reserved {
+            row: place.row(self.size.granule()),
+            version: linked.tag,
+        });
+        (value, true)
+    }
+
+    /// A store-exclusive of a value below 2 to the 8, 16, 32 or 64 by the place's size, which waits for nobody, and whether it
+    /// succeeded: exactly where the thread holds a reservation on the row, no write of any thread has begun in the row's class
+    /// since, and the class may take another.
+    pub fn store_ex_now(&self, pass: &mut VersionPass, place: Place, value: u64) -> bool
+        requires memory { pass_home pass.old ≡ memory_id self.now }
+        requires single { (t : ℕ) × IsSingle t (pass_numbers pass.old) × (t < (memory_origin self.now).first) }
+        requires aligned { IsTrue (is_aligned place) }
+        requires inside { place.addr + size_bytes place.size ≤ (memory_origin self.now).size.mem }
+        requires fits { value < 256 ^ size_bytes place.size }
+        ensures done { OnTrue result ((t : ℕ) → IsSingle t (pass_numbers pass.old) → Sees (memory_origin self.now) t (pass_seen pass.old) (entries_of_operation t (store place value true)) (pass_seen pass.new)) }
+        ensures failed { OnFalse result ((t : ℕ) → IsSingle t (pass_numbers pass.old) → (cause : Cause) × Sees (memory_origin self.now) t (pass_seen pass.old) (entries_of_operation t (fail place value cause)) (pass_seen pass.new)) }
+        ensures exact_done { OnTrue result ((t : ℕ) → IsSingle t (pass_numbers pass.old) → Stands (IsUndisturbed (memory_origin self.now).size t place) (Entry.Begin t place) (pass_seen pass.old) (pass_seen pass.new)) }
+        ensures exact_failed { OnFalse result ((t : ℕ) → IsSingle t (pass_numbers pass.old) → HasFailedAt (memory_origin self.now).size t place value (pass_seen pass.old) (pass_seen pass.new)) }
+        ensures memory { pass_home pass.new ≡ pass_home pass.old }
+        ensures numbers { pass_numbers pass.new ≡ pass_numbers pass.old }
+    {
+        self.store_ex_stamped(pass, place, value).is_some()
+    }
+
+    /// The same, and the stamp of one that succeeded: how many writes the class of the place had had before.
+    pub fn store_ex_stamped(&self, pass: &mut VersionPass, place: Place, value: u64) -> Option<u64>
+        requires memory { pass_home pass.old ≡ memory_id self.now }
+        requires single { (t : ℕ) × IsSingle t (pass_numbers pass.old) × (t < (memory_origin self.now).first) }
+        requires aligned { IsTrue (is_aligned place) }
+        requires inside { place.addr + size_bytes place.size ≤ (memory_origin self.now).size.mem }
+        requires fits { value < 256 ^ size_bytes place.size }
+        ensures done { IfSome result (λ _. (t : ℕ) → IsSingle t (pass_numbers pass.old) → Sees (memory_origin self.now) t (pass_seen pass.old) (entries_of_operation t (store place value true)) (pass_seen pass.new)) }
+        ensures stamp { IfSome result (λ stamp. (t : ℕ) → IsSingle t (pass_numbers pass.old) → IsStamped (memory_origin self.now).size place stamp (Entry.Write t place value true) (pass_seen pass.old) (pass_seen pass.new)) }
+        ensures failed { result ≡ None → (t : ℕ) → IsSingle t (pass_numbers pass.old) → (cause : Cause) × Sees (memory_origin self.now) t (pass_seen pass.old) (entries_of_operation t (fail place value cause)) (pass_seen pass.new) }
+        ensures exact_done { IfSome result (λ _. (t : ℕ) → IsSingle t (pass_numbers pass.old) → Stands (IsUndisturbed (memory_origin self.now).size t place) (Entry.Begin t place) (pass_seen pass.old) (pass_seen pass.new)) }
+        ensures exact_failed { result ≡ None → (t : ℕ) → IsSingle t (pass_numbers pass.old) → HasFailedAt (memory_origin self.now).size t place value (pass_seen pass.old) (pass_seen pass.new) }
+        ensures memory { pass_home pass.new ≡ pass_home pass.old }
+        ensures numbers { pass_numbers pass.new ≡ pass_numbers pass.old }
+    {
+        let target = self.target(place, value);
+        let held = version_on(pass.reserved, place.row(self.size.granule()));
+        pass.reserved = None;
+        let Some(version) = held else {
+            fail_absent::<Brand>(&self.table.shared, &mut pass.seat, target);
+            return None;
+        };
+        let limit = self.size.limit();
+        store_ex_cell::<Brand>(&self.table.shared, &mut pass.seat, target, version, limit)
+    }
+}
