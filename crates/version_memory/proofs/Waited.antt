@@ -1,18 +1,20 @@
 -- What is told of a seat that has waited before.
-use Rattle.std.proofs.Common.{ℕ, false, [], ◌∷◌, subst}
+use Rattle.std.proofs.Common.{ℕ, ◌/◌, true, false, [], ◌∷◌, subst}
+use Rattle.llsc_base.specs.Memory.{row_of}
 use Rattle.llsc_base.specs.declared.access.Place.{Place}
 use Rattle.row_bytes.specs.Cell.{value_in_cell}
-use Rattle.history.specs.declared.entry.Entry.TheVariants.{Read, Write, Begin, End}
+use Rattle.history.specs.declared.entry.Entry.TheVariants.{Read, Write, Watch, Begin, End}
 use Rattle.shared_memory.specs.Origin.{Origin}
 use Rattle.shared_memory.specs.Seen.{IsFront}
 use Rattle.shared_memory.proofs.Fronts.{front-all}
 use Rattle.version_rule.specs.declared.hands.Doing.TheVariants.{Rest}
+use Rattle.version_rule.specs.declared.hands.Reserve.TheVariants.{Row}
 use Rattle.version_rule.specs.declared.hands.Hand.{Hand}
 use Rattle.version_rule.specs.Hands.{hand, reserve_after}
 use Rattle.version_rule.specs.Told.{Goes, Mine}
 use Rattle.version_rule.proofs.Waits.{Waits, waits-goes_by}
 use Rattle.version_memory.specs.Stands.{IsStamped, HasRoom}
-use Rattle.version_memory.specs.Stored.{HasLoaded, HasStored}
+use Rattle.version_memory.specs.Stored.{HasLoaded, HasLoadedEx, HasStored}
 use Rattle.version_memory.proofs.After.{stands-within}
 
 module _ (origin : Origin) (a b c : Mine) (w : Waits a b) where
@@ -36,4 +38,11 @@ module _ (origin : Origin) (a b c : Mine) (w : Waits a b) where
     goes = waits-goes_by origin a b c (λ (t : ℕ). Read t p (value_in_cell cell p) false ∷ []) (λ (h : Hand). hand Rest h.reserve) w s.goes;
     stamped = stands-within _ (Read a.0.lead p (value_in_cell cell p) false) a.0.seen b.0.seen c.0.seen c.0.seen front-waits (front-all c.0.seen)
         (subst (λ (t : ℕ). IsStamped origin.size p stamp (Read t p (value_in_cell cell p) false) b.0.seen c.0.seen) w.lead s.stamped);
+  }
+
+  pub linked-waits : (p : Place) (cell version : ℕ) → HasLoadedEx origin p cell version b c → HasLoadedEx origin p cell version a c
+  linked-waits p cell version s = record {
+    goes = waits-goes_by origin a b c (λ (t : ℕ). Watch t p ∷ Read t p (value_in_cell cell p) true ∷ []) (λ (h : Hand). hand Rest (Row (row_of origin.size.granule p) version)) w s.goes;
+    stamped = stands-within _ (Read a.0.lead p (value_in_cell cell p) true) a.0.seen b.0.seen c.0.seen c.0.seen front-waits (front-all c.0.seen)
+        (subst (λ (t : ℕ). IsStamped origin.size p (version / 2) (Read t p (value_in_cell cell p) true) b.0.seen c.0.seen) w.lead s.stamped);
   }

@@ -1,14 +1,15 @@
 -- What stamped loads, stores and store-exclusives tell: that they are done, where they stand, and with which stamp. This project's own.
-use Rattle.std.specs.Prelude.{◌≡◌, ℕ, true, false, [], ◌∷◌}
+use Rattle.std.specs.Prelude.{◌≡◌, ◌/◌, ℕ, true, false, [], ◌∷◌}
+use Rattle.llsc_base.specs.Memory.{row_of}
 use Rattle.llsc_base.specs.declared.access.Place.{Place}
 use Rattle.row_bytes.specs.Cell.{value_in_cell}
-use Rattle.history.specs.Operation.{entries_of_operation, fail, store}
+use Rattle.history.specs.Operation.{entries_of_operation, fail, load_watched, store}
 use Rattle.history.specs.declared.entry.Entry.TheVariants.{Read, Write, Fail, Begin}
 use Rattle.history.specs.declared.entry.Cause.{Cause}
 use Rattle.history.specs.declared.entry.Cause.TheVariants.{Lost}
 use Rattle.shared_memory.specs.Origin.{Origin}
 use Rattle.version_rule.specs.declared.hands.Doing.TheVariants.{Rest}
-use Rattle.version_rule.specs.declared.hands.Reserve.TheVariants.{Nothing}
+use Rattle.version_rule.specs.declared.hands.Reserve.TheVariants.{Nothing, Row}
 use Rattle.version_rule.specs.Exact.{IsOvertaken, IsUndisturbed}
 use Rattle.version_rule.specs.Hands.{hand, reserve_after}
 use Rattle.version_rule.specs.Told.{Goes, Mine}
@@ -18,6 +19,11 @@ use Rattle.version_memory.specs.Stands.{HasRoom, IsStamped, Stands}
 pub record HasLoaded (origin : Origin) (place : Place) (cell stamp : ℕ) (old new : Mine) : Type 0 where
   pub goes : Goes origin old (Read old.0.lead place (value_in_cell cell place) false ∷ []) (hand Rest old.0.doing.reserve) new
   pub stamped : IsStamped origin.size place stamp (Read old.0.lead place (value_in_cell cell place) false) old.0.seen new.0.seen
+
+-- a seat has loaded a cell exclusively, and has a reservation from now on, at a version that is twice its stamp
+pub record HasLoadedEx (origin : Origin) (place : Place) (cell version : ℕ) (old new : Mine) : Type 0 where
+  pub goes : Goes origin old (entries_of_operation old.0.lead (load_watched place (value_in_cell cell place))) (hand Rest (Row (row_of origin.size.granule place) version)) new
+  pub stamped : IsStamped origin.size place (version / 2) (Read old.0.lead place (value_in_cell cell place) true) old.0.seen new.0.seen
 
 -- a seat has stored a value: it has begun where the class might take a write, and its Write has this stamp
 pub record HasStored (origin : Origin) (place : Place) (value stamp : ℕ) (old new : Mine) : Type 0 where

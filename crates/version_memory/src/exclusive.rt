@@ -14,9 +14,10 @@ ghost use Rattle.version_memory.specs.Stored.{HasFailed, HasStoredEx};
 
 use crate::plain::write_held;
 use crate::targets::Target;
+use crossbeam_utils::Backoff;
 use history::Entry;
 use version_rule::{
-    Absent, Asks, ClaimEx, Clear, Limited, ReadEx, VersionSeat, VersionShared, Watch,
+    Absent, Asks, ClaimEx, Clear, Limited, ReadEx, TryWatch, VersionSeat, VersionShared, Watch,
 };
 
 /// What a load-exclusive has found.
@@ -43,6 +44,50 @@ fn watch<J: Asks>(shared: &VersionShared, seat: &mut VersionSeat, target: Target
     ensures home { seat.new.table_id ≡ seat.old.table_id }
 {
     shared.load::<Watch<J>>(seat, target.tag)
+}
+
+/// The tag of the class of a place; where it is even, a load-exclusive has begun.
+#[inline]
+fn try_watch<J: Asks>(shared: &VersionShared, seat: &mut VersionSeat, target: Target) -> u64
+    requires asked { J.ask ≡ ask (origin_of shared.now.key) target.place target.value }
+    requires ready { IsReady shared.now.key shared.now.table_id seat.old.table_id seat.old.me }
+    requires rest { seat.old.me.0.doing.doing ≡ Rest }
+    requires target { IsTarget shared.now.key target }
+    ensures reserved { result % 2 ≡ 0 → Goes (origin_of shared.now.key) seat.old.me (Entry.Watch seat.old.me.0.lead target.place ∷ []) (hand (Looking target.place) (Row (row_of shared.now.key.size.granule target.place) result)) seat.new.me }
+    ensures not_yet { result % 2 ≢ 0 → Goes (origin_of shared.now.key) seat.old.me [] seat.old.me.0.doing seat.new.me }
+    ensures most { result ≤ 2 * shared.now.key.size.limit }
+    ensures ready { IsReady shared.now.key shared.now.table_id seat.new.table_id seat.new.me }
+    ensures home { seat.new.table_id ≡ seat.old.table_id }
+{
+    shared.load::<TryWatch<J>>(seat, target.tag)
+}
+
+/// How often a load-exclusive looks at its class, at most, before it begins without a reservation.
+const LOOKS: u32 = 64;
+
+/// A load-exclusive begins, once no write of its class is in flight, or after so many looks without a reservation.
+#[inline]
+fn watch_soon<J: Asks>(shared: &VersionShared, seat: &mut VersionSeat, target: Target) -> u64
+    requires asked { J.ask ≡ ask (origin_of shared.now.key) target.place target.value }
+    requires ready { IsReady shared.now.key shared.now.table_id seat.old.table_id seat.old.me }
+    requires rest { seat.old.me.0.doing.doing ≡ Rest }
+    requires target { IsTarget shared.now.key target }
+    ensures reserved { result % 2 ≡ 0 → Goes (origin_of shared.now.key) seat.old.me (Entry.Watch seat.old.me.0.lead target.place ∷ []) (hand (Looking target.place) (Row (row_of shared.now.key.size.granule target.place) result)) seat.new.me }
+    ensures missed { result % 2 ≢ 0 → Goes (origin_of shared.now.key) seat.old.me (Entry.Miss seat.old.me.0.lead target.place ∷ []) (hand (Looking target.place) Nothing) seat.new.me }
+    ensures most { result ≤ 2 * shared.now.key.size.limit }
+    ensures looking { seat.new.me.0.doing.doing ≡ Looking target.place }
+    ensures ready { IsReady shared.now.key shared.now.table_id seat.new.table_id seat.new.me }
+    ensures home { seat.new.table_id ≡ seat.old.table_id }
+{
+    let backoff = Backoff::new();
+    for _ in 0..LOOKS {
+        let tag = try_watch::<J>(shared, seat, target);
+        if tag % 2 == 0 {
+            return tag;
+        }
+        backoff.spin();
+    }
+    watch::<J>(shared, seat, target)
 }
 
 /// It loads the cell.
@@ -75,6 +120,27 @@ pub fn load_ex_cell<J: Asks>(
     ensures home { seat.new.table_id ≡ seat.old.table_id }
 {
     let tag = watch::<J>(shared, seat, target);
+    let cell = read_ex::<J>(shared, seat, target);
+    Linked { cell, tag }
+}
+
+/// The same, of one that waits a while for its class.
+#[inline]
+pub fn load_ex_soon<J: Asks>(
+    shared: &VersionShared,
+    seat: &mut VersionSeat,
+    target: Target,
+) -> Linked
+    requires asked { J.ask ≡ ask (origin_of shared.now.key) target.place target.value }
+    requires ready { IsReady shared.now.key shared.now.table_id seat.old.table_id seat.old.me }
+    requires rest { seat.old.me.0.doing.doing ≡ Rest }
+    requires target { IsTarget shared.now.key target }
+    ensures reserved { result.tag % 2 ≡ 0 → Goes (origin_of shared.now.key) seat.old.me (entries_of_operation seat.old.me.0.lead (load_watched target.place (value_in_cell result.cell target.place))) (hand Rest (Row (row_of shared.now.key.size.granule target.place) result.tag)) seat.new.me }
+    ensures missed { result.tag % 2 ≢ 0 → Goes (origin_of shared.now.key) seat.old.me (entries_of_operation seat.old.me.0.lead (load_missed target.place (value_in_cell result.cell target.place))) (hand Rest Nothing) seat.new.me }
+    ensures short { result.tag ≤ 2 ^ 63 }
+    ensures home { seat.new.table_id ≡ seat.old.table_id }
+{
+    let tag = watch_soon::<J>(shared, seat, target);
     let cell = read_ex::<J>(shared, seat, target);
     Linked { cell, tag }
 }

@@ -1,22 +1,27 @@
 //! The memory is one that threads share.
-ghost use Rattle.std.specs.Prelude.{◌≡◌, ◌⊎◌, ◌+◌, ◌^◌, ◌<◌, ◌≤◌, ℕ, None, Some, IfSome, IsTrue, false, true};
+ghost use Rattle.std.specs.Prelude.{◌≡◌, ◌⊎◌, ◌+◌, ◌^◌, ◌<◌, ◌≤◌, ℕ, None, Some, IfErr, IfSome, IsTrue, [], false, true};
 ghost use Rattle.std.specs.Bool.{OnFalse, OnTrue};
+ghost use Rattle.std.specs.Result.{OnOk};
 ghost use Rattle.llsc_base.specs.Memory.{cell_of, is_aligned, row_of, size_bytes};
 ghost use Rattle.history.specs.Operation.{entries_of_operation, fail, load_missed, load_watched, store};
 ghost use Rattle.history.specs.declared.entry.Cause.{Cause};
-ghost use Rattle.shared_memory.specs.Seen.{IsSingle, Sees};
+ghost use Rattle.shared_memory.specs.Seen.{IsSingle, IsUsedUp, Sees};
+ghost use Rattle.version_rule.specs.Exact.{IsSpent, IsUndisturbed};
+ghost use Rattle.version_memory.specs.Exact.{HasFailedAt};
+ghost use Rattle.version_memory.specs.Stands.{HasRoom, Stands};
 ghost use Rattle.version_rule.specs.Hands.{class_at};
 ghost use Rattle.version_rule.specs.Kept.{cell_word, tag_word};
 ghost use Rattle.version_memory.specs.Passes.{IsPlace, IsTarget, reserved_after};
 ghost use Rattle.version_memory.specs.Memory.{memory_id, memory_origin, pass_home, pass_numbers, pass_seen, story_history};
 
-use crate::exclusive::clear_reservation;
+use crate::exclusive::{clear_reservation, load_ex_soon};
 use crate::marks::{merge_marks, only_mark, other_number};
 use crate::memory::VersionMemory;
 use crate::passes::{Reserved, VersionPass, VersionStory};
 use crate::plain::load_cell;
 use crate::seats::{join_numbers, split_number};
 use crate::targets::Target;
+use history::Entry;
 use llsc_base::{MachineSize, Place};
 use row_bytes::take;
 use shared_memory::{Rows, SharedMemory, Spent};
@@ -110,22 +115,61 @@ impl SharedMemory for VersionMemory {
         take(cell, place)
     }
 
+    // It is refused exactly where the class has had all of its writes, and none of them is in flight.
     fn store<R: Wait>(
         &self,
         rt: &R,
         pass: &mut VersionPass,
         place: Place,
         value: u64,
-    ) -> Result<(), Spent> {
+    ) -> Result<(), Spent>
+        requires memory { pass_home pass.old ≡ memory_id self.now }
+        requires single { (t : ℕ) × IsSingle t (pass_numbers pass.old) × (t < (memory_origin self.now).first) }
+        requires aligned { IsTrue (is_aligned place) }
+        requires inside { place.addr + size_bytes place.size ≤ (memory_origin self.now).size.mem }
+        requires fits { value < 256 ^ size_bytes place.size }
+        ensures done { OnOk result ((t : ℕ) → IsSingle t (pass_numbers pass.old) → Sees (memory_origin self.now) t (pass_seen pass.old) (entries_of_operation t (store place value false)) (pass_seen pass.new)) }
+        ensures spent { IfErr result (λ s. IsUsedUp (memory_origin self.now) place s.class s.writes (pass_seen pass.new)) }
+        ensures refused { IfErr result (λ _. (t : ℕ) → IsSingle t (pass_numbers pass.old) → Sees (memory_origin self.now) t (pass_seen pass.old) [] (pass_seen pass.new)) }
+        ensures memory { pass_home pass.new ≡ pass_home pass.old }
+        ensures numbers { pass_numbers pass.new ≡ pass_numbers pass.old }
+        ensures room { OnOk result ((t : ℕ) → IsSingle t (pass_numbers pass.old) → HasRoom (memory_origin self.now).size place (Entry.Begin t place) (pass_seen pass.old) (pass_seen pass.new)) }
+        ensures exact { IfErr result (λ _. IsSpent (memory_origin self.now).size place (pass_seen pass.new)) }
+    {
         self.store_stamped(rt, pass, place, value)?;
         Ok(())
     }
 
+    // It waits a while for its class, and then goes on without a reservation.
     fn load_ex<R: Wait>(&self, rt: &R, pass: &mut VersionPass, place: Place) -> u64 {
-        self.load_ex_now(pass, place).0
+        let target = self.target(place, 0);
+        let linked = load_ex_soon::<Brand>(&self.table.shared, &mut pass.seat, target);
+        let value = take(linked.cell, place);
+        if linked.tag % 2 != 0 {
+            pass.reserved = None;
+            return value;
+        }
+        pass.reserved = Some(Reserved {
+            row: place.row(self.size.granule()),
+            version: linked.tag,
+        });
+        value
     }
 
-    fn store_ex<R: Wait>(&self, rt: &R, pass: &mut VersionPass, place: Place, value: u64) -> bool {
+    // It succeeds exactly where its thread is undisturbed.
+    fn store_ex<R: Wait>(&self, rt: &R, pass: &mut VersionPass, place: Place, value: u64) -> bool
+        requires memory { pass_home pass.old ≡ memory_id self.now }
+        requires single { (t : ℕ) × IsSingle t (pass_numbers pass.old) × (t < (memory_origin self.now).first) }
+        requires aligned { IsTrue (is_aligned place) }
+        requires inside { place.addr + size_bytes place.size ≤ (memory_origin self.now).size.mem }
+        requires fits { value < 256 ^ size_bytes place.size }
+        ensures done { OnTrue result ((t : ℕ) → IsSingle t (pass_numbers pass.old) → Sees (memory_origin self.now) t (pass_seen pass.old) (entries_of_operation t (store place value true)) (pass_seen pass.new)) }
+        ensures failed { OnFalse result ((t : ℕ) → IsSingle t (pass_numbers pass.old) → (cause : Cause) × Sees (memory_origin self.now) t (pass_seen pass.old) (entries_of_operation t (fail place value cause)) (pass_seen pass.new)) }
+        ensures memory { pass_home pass.new ≡ pass_home pass.old }
+        ensures numbers { pass_numbers pass.new ≡ pass_numbers pass.old }
+        ensures exact_done { OnTrue result ((t : ℕ) → IsSingle t (pass_numbers pass.old) → Stands (IsUndisturbed (memory_origin self.now).size t place) (Entry.Begin t place) (pass_seen pass.old) (pass_seen pass.new)) }
+        ensures exact_failed { OnFalse result ((t : ℕ) → IsSingle t (pass_numbers pass.old) → HasFailedAt (memory_origin self.now).size t place value (pass_seen pass.old) (pass_seen pass.new)) }
+    {
         self.store_ex_now(pass, place, value)
     }
 

@@ -16,7 +16,7 @@ use crate::exclusive::{fail_absent, load_ex_cell, store_ex_cell};
 use crate::memory::VersionMemory;
 use crate::passes::{Reserved, VersionPass};
 use crate::plain::store_cell;
-use crate::stamped::load_stamped_cell;
+use crate::stamped::{load_ex_stamped_cell, load_stamped_cell};
 use history::Entry;
 use llsc_base::Place;
 use row_bytes::take;
@@ -121,6 +121,33 @@ impl VersionMemory {
             version: linked.tag,
         });
         (value, true)
+    }
+
+    /// A load-exclusive, on whose row the thread holds a reservation from now on, and its stamp: how many writes the class of
+    /// the place had had before. It may wait for other threads.
+    pub fn load_ex_stamped<R: Wait>(
+        &self,
+        rt: &R,
+        pass: &mut VersionPass,
+        place: Place,
+    ) -> (u64, u64)
+        requires memory { pass_home pass.old ≡ memory_id self.now }
+        requires single { (t : ℕ) × IsSingle t (pass_numbers pass.old) × (t < (memory_origin self.now).first) }
+        requires aligned { IsTrue (is_aligned place) }
+        requires inside { place.addr + size_bytes place.size ≤ (memory_origin self.now).size.mem }
+        ensures seen { (t : ℕ) → IsSingle t (pass_numbers pass.old) → Sees (memory_origin self.now) t (pass_seen pass.old) (entries_of_operation t (load_watched place result.0)) (pass_seen pass.new) }
+        ensures stamp { (t : ℕ) → IsSingle t (pass_numbers pass.old) → IsStamped (memory_origin self.now).size place result.1 (Entry.Read t place result.0 true) (pass_seen pass.old) (pass_seen pass.new) }
+        ensures fits { result.0 < 256 ^ size_bytes place.size }
+        ensures memory { pass_home pass.new ≡ pass_home pass.old }
+        ensures numbers { pass_numbers pass.new ≡ pass_numbers pass.old }
+    {
+        let target = self.target(place, 0);
+        let linked = load_ex_stamped_cell::<R, Brand>(rt, &self.table.shared, &mut pass.seat, target);
+        pass.reserved = Some(Reserved {
+            row: place.row(self.size.granule()),
+            version: linked.tag,
+        });
+        (take(linked.cell, place), linked.tag / 2)
     }
 
     /// A store-exclusive of a value below 2 to the 8, 16, 32 or 64 by the place's size, which waits for nobody, and whether it

@@ -24,11 +24,11 @@ use Rattle.version_rule.specs.declared.plans.Plan.{Plan}
 use Rattle.version_rule.specs.Hands.{class_at, hand}
 use Rattle.version_rule.specs.Knowledge.{IsAt, IsReserve, Knows}
 use Rattle.version_rule.specs.Kept.{IsLaid, Kept, KeptBy, cell_word, origin_of, tag_word}
-use Rattle.version_rule.specs.Told.{HasLost, IsDisturbed, IsUndisturbedAt, Mine, absent, ask, claimed_ex, cleared, limited, read_ex, watched}
+use Rattle.version_rule.specs.Told.{HasLost, IsDisturbed, IsUndisturbedAt, Mine, absent, ask, claimed_ex, cleared, limited, read_ex, watched, watched_or_not}
 use Rattle.version_rule.proofs.Classes.{IsOrderly, flies-none}
 use Rattle.version_rule.proofs.Facts.{as-found, cell-is, known, lead-below, overtaken-is, reserved-is, sound, stirred-is, tag-is, writes-is}
 use Rattle.version_rule.proofs.Laid.{laid-same, laid-tag}
-use Rattle.version_rule.proofs.Moves.{decides, moves-one, told-one}
+use Rattle.version_rule.proofs.Moves.{decides, moves-none, moves-one, told-none, told-one}
 use Rattle.version_rule.proofs.Own.{own-claim_ex, own-clear, own-fail, own-miss, own-read_ex, own-watch}
 
 odd-of : (n : ℕ) → n % 2 ≢ 0 → n % 2 ≡ 1
@@ -84,6 +84,41 @@ module _ (plan : Plan) where
               as-found plan s.words i (set s.views seat w) (moves-one plan s.words s.views k seat v at single e refl may tt s.words h after
                   (laid-same plan.size s.words k.standing (joined plan.size k.standing e) refl refl k.laid)),
               ((λ is. absurd (odd is)), (λ not. told-one plan s.words s.views k seat v at single e refl may tt h me.1 after), most),
+            )
+      ]
+
+  -- the same, where it waits rather than to begin without a reservation
+  pub tries-watch : (slots seat : ℕ) (me : Mine) (p : Place) (value : ℕ) → IsSingle me.0.lead (marked me.0.numbers) → me.0.doing.doing ≡ Rest → 0 < plan.size.classes
+      → Allows (KeptBy plan) slots seat me (tag_word (class_at plan.size p)) (λ n. n) (watched_or_not (ask (origin_of plan) p value) (step slots (tag_word (class_at plan.size p)) 0 0 none) me)
+  tries-watch slots seat me p value single rest some_class s k long at small =
+      let class = class_at plan.size p in
+      let i = tag_word class in
+      let n = slice_index s.words i in
+      let v = me.0 in
+      let knows = known plan s.words s.views k seat v at single in
+      let stage = subst (λ (d : Doing). IsAt plan.size k.standing v.lead d) rest knows.at in
+      let tag = tag-is plan s.words s.views k p some_class in
+      let most : n ≤ 2 * plan.size.limit = subst (λ (m : ℕ). m ≤ 2 * plan.size.limit) (sym tag) (k.classes.most class) in
+      elim (cases_eq (n % 2) 0) [
+        | inl even ↦
+            let e = Watch v.lead p in
+            let h = hand (Looking p) (Row (row_of plan.size.granule p) n) in
+            let after = own-watch plan.size k.standing v.lead p n even (sym tag) in
+            let w = moved v k.history (e ∷ []) h in (
+              w,
+              keeps,
+              tt,
+              as-found plan s.words i (set s.views seat w) (moves-one plan s.words s.views k seat v at single e refl stage tt s.words h after
+                  (laid-same plan.size s.words k.standing (joined plan.size k.standing e) refl refl k.laid)),
+              ((λ is. told-one plan s.words s.views k seat v at single e refl stage tt h me.1 after), (λ not. absurd (not even)), most),
+            )
+        | inr odd ↦
+            let w = moved v k.history [] v.doing in (
+              w,
+              keeps,
+              tt,
+              as-found plan s.words i (set s.views seat w) (moves-none plan s.words s.views k seat v at single s.words v.doing knows k.laid),
+              ((λ is. absurd (odd is)), (λ not. told-none plan s.words s.views k seat v at single v.doing me.1 knows), most),
             )
       ]
 

@@ -102,6 +102,13 @@ watched q st old n new =
     × (n % 2 ≢ 0 → Goes q.origin old (Miss old.0.lead q.place ∷ []) (hand (Looking q.place) Nothing) new)
     × (n ≤ 2 * q.origin.size.limit)
 
+-- the same, where it waits rather than to begin without one
+abbrev pub watched_or_not : Ask → Step (Unit {0}) → Mine → ℕ → Mine → Type 0
+watched_or_not q st old n new =
+    (n % 2 ≡ 0 → Goes q.origin old (Watch old.0.lead q.place ∷ []) (hand (Looking q.place) (Row (row_of q.origin.size.granule q.place) n)) new)
+    × (n % 2 ≢ 0 → Goes q.origin old [] old.0.doing new)
+    × (n ≤ 2 * q.origin.size.limit)
+
 -- and loads the cell
 abbrev pub read_ex : Ask → Step (Unit {0}) → Mine → ℕ → Mine → Type 0
 read_ex q st old n new = Goes q.origin old (Read old.0.lead q.place (value_in_cell n q.place) true ∷ []) (hand Rest old.0.doing.reserve) new

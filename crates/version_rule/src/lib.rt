@@ -10,5 +10,5 @@ pub use hands::{Doing, Hand, Reserve, VersionView};
 pub use plans::{Plan, VersionRule, VersionSeat, VersionShared, VersionTable};
 pub use plays::{
     Absent, Asks, Change, Claim, ClaimEx, Clear, FirstLook, Limited, Load, Look, LookAtTag, ReadEx,
-    Release, SecondLook, Take, ThirdLook, ThirdLookEx, Watch,
+    Release, SecondLook, Take, ThirdLook, ThirdLookEx, TryWatch, Watch,
 };

@@ -104,6 +104,17 @@ impl<J: Asks> Play<(), VersionView> for Watch<J> {
     ghost then = { watched J.ask };
 }
 
+/// The same, where it waits rather than to begin without a reservation.
+pub struct TryWatch<J> {
+    of: PhantomData<J>,
+}
+
+impl<J: Asks> Play<(), VersionView> for TryWatch<J> {
+    ghost use Rattle.version_rule.specs.Told.{watched_or_not};
+
+    ghost then = { watched_or_not J.ask };
+}
+
 /// It loads the cell.
 pub struct ReadEx<J> {
     of: PhantomData<J>,

@@ -1,0 +1,11 @@
+use Rattle.std.proofs.Common.{◌≡◌}
+use Rattle.version_rule.proofs.Waits.{Waits}
+use Rattle.version_memory.specs.Passes.{IsReady}
+use Rattle.version_memory.proofs.stamped.load_ex_stamped_cell.Given as goal
+
+abbrev pub invariant-loop : goal.invariant-loop
+invariant-loop g l = record {
+  waits : Waits l.fn.seat.me l.seat.me;
+  ready : IsReady l.shared.key l.shared.table_id l.seat.table_id l.seat.me;
+  home : l.seat.table_id ≡ l.fn.seat.table_id;
+}
