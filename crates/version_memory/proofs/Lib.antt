@@ -5,3 +5,4 @@ mod After
 mod Waited
 mod Exactly
 mod Betweens
+mod TestPasses

@@ -15,3 +15,6 @@ mod targets;
 
 pub use memory::VersionMemory;
 pub use passes::{VersionPass, VersionStory};
+
+#[cfg(test)]
+mod tests;

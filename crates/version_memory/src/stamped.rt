@@ -16,7 +16,9 @@ use crate::targets::Target;
 use crossbeam_utils::Backoff;
 use history::Entry;
 use std::sync::Wait;
-use version_rule::{Asks, FirstLook, SecondLook, ThirdLook, ThirdLookEx, VersionSeat, VersionShared};
+use version_rule::{
+    Asks, FirstLook, SecondLook, ThirdLook, ThirdLookEx, VersionSeat, VersionShared,
+};
 
 /// What a stamped load has found.
 #[derive(Clone, Copy)]

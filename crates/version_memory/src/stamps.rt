@@ -142,7 +142,12 @@ impl VersionMemory {
         ensures numbers { pass_numbers pass.new ≡ pass_numbers pass.old }
     {
         let target = self.target(place, 0);
-        let linked = load_ex_stamped_cell::<R, Brand>(rt, &self.table.shared, &mut pass.seat, target);
+        let linked = load_ex_stamped_cell::<R, Brand>(
+            rt,
+            &self.table.shared,
+            &mut pass.seat,
+            target,
+        );
         pass.reserved = Some(Reserved {
             row: place.row(self.size.granule()),
             version: linked.tag,

@@ -24,6 +24,5 @@ returns-clause-not_yet g c = (rw c.requires.asked at c.load.ensures.2).1
 pub returns-clause-most : goal.returns-clause-most
 returns-clause-most g c = (rw c.requires.asked at c.load.ensures.2).2
 
-
 pub returns-clause-ready : goal.returns-clause-ready
 returns-clause-ready g c = ready-watched_or_not _ _ _ _ (origin_of c.args.shared.now.key) c.args.target.place c.args.target.value _ (step c.args.shared.now.table_id.slots c.args.target.tag 0 0 none) _ _ c.requires.ready c.load.ensures.0 (rw c.requires.asked at c.load.ensures.2)
