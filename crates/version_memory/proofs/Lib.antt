@@ -2,6 +2,7 @@ mod FirstWords
 mod HeldMarks
 mod Ready
 mod After
+mod Whole
 mod Waited
 mod Exactly
 mod Betweens

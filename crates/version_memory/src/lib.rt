@@ -5,6 +5,7 @@ mod exclusive;
 mod making;
 mod marks;
 mod memory;
+mod now;
 mod passes;
 mod plain;
 mod seats;

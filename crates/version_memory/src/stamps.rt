@@ -1,10 +1,8 @@
-//! The calls that this memory has beside those of every shared memory: accesses that give their stamps, and exclusive ones that
-//! wait for nobody.
+//! Accesses that give their stamps: how many writes the class of their place had had before.
 ghost use Rattle.std.specs.Prelude.{◌≡◌, ◌≢◌, ◌+◌, ◌^◌, ◌<◌, ◌≤◌, ℕ, [], None, Some, IfErr, IfOk, IfSome, IsTrue, false, true};
-ghost use Rattle.std.specs.Bool.{OnFalse, OnTrue};
 ghost use Rattle.std.specs.Result.{OnOk};
 ghost use Rattle.llsc_base.specs.Memory.{is_aligned, size_bytes};
-ghost use Rattle.history.specs.Operation.{entries_of_operation, fail, load, load_missed, load_watched, store};
+ghost use Rattle.history.specs.Operation.{entries_of_operation, fail, load, load_watched, store};
 ghost use Rattle.history.specs.declared.entry.Cause.{Cause};
 ghost use Rattle.shared_memory.specs.Seen.{IsSingle, IsUsedUp, Sees};
 ghost use Rattle.version_rule.specs.Exact.{IsSpent, IsUndisturbed};
@@ -12,7 +10,7 @@ ghost use Rattle.version_memory.specs.Exact.{HasFailedAt};
 ghost use Rattle.version_memory.specs.Memory.{memory_id, memory_origin, pass_home, pass_numbers, pass_seen};
 ghost use Rattle.version_memory.specs.Stands.{HasRoom, IsStamped, Stands};
 
-use crate::exclusive::{fail_absent, load_ex_cell, store_ex_cell};
+use crate::exclusive::{fail_absent, store_ex_cell};
 use crate::memory::VersionMemory;
 use crate::passes::{Reserved, VersionPass};
 use crate::plain::store_cell;
@@ -96,33 +94,6 @@ impl VersionMemory {
         Ok(stamp)
     }
 
-    /// A load-exclusive that waits for nobody, and whether the thread holds a reservation on the row from now on: it does
-    /// unless a write of another thread in the class of the row is in flight.
-    pub fn load_ex_now(&self, pass: &mut VersionPass, place: Place) -> (u64, bool)
-        requires memory { pass_home pass.old ≡ memory_id self.now }
-        requires single { (t : ℕ) × IsSingle t (pass_numbers pass.old) × (t < (memory_origin self.now).first) }
-        requires aligned { IsTrue (is_aligned place) }
-        requires inside { place.addr + size_bytes place.size ≤ (memory_origin self.now).size.mem }
-        ensures reserved { OnTrue result.1 ((t : ℕ) → IsSingle t (pass_numbers pass.old) → Sees (memory_origin self.now) t (pass_seen pass.old) (entries_of_operation t (load_watched place result.0)) (pass_seen pass.new)) }
-        ensures missed { OnFalse result.1 ((t : ℕ) → IsSingle t (pass_numbers pass.old) → Sees (memory_origin self.now) t (pass_seen pass.old) (entries_of_operation t (load_missed place result.0)) (pass_seen pass.new)) }
-        ensures fits { result.0 < 256 ^ size_bytes place.size }
-        ensures memory { pass_home pass.new ≡ pass_home pass.old }
-        ensures numbers { pass_numbers pass.new ≡ pass_numbers pass.old }
-    {
-        let target = self.target(place, 0);
-        let linked = load_ex_cell::<Brand>(&self.table.shared, &mut pass.seat, target);
-        let value = take(linked.cell, place);
-        if linked.tag % 2 != 0 {
-            pass.reserved = None;
-            return (value, false);
-        }
-        pass.reserved = Some(Reserved {
-            row: place.row(self.size.granule()),
-            version: linked.tag,
-        });
-        (value, true)
-    }
-
     /// A load-exclusive, on whose row the thread holds a reservation from now on, and its stamp: how many writes the class of
     /// the place had had before. It may wait for other threads.
     pub fn load_ex_stamped<R: Wait>(
@@ -155,26 +126,10 @@ impl VersionMemory {
         (take(linked.cell, place), linked.tag / 2)
     }
 
-    /// A store-exclusive of a value below 2 to the 8, 16, 32 or 64 by the place's size, which waits for nobody, and whether it
-    /// succeeded: exactly where the thread holds a reservation on the row, no write of any thread has begun in the row's class
-    /// since, and the class may take another.
-    pub fn store_ex_now(&self, pass: &mut VersionPass, place: Place, value: u64) -> bool
-        requires memory { pass_home pass.old ≡ memory_id self.now }
-        requires single { (t : ℕ) × IsSingle t (pass_numbers pass.old) × (t < (memory_origin self.now).first) }
-        requires aligned { IsTrue (is_aligned place) }
-        requires inside { place.addr + size_bytes place.size ≤ (memory_origin self.now).size.mem }
-        requires fits { value < 256 ^ size_bytes place.size }
-        ensures done { OnTrue result ((t : ℕ) → IsSingle t (pass_numbers pass.old) → Sees (memory_origin self.now) t (pass_seen pass.old) (entries_of_operation t (store place value true)) (pass_seen pass.new)) }
-        ensures failed { OnFalse result ((t : ℕ) → IsSingle t (pass_numbers pass.old) → (cause : Cause) × Sees (memory_origin self.now) t (pass_seen pass.old) (entries_of_operation t (fail place value cause)) (pass_seen pass.new)) }
-        ensures exact_done { OnTrue result ((t : ℕ) → IsSingle t (pass_numbers pass.old) → Stands (IsUndisturbed (memory_origin self.now).size t place) (Entry.Begin t place) (pass_seen pass.old) (pass_seen pass.new)) }
-        ensures exact_failed { OnFalse result ((t : ℕ) → IsSingle t (pass_numbers pass.old) → HasFailedAt (memory_origin self.now).size t place value (pass_seen pass.old) (pass_seen pass.new)) }
-        ensures memory { pass_home pass.new ≡ pass_home pass.old }
-        ensures numbers { pass_numbers pass.new ≡ pass_numbers pass.old }
-    {
-        self.store_ex_stamped(pass, place, value).is_some()
-    }
-
-    /// The same, and the stamp of one that succeeded: how many writes the class of the place had had before.
+    /// A store-exclusive of a value below 2 to the 8, 16, 32 or 64 by the place's size, which waits for nobody; and its stamp,
+    /// how many writes the class of the place had had before, or none where it failed. It succeeds exactly where the thread
+    /// holds a reservation on the row, no write of any thread has begun in the row's class since, and the class may take
+    /// another.
     pub fn store_ex_stamped(&self, pass: &mut VersionPass, place: Place, value: u64) -> Option<u64>
         requires memory { pass_home pass.old ≡ memory_id self.now }
         requires single { (t : ℕ) × IsSingle t (pass_numbers pass.old) × (t < (memory_origin self.now).first) }

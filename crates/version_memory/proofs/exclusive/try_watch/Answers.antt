@@ -2,8 +2,7 @@ use mathlib.Core.Option.{none}
 use Rattle.atomic_table.specs.Table.{step}
 use Rattle.version_rule.proofs.ExclusiveSteps.{tries-watch}
 use Rattle.version_rule.specs.Kept.{origin_of}
-use Rattle.version_memory.proofs.After.{ready-watched_or_not}
-use Rattle.version_memory.proofs.Ready.{tag_word-below}
+use Rattle.version_memory.proofs.Ready.{ready-watched_or_not, tag_word-below}
 use Rattle.version_memory.proofs.exclusive.try_watch.Goals as goal
 
 pub load-requires : goal.load-requires

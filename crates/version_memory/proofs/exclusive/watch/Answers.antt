@@ -2,8 +2,7 @@ use mathlib.Core.Option.{none}
 use Rattle.atomic_table.specs.Table.{step}
 use Rattle.version_rule.proofs.ExclusiveSteps.{watches}
 use Rattle.version_rule.specs.Kept.{origin_of}
-use Rattle.version_memory.proofs.After.{looking-watched, ready-watched}
-use Rattle.version_memory.proofs.Ready.{tag_word-below}
+use Rattle.version_memory.proofs.Ready.{looking-watched, ready-watched, tag_word-below}
 use Rattle.version_memory.proofs.exclusive.watch.Goals as goal
 
 pub load-requires : goal.load-requires

@@ -1,7 +1,7 @@
 use Rattle.std.proofs.Common.{◌≡◌, ℕ, ◌/◌, ◌*◌, ◌<◌, subst, arith}
 use Rattle.version_rule.specs.Kept.{origin_of}
 use Rattle.version_memory.specs.Stored.{HasStored}
-use Rattle.version_memory.proofs.After.{stored}
+use Rattle.version_memory.proofs.Whole.{stored}
 use Rattle.version_memory.proofs.plain.try_store.Goals as goal
 
 pub returns-clause-done : goal.returns-clause-done

@@ -2,8 +2,7 @@ use mathlib.Core.Option.{none}
 use Rattle.atomic_table.specs.Table.{step}
 use Rattle.version_rule.proofs.StampedSteps.{looks-third_ex}
 use Rattle.version_rule.specs.Kept.{origin_of}
-use Rattle.version_memory.proofs.After.{ready-third_ex}
-use Rattle.version_memory.proofs.Ready.{tag_word-below}
+use Rattle.version_memory.proofs.Ready.{ready-third_ex, tag_word-below}
 use Rattle.version_memory.proofs.stamped.find_again_ex.Goals as goal
 
 pub load-requires : goal.load-requires

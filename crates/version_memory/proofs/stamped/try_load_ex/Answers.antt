@@ -1,5 +1,5 @@
 use Rattle.version_rule.specs.Kept.{origin_of}
-use Rattle.version_memory.proofs.After.{linked}
+use Rattle.version_memory.proofs.Whole.{linked}
 use Rattle.version_memory.proofs.stamped.try_load_ex.Goals as goal
 
 pub returns-clause-loaded : goal.returns-clause-loaded
