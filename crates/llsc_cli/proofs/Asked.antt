@@ -2,7 +2,7 @@
 use Rattle.std.proofs.Common.{◌≡◌, ◌≢◌, ℕ, ◌⊎◌, inl, inr, List, [], ◌∷◌, Option, Some, None, refl, sym, subst}
 use Rattle.std.proofs.lemmas.List.Elements.{recursion_from_All}
 use Rattle.history.specs.declared.entry.Entry.{Entry}
-use Rattle.hst_memory.specs.declared.passes.HstStory.{HstStory}
+use Rattle.version_memory.specs.declared.passes.VersionStory.{VersionStory}
 use Rattle.llsc_cli.specs.Host.{AreBytes, Adds}
 use Rattle.llsc_words.specs.Request.{Request, Solo, Run, Assemble, Disassemble, Trace, Check, Load, files_of}
 use Rattle.llsc_cli.specs.Answer.{Answers, AreFiles, AreTold, IsDue, IsNoneOf}
@@ -73,7 +73,7 @@ told_answered {R} held asked files lost story old new status told whole unread e
     read_failed (inr none) failed = due_named held asked lost none failed.1
 
 -- an end of a call that ran no threads beside each other has no history
-pub ends_untold : {X : Type 0} (held : List ℕ → Option (List ℕ)) (asked : Request) (story : Option HstStory) (old new : Option (List ℕ)) (status said : ℕ)
+pub ends_untold : {X : Type 0} (held : List ℕ → Option (List ℕ)) (asked : Request) (story : Option VersionStory) (old new : Option (List ℕ)) (status said : ℕ)
     → status ≡ said → story ≡ None → EndsAsked held asked None X old new said → EndsAsked held asked (told story) X old new status
 ends_untold {X} held asked story old new status said same none ends =
     subst (λ s. EndsAsked held asked (told story) X old new s) (sym same) (subst (λ t. EndsAsked held asked (told t) X old new said) (sym none) ends)

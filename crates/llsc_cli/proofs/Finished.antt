@@ -5,7 +5,6 @@ use Rattle.std.proofs.lemmas.List.Elements.{All-weaker}
 use Rattle.std.proofs.lemmas.List.Sums.{sum_by-le}
 use Rattle.llsc_base.specs.Images.{Program}
 use Rattle.llsc_base.specs.Sizes.{Numbers}
-use Rattle.a32_instr.specs.declared.outside.Stop.TheVariants.{TagLimit}
 use Rattle.row_bytes.specs.Cell.{cell_at}
 use Rattle.history.specs.Legal.{IsComplete, IsLegal}
 use Rattle.history.specs.Monitor.{at_rest_by, monitor_after}
@@ -16,13 +15,6 @@ use Rattle.guest_thread.specs.Outcome.{AreEndsOn, IsOutcome}
 use Rattle.guest_thread.specs.declared.ends.GuestEnd.{GuestEnd}
 use Rattle.llsc_cli.specs.Beside.{AreCells, Ran, left_by}
 use Rattle.llsc_cli.specs.Report.{HasSums}
-use Rattle.llsc_cli.specs.Run.{AreUnlimited}
-
--- a memory that refuses no store stops no thread
-pub unlimited : (spends : Bool) (ends : List GuestEnd) → spends ≡ false → All (λ (end : GuestEnd). (addr : ℕ) → end.stop ≡ TagLimit addr → spends ≡ true) ends → AreUnlimited ends
-unlimited spends ends none all =
-    All-weaker (λ (end : GuestEnd). (addr : ℕ) → end.stop ≡ TagLimit addr → spends ≡ true) (λ (end : GuestEnd). (addr : ℕ) → end.stop ≡ TagLimit addr → ⊥)
-    (λ end one addr is. cc (none, one addr is)) ends all
 
 -- the counts of 16 threads are small
 few_of : (end : GuestEnd) → accesses_counted (counts_in end) < 2 ^ 45 → (end.reads ≤ 2 ^ 45) × (end.writes ≤ 2 ^ 45) × (end.fails ≤ 2 ^ 45)
@@ -48,15 +40,14 @@ closed_cells program size bytes history seen cells same begins count each =
     (subst (λ b. AreCells size (monitor_after (at_rest_by size.granule b size.threads) (accesses_of seen)).memory cells) begins
     (record { count = count; each = each }))
 
--- the threads of a closed memory that refused no store
+-- the threads of a closed memory
 pub ran : (program : Program) (size : Numbers) (budget : ℕ) (bytes : List ℕ) (history seen : List Entry) (ends : List GuestEnd) (cells : List ℕ)
     → history ≡ seen → bytes ≡ program.bytes → IsLegal size bytes seen → IsComplete seen → AreEndsOn program size budget seen ends
-    → AreUnlimited ends → HasSums ends → AreCells size (left_by program size history) cells
+    → HasSums ends → AreCells size (left_by program size history) cells
     → Ran program size budget history ends cells
-ran program size budget bytes history seen ends cells same begins legal complete are free sums cells_are = record {
+ran program size budget bytes history seen ends cells same begins legal complete are sums cells_are = record {
   outcome = subst (λ h. IsOutcome program size budget h ends) (sym same)
       (record { legal = subst (λ b. IsLegal size b seen) begins legal; complete = complete; ends = are });
-  free = free;
   sums = sums;
   left = cells_are;
 }

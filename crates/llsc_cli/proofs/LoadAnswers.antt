@@ -43,7 +43,7 @@ loaded_all seed threads rounds budget history ends cells ran none =
     let left : have_left ends ≡ true = left-all (have_left ends) none in
     let same : summary_by seed threads rounds (counter_of cells) ≡ summary_of seed threads rounds memory =
     summary_same seed threads rounds (counter_of cells) (counter_in memory) (counters_left seed threads rounds history cells ran.outcome.legal ran.left) in
-    (ends, (ran.outcome, (ran.free, (sym none, same ∙ ap (λ b. if b then summary_of seed threads rounds memory else report_of budget ends) (sym left)))))
+    (ends, (ran.outcome, (sym none, same ∙ ap (λ b. if b then summary_of seed threads rounds memory else report_of budget ends) (sym left))))
 
 -- the report, where some didn't
 pub loaded_some : (seed threads rounds budget : ℕ) (history : List Entry) (ends : List GuestEnd) (cells : List ℕ)
@@ -52,7 +52,7 @@ pub loaded_some : (seed threads rounds budget : ℕ) (history : List Entry) (end
 loaded_some seed threads rounds budget history ends cells ran some =
     let memory = left_by (load_program seed threads rounds) (load_size threads) history in
     let left : have_left ends ≡ false = left-some (have_left ends) some in
-    (ends, (ran.outcome, (ran.free, (refl, ap (λ b. if b then summary_of seed threads rounds memory else report_of budget ends) (sym left)))))
+    (ends, (ran.outcome, (refl, ap (λ b. if b then summary_of seed threads rounds memory else report_of budget ends) (sym left))))
 
 -- ---- the answer
 
@@ -110,7 +110,7 @@ outcome_by : (against : Option (List ℕ)) (story : Option (List Entry)) (seed t
 outcome_by (Some name) story seed threads rounds budget status text stands (inl is) = cc (stands.1.0, is)
 outcome_by (Some name) story seed threads rounds budget status text stands (inr is) = cc (stands.1.0, is)
 outcome_by None None seed threads rounds budget status text tells ran = absurd tells
-outcome_by None (Some history) seed threads rounds budget status text tells ran = (history, tells.0, (refl, (tells.1.0, tells.1.1.1.1)))
+outcome_by None (Some history) seed threads rounds budget status text tells ran = (history, tells.0, (refl, (tells.1.0, tells.1.1.1)))
 
 pub load_outcome : (seed threads rounds budget : ℕ) (story : Option (List Entry)) (status : ℕ) (text : List ℕ)
     → AnswersLoad seed threads rounds budget story status text → (status ≡ 0) ⊎ (status ≡ 1)

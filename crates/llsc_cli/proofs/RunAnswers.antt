@@ -17,7 +17,7 @@ use Rattle.llsc_cli.specs.Trace.{status_of_all}
 
 pub reported : (program : Program) (size : Numbers) (budget : ℕ) (history : List Entry) (ends : List GuestEnd) (cells : List ℕ)
     → Ran program size budget history ends cells → IsReportOf history program size budget (status_of_all ends) (report_of budget ends)
-reported program size budget history ends cells ran = (ends, (ran.outcome, (ran.free, (refl, refl))))
+reported program size budget history ends cells ran = (ends, (ran.outcome, (refl, refl)))
 
 -- ---- the answer
 
@@ -47,7 +47,7 @@ outcome_by : (against : Option (List ℕ)) (story : Option (List Entry)) (progra
 outcome_by (Some name) story program size budget status text stands (inl is) = cc (stands.1.0, is)
 outcome_by (Some name) story program size budget status text stands (inr is) = cc (stands.1.0, is)
 outcome_by None None program size budget status text reports ran = absurd reports
-outcome_by None (Some history) program size budget status text reports ran = (history, reports.0, (refl, (reports.1.0, reports.1.1.1.1)))
+outcome_by None (Some history) program size budget status text reports ran = (history, reports.0, (refl, (reports.1.0, reports.1.1.1)))
 
 pub outcome_of : (format : Format) (size : Numbers) (budget : ℕ) (file : List ℕ) (story : Option (List Entry)) (status : ℕ) (text : List ℕ)
     → AnswersRun format size budget file story status text → (status ≡ 0) ⊎ (status ≡ 1)

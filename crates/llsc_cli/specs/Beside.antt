@@ -9,7 +9,6 @@ use Rattle.history.specs.declared.entry.Entry.{Entry}
 use Rattle.guest_thread.specs.Outcome.{IsOutcome}
 use Rattle.guest_thread.specs.declared.ends.GuestEnd.{GuestEnd}
 use Rattle.llsc_cli.specs.Report.{HasSums}
-use Rattle.llsc_cli.specs.Run.{AreUnlimited}
 
 -- the memory that a history leaves, from a program's bytes on
 abbrev pub left_by : Program → Numbers → List Entry → List ℕ
@@ -20,9 +19,8 @@ pub record AreCells (size : Numbers) (memory cells : List ℕ) : Type 0 where
   pub count : 8 * length cells ≡ size.mem
   pub each : (i : ℕ) → i < length cells → slice_index cells i ≡ cell_at memory i
 
--- the threads ended so by a history, for want of no write, and it left these cells
+-- the threads ended so by a history, and it left these cells
 pub record Ran (program : Program) (size : Numbers) (budget : ℕ) (history : List Entry) (ends : List GuestEnd) (cells : List ℕ) : Type 0 where
   pub outcome : IsOutcome program size budget history ends
-  pub free : AreUnlimited ends
   pub sums : HasSums ends
   pub left : AreCells size (left_by program size history) cells

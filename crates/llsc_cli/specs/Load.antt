@@ -18,7 +18,7 @@ use Rattle.llsc_words.specs.Request.{default_mem}
 use Rattle.llsc_cli.specs.Beside.{left_by}
 use Rattle.llsc_cli.specs.Refusals.{machine_of, size_refusal}
 use Rattle.llsc_cli.specs.Report.{report_of}
-use Rattle.llsc_cli.specs.Run.{AreUnlimited, UnlessRun}
+use Rattle.llsc_cli.specs.Run.{UnlessRun}
 use Rattle.llsc_cli.specs.Trace.{have_left, status_of_all}
 
 -- the machine of so many threads on which a load runs
@@ -88,8 +88,8 @@ abbrev pub IsLoadOf : List Entry → (seed threads rounds budget : ℕ) → ℕ 
 IsLoadOf history seed threads rounds budget status text =
     let program = load_program seed threads rounds in
     let size = load_size threads in
-    (ends : List GuestEnd) × (IsOutcome program size budget history ends × (AreUnlimited ends
-    × ((status ≡ status_of_all ends) × (text ≡ load_text seed threads rounds budget (left_by program size history) ends))))
+    (ends : List GuestEnd) × (IsOutcome program size budget history ends
+    × ((status ≡ status_of_all ends) × (text ≡ load_text seed threads rounds budget (left_by program size history) ends)))
 
 -- threads that ran have a history, and what is printed is by it
 abbrev pub TellsLoad : Option (List Entry) → (seed threads rounds budget : ℕ) → ℕ → List ℕ → Type 0

@@ -1,12 +1,11 @@
 -- What `run` answers for the bytes of a file, and with which history.
-use Rattle.std.specs.Prelude.{◌≡◌, ◌≢◌, ℕ, All, List, Option, Some, None}
+use Rattle.std.specs.Prelude.{◌≡◌, ℕ, List, Option, Some, None}
 use Rattle.std.specs.Option.{option_map}
 use Rattle.llsc_base.specs.Images.{Program}
 use Rattle.llsc_base.specs.Sizes.{Numbers}
-use Rattle.a32_instr.specs.declared.outside.Stop.TheVariants.{TagLimit}
 use Rattle.history.specs.declared.entry.Entry.{Entry}
-use Rattle.hst_memory.specs.declared.passes.HstStory.{HstStory}
-use Rattle.hst_memory.specs.Memory.{story_history}
+use Rattle.version_memory.specs.declared.passes.VersionStory.{VersionStory}
+use Rattle.version_memory.specs.Memory.{story_history}
 use Rattle.guest_thread.specs.Outcome.{IsOutcome}
 use Rattle.guest_thread.specs.declared.ends.GuestEnd.{GuestEnd}
 use Rattle.llsc_words.specs.declared.formats.Format.{Format}
@@ -16,17 +15,13 @@ use Rattle.llsc_cli.specs.Report.{report_of}
 use Rattle.llsc_cli.specs.Trace.{status_of_all}
 
 -- the history that a story has, where there is one
-abbrev pub told : Option HstStory → Option (List Entry)
+abbrev pub told : Option VersionStory → Option (List Entry)
 told story = option_map story_history story
-
--- no thread was stopped for want of a write
-abbrev pub AreUnlimited : List GuestEnd → Type 0
-AreUnlimited ends = All (λ end. (addr : ℕ) → end.stop ≢ TagLimit addr) ends
 
 -- the report of the threads' ends in a history, which is legal, complete and their own, and the status by their stops
 abbrev pub IsReportOf : List Entry → Program → Numbers → ℕ → ℕ → List ℕ → Type 0
 IsReportOf history program size budget status text =
-    (ends : List GuestEnd) × (IsOutcome program size budget history ends × (AreUnlimited ends × ((status ≡ status_of_all ends) × (text ≡ report_of budget ends))))
+    (ends : List GuestEnd) × (IsOutcome program size budget history ends × ((status ≡ status_of_all ends) × (text ≡ report_of budget ends)))
 
 -- threads that ran have a history, and are reported by it
 abbrev pub ReportsRun : Option (List Entry) → Program → Numbers → ℕ → ℕ → List ℕ → Type 0

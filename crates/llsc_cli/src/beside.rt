@@ -1,17 +1,17 @@
 //! Threads that run beside each other, on a memory of their own.
 ghost use Rattle.std.specs.Prelude.{◌≡◌, ◌≤◌, ℕ, [], false, length, nat_lt, IfOk};
 ghost use Rattle.llsc_base.specs.Limits.{most_budget};
-ghost use Rattle.hst_memory.specs.Memory.{story_history};
+ghost use Rattle.version_memory.specs.Memory.{story_history};
 ghost use Rattle.llsc_cli.specs.Beside.{Ran as HasRun};
 
 use guest_machine::{Ran, prepare, run_all};
 use guest_thread::GuestEnd;
-use hst_memory::{HstMemory, HstStory};
 use llsc_base::{Image, MachineSize};
 use shared_memory::{Rows, SharedMemory};
 use std::alloc::{AllocError, Global};
 use std::sync::Wait;
 use std::thread::Threads;
+use version_memory::{VersionMemory, VersionStory};
 
 /// What threads have done that ran beside each other, once their memory is closed.
 #[derive(Drop)]
@@ -24,7 +24,7 @@ pub struct Finished<S> {
     pub story: S,
 }
 
-/// Runs an image's threads on a memory that refuses no store, with the pass of all of them, and closes it.
+/// Runs an image's threads on a memory, with the pass of all of them, and closes it.
 fn run_over<M: SharedMemory, R: Threads + Wait + Sync>(
     rt: &R,
     alloc: Global,
@@ -39,7 +39,6 @@ fn run_over<M: SharedMemory, R: Threads + Wait + Sync>(
     requires first { (M.origin memory).first ≡ (M.origin memory).size.threads }
     requires bytes { (M.origin memory).bytes ≡ image.now.bytes }
     requires whole { length image.now.bytes ≡ (M.origin memory).size.mem }
-    requires unlimited { (M.origin memory).spends ≡ false }
     requires budget { budget ≤ most_budget }
     ensures { IfOk result (λ done. HasRun image.now (M.origin memory).size budget (M.history done.story) done.ends.items done.rows) }
 {
@@ -63,11 +62,11 @@ pub fn run_beside<R: Threads + Wait + Sync>(
     size: &MachineSize,
     image: &Image,
     budget: u64,
-) -> Result<Finished<HstStory>, AllocError>
+) -> Result<Finished<VersionStory>, AllocError>
     requires whole { length image.now.bytes ≡ size.now.mem }
     requires budget { budget ≤ most_budget }
     ensures { IfOk result (λ done. HasRun image.now size.now budget (story_history done.story) done.ends.items done.rows) }
 {
-    let (memory, pass) = HstMemory::new(alloc, image, size)?;
+    let (memory, pass) = VersionMemory::new(alloc, image, size)?;
     run_over(rt, alloc, memory, pass, image, budget)
 }

@@ -2,7 +2,7 @@
 ghost use Rattle.std.specs.Prelude.{◌≡◌, None};
 
 use crate::said::Said;
-use hst_memory::HstStory;
+use version_memory::VersionStory;
 
 /// How a call ended.
 #[derive(Drop)]
@@ -12,7 +12,7 @@ pub struct Ended {
     /// is too long; 5: a write failed; 6: want of memory; 7: the record is bad.
     pub status: u8,
     /// The history of the accesses of threads that ran beside each other, where any did. Nothing of it is read at run time.
-    pub story: Option<HstStory>,
+    pub story: Option<VersionStory>,
 }
 
 impl From<Said> for Ended {

@@ -4,7 +4,7 @@ ghost use Rattle.llsc_base.specs.Limits.{most_budget};
 ghost use Rattle.llsc_base.specs.Sizes.{room_of};
 ghost use Rattle.elf32.specs.Units.{IsWithin, end_of, unit_image};
 ghost use Rattle.guest_gen.specs.Counters.{counter_unit};
-ghost use Rattle.hst_memory.specs.Memory.{story_history};
+ghost use Rattle.version_memory.specs.Memory.{story_history};
 ghost use Rattle.llsc_cli.specs.Beside.{Ran, left_by};
 ghost use Rattle.llsc_cli.specs.Host.{Adds, AddsFront, KeepsReads, KeepsWrites, Rose};
 ghost use Rattle.llsc_cli.specs.Load.{AnswersLoad, TellsLoad, guest_refusal, load_program, load_refusal, load_size, load_text};
@@ -22,12 +22,12 @@ use crate::said::{Said, out_of_memory, refuse, status_of_all};
 use crate::summary::write_summary;
 use elf32::{Unit, write};
 use guest_gen::{GenFault, counters};
-use hst_memory::HstStory;
 use llsc_base::{Image, MachineSize};
 use llsc_words::{LoadNumbers, MachineNumbers};
 use std::alloc::{AllocError, Global};
 use std::sync::Wait;
 use std::thread::Threads;
+use version_memory::VersionStory;
 
 /// The bytes of memory of a load.
 const MEM: u64 = 1_048_576;
@@ -112,7 +112,7 @@ fn prepare<H: Host>(alloc: Global, host: &mut H, numbers: &LoadNumbers) -> Resul
 }
 
 /// Writes the summary where each thread left by an exit call with code 0, and else the report of the threads' ends.
-fn tell<H: Host>(host: &mut H, numbers: &LoadNumbers, done: &Finished<HstStory>) -> Said
+fn tell<H: Host>(host: &mut H, numbers: &LoadNumbers, done: &Finished<VersionStory>) -> Said
     requires { Ran (load_program numbers.now.seed numbers.now.threads numbers.now.rounds) (load_size numbers.now.threads) numbers.now.budget
         (story_history done.now.story) done.now.ends.items done.now.rows }
     ensures answered { Answered (TellsLoad (Some (story_history done.now.story)) numbers.now.seed numbers.now.threads numbers.now.rounds numbers.now.budget)

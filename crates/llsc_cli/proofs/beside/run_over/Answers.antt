@@ -1,5 +1,5 @@
 use Rattle.std.proofs.Common.{◌≡◌, ◌≤◌, length, rules, sym, subst}
-use Rattle.llsc_cli.proofs.Finished.{closed_cells, ran, sums, unlimited}
+use Rattle.llsc_cli.proofs.Finished.{closed_cells, ran, sums}
 use Rattle.llsc_cli.proofs.beside.run_over.Goals as goal
 
 pub returns : goal.returns
@@ -13,6 +13,5 @@ returns g c =
     let few : origin.size.threads ≤ 16 = search rules in
     ran c.args.image.now origin.size c.args.budget origin.bytes history seen ends c.close-rows.result.0
     closed.story c.requires.bytes closed.legal.legal closed.complete c.run_all-pass.ensures.ends
-    (unlimited origin.spends ends c.requires.unlimited c.run_all-pass.ensures.spends)
     (sums ends c.run_all-pass.ensures.few (subst (λ n. n ≤ 16) (sym many) few))
     (closed_cells c.args.image.now origin.size origin.bytes history seen c.close-rows.result.0 closed.story c.requires.bytes closed.count closed.rows)

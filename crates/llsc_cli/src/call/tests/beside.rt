@@ -8,6 +8,11 @@ const OWN_STORE: &[u32] = &[
     0xe3a01a02, 0xe3a03a0a, 0xe1910f9f, 0xe5830000, 0xe1812f90, 0xe1a00002, 0xe3a07001, 0xef000000,
 ];
 
+/// Three stores to one word.
+const STORES: &[u32] = &[
+    0xe3a01a02, 0xe5810000, 0xe5810000, 0xe5810000, 0xe3a00000, 0xe3a07001, 0xef000000,
+];
+
 /// Each of two threads sets its own flag, and waits for the other's.
 const FLAGS: &str = "\
 mov r2, #8192
@@ -49,6 +54,19 @@ const RUNS: &[Case] = &[
         Content::Words(OWN_STORE),
         1,
         "thread 0 stop exit 1 steps 8 out 0\n\nreads 1 writes 1 fails 1\n",
+    ),
+    // a class that takes as many writes as the guest makes, and one that takes fewer
+    (
+        "run --flat --threads 1 --limit 3 p",
+        Content::Words(STORES),
+        0,
+        "thread 0 stop exit 0 steps 7 out 0\n\nreads 0 writes 3 fails 0\n",
+    ),
+    (
+        "run --flat --threads 1 --limit 2 p",
+        Content::Words(STORES),
+        1,
+        "thread 0 stop taglimit 00002000 steps 3 out 0\n\nreads 0 writes 2 fails 0\n",
     ),
 ];
 

@@ -1,5 +1,5 @@
 use Rattle.std.proofs.Common.{Some}
-use Rattle.hst_memory.specs.Memory.{story_history}
+use Rattle.version_memory.specs.Memory.{story_history}
 use Rattle.llsc_cli.proofs.Answering.{answered_as}
 use Rattle.llsc_cli.proofs.LoadAnswers.{load_ran}
 use Rattle.llsc_cli.proofs.commands.load.answer.Goals as goal

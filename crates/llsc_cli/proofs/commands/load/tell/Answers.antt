@@ -1,5 +1,5 @@
 use Rattle.std.proofs.Common.{◌≡◌, ◌∙◌, inl, inr, ap, sym, refl, arith}
-use Rattle.hst_memory.specs.Memory.{story_history}
+use Rattle.version_memory.specs.Memory.{story_history}
 use Rattle.llsc_cli.specs.Load.{counter_of, summary_by}
 use Rattle.llsc_cli.specs.Trace.{status_of_all}
 use Rattle.llsc_cli.proofs.Answering.{answered_one}

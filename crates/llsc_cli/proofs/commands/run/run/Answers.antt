@@ -1,4 +1,4 @@
-use Rattle.hst_memory.specs.Memory.{story_history}
+use Rattle.version_memory.specs.Memory.{story_history}
 use Rattle.llsc_cli.specs.Report.{report_of}
 use Rattle.llsc_cli.specs.Trace.{status_of_all}
 use Rattle.llsc_cli.proofs.Answering.{answered_one}
