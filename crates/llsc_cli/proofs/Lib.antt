@@ -20,3 +20,4 @@ pub mod Kept
 pub mod OneAnswer
 pub mod GoodTraces
 pub mod TracesAlone
+pub mod Steadiness

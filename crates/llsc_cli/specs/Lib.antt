@@ -1,6 +1,8 @@
 pub mod Host
 pub mod MemoryHost
 pub mod MemoryHostInside
+pub mod SteadyHost
+pub mod SteadyHostInside
 pub mod Report
 pub mod Refusals
 pub mod Programs

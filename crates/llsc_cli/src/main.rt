@@ -2,7 +2,7 @@
 //!
 //! The program is one call, [`call::llsc`], whose contract says what is answered to which words and files; `specs/Answer.antt`
 //! has the words of that contract. Each command is a file of `commands`; `host` is what is asked of the world outside, had by
-//! `real_host` as the program runs and by `memory_host` in tests.
+//! `real_host` as the program runs, and in tests by `memory_host` and by `steady_host`, which never fails.
 #![tactic(auto)]
 
 mod beside;
@@ -18,6 +18,8 @@ mod programs;
 mod real_host;
 mod report;
 mod said;
+mod steady;
+mod steady_host;
 mod summary;
 pub mod worked;
 
