@@ -40,7 +40,7 @@ fn counter(rows: &Rows, index: u32) -> u64
 }
 
 /// The sum of what the counters hold.
-fn total(rows: &Rows) -> u64
+pub fn total(rows: &Rows) -> u64
     requires { 2000 ≤ length rows.now }
     ensures value { result ≡ total_of (counter_of rows.now) 16 }
 {

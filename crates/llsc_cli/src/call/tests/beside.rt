@@ -13,6 +13,11 @@ const STORES: &[u32] = &[
     0xe3a01a02, 0xe5810000, 0xe5810000, 0xe5810000, 0xe3a00000, 0xe3a07001, 0xef000000,
 ];
 
+/// A store, and then a load-exclusive and a store-exclusive to the same word, whose status is the code.
+const STORED: &[u32] = &[
+    0xe3a01a02, 0xe5810000, 0xe1910f9f, 0xe1812f90, 0xe1a00002, 0xe3a07001, 0xef000000,
+];
+
 /// Each of two threads sets its own flag, and waits for the other's.
 const FLAGS: &str = "\
 mov r2, #8192
@@ -67,6 +72,13 @@ const RUNS: &[Case] = &[
         Content::Words(STORES),
         1,
         "thread 0 stop taglimit 00002000 steps 3 out 0\n\nreads 0 writes 2 fails 0\n",
+    ),
+    // a store-exclusive in a class that has had its one write
+    (
+        "run --flat --threads 1 --classes 1 --limit 1 p",
+        Content::Words(STORED),
+        1,
+        "thread 0 stop exit 1 steps 7 out 0\n\nreads 1 writes 1 fails 1\n",
     ),
 ];
 

@@ -4,29 +4,28 @@ use super::traces::{BESIDE, DISTURBED, EACH, TURNS};
 use super::*;
 
 /// The words of a call, what its files `p` and `r` hold, its status, and its text.
-type Checked = (&'static str, Content, &'static str, u8, &'static str);
+pub type Checked = (&'static str, Content, &'static str, u8, &'static str);
 
 /// Makes each call, and compares its status and its text.
-fn check_all<R: Threads + Wait + Sync + AllocGlobal + Abort>(
+pub fn check_all<R: Threads + Wait + Sync + AllocGlobal + Abort>(
     rt: &R,
     cases: &[Checked],
 ) -> Result<(), Fail> {
     for (words, program, record, status, text) in cases {
-        let files = with_record(rt.alloc(), *program, record)?;
+        let files = with_record(rt.alloc(), *program, record.as_bytes())?;
         compare_over(rt, words, files, &[], (*status, text.as_bytes()))?;
     }
     Ok(())
 }
 
 /// The files `p`, which holds a program, and `r`, a record's text.
-fn with_record(
+pub fn with_record(
     alloc: Global,
     program: Content,
-    record: &str,
+    record: &[u8],
 ) -> Result<Vec<(String, Vec<u8>)>, AllocError> {
     let mut files = holding(alloc, bytes_in(alloc, program)?)?;
-    let record = record.as_bytes().to_vec(alloc)?;
-    files.push((String::from_str(alloc, "r")?, record))?;
+    files.push((String::from_str(alloc, "r")?, record.to_vec(alloc)?))?;
     Ok(files)
 }
 
@@ -220,7 +219,7 @@ const FAILURES: &[(&str, Failing, u8, &str)] = &[
 #[test]
 fn reads_the_program_first(rt: HostRuntime) -> Result<(), Fail> {
     for (words, failing, status, text) in FAILURES {
-        let files = with_record(rt.alloc(), Content::Words(LEAVE), "none")?;
+        let files = with_record(rt.alloc(), Content::Words(LEAVE), b"none")?;
         compare_over(&rt, words, files, &[*failing], (*status, text.as_bytes()))?;
     }
     Ok(())

@@ -86,30 +86,3 @@ fn has_no_room_for_more(rt: HostRuntime) -> Result<(), Fail> {
     )?;
     compare(&rt, "solo --flat p", file, 1, text.as_slice())
 }
-
-/// Writes that fail on the way.
-const CUT: &[(Failing, Case)] = &[
-    (
-        (2, 3),
-        (
-            "solo --flat p",
-            Content::Words(HELLO),
-            5,
-            "thread 0 stop exit 0 steps 12 out 5\nhel",
-        ),
-    ),
-    (
-        (4, 5),
-        (
-            "solo --flat p",
-            Content::Words(HELLO),
-            5,
-            "thread 0 stop exit 0 steps 12 out 5\nhello\nreads",
-        ),
-    ),
-];
-
-#[test]
-fn cuts_the_output_off(rt: HostRuntime) -> Result<(), Fail> {
-    fail_all(&rt, CUT)
-}

@@ -54,15 +54,17 @@ const ACCESSES: &[Case] = &[
     ),
 ];
 
+/// Writes the two bytes behind its code, and leaves with 0.
+pub const HI: &[u32] = &[
+    0xe3a00001, 0xe28f1014, 0xe3a02002, 0xe3a07004, 0xef000000, 0xe3a00000, 0xe3a07001, 0xef000000,
+    0x00006948,
+];
+
 /// Guests that call, and leave with the low byte of the answer as their code.
 const CALLS: &[Case] = &[
-    // writes the two bytes behind the code, and leaves with 0
     (
         "solo --flat p",
-        Content::Words(&[
-            0xe3a00001, 0xe28f1014, 0xe3a02002, 0xe3a07004, 0xef000000, 0xe3a00000, 0xe3a07001,
-            0xef000000, 0x00006948,
-        ]),
+        Content::Words(HI),
         0,
         "thread 0 stop exit 0 steps 8 out 2\nHi\nreads 2 writes 0 fails 0\n",
     ),
