@@ -2,6 +2,8 @@
 use Rattle.std.specs.Prelude.{◌≡◌, true, Some, codes}
 use Rattle.clap.specs.Words.{App, Rule, Text, is_simple_and_free, new_app, new_rule, with_rule}
 use Rattle.clap.specs.declared.builder.ArgAction.TheVariants.{SetTrue}
+use Rattle.llsc_words.specs.declared.names.CommandName.{CommandName}
+use Rattle.llsc_words.specs.declared.names.CommandName.TheVariants.{Solo, Run, Asm, Dis, Trace, Check, Load}
 
 -- `--NAME VALUE` or `--NAME=VALUE`, once at most
 abbrev pub option_rule : Text → Rule
@@ -64,6 +66,16 @@ unfoldable pub load_app : App
 load_app =
     with_rule (with_rule (with_rule (with_rule (plain_app (codes "load")) (positional_rule (codes "SEED"))) (option_rule (codes "threads")))
     (option_rule (codes "rounds"))) (option_rule (codes "budget"))
+
+-- each command
+abbrev pub app_by : CommandName → App
+app_by Solo = solo_app
+app_by Run = run_app
+app_by Asm = asm_app
+app_by Dis = dis_app
+app_by Trace = trace_app
+app_by Check = check_app
+app_by Load = load_app
 
 -- `clap` states to the letter which words such a command takes, and what it finds in them
 unfoldable pub IsStated : App → Type 0

@@ -1,7 +1,6 @@
 -- What the words of a call ask for.
 use Rattle.std.specs.Prelude.{ℕ, ◌≤◌, ◌^◌, Bool, ◌&&◌, nat_le, List, [], ◌∷◌, Option, Some, None, if◌then◌else◌, codes}
 use Rattle.std.specs.Option.{option_and_then}
-use Rattle.std.specs.Str.{bytes_eq}
 use Rattle.llsc_base.specs.Sizes.{Numbers, numbers}
 use Rattle.llsc_base.specs.Limits.{most_budget}
 use Rattle.number_text.specs.Decimal.{plain_number}
@@ -10,8 +9,11 @@ use Rattle.llsc_words.specs.declared.formats.Format.TheVariants.{Elf, Flat}
 use Rattle.llsc_words.specs.declared.requests.Request.{Request as Call}
 use Rattle.llsc_words.specs.declared.requests.Request.TheVariants as call
 use Rattle.llsc_words.specs.declared.requests.MachineNumbers.{MachineNumbers}
-use Rattle.llsc_words.specs.Commands.{solo_app, run_app, asm_app, dis_app, trace_app, check_app, load_app}
+use Rattle.llsc_words.specs.declared.names.CommandName.{CommandName}
+use Rattle.llsc_words.specs.declared.names.CommandName.TheVariants as name
+use Rattle.llsc_words.specs.Commands.{app_by}
 use Rattle.llsc_words.specs.Given.{Given, given_in}
+use Rattle.llsc_words.specs.Names.{command_named}
 
 -- what a call asks for: to run the file of that name, of that format, as one thread, with so many bytes of memory and so
 -- many steps; to run it as all threads of a machine, beside each other; to assemble the text of that name as a file of that
@@ -162,22 +164,24 @@ load_for given =
     load_by (number_in given.number) (number_or load_threads given.threads) (number_or load_rounds given.rounds)
     (budget_or default_budget given.budget)
 
+-- what a command asks for by what the words behind it give
+abbrev pub request_by : CommandName → Given → Option Request
+request_by name.Solo given = solo_for given
+request_by name.Run given = run_for given
+request_by name.Asm given = assemble_for given
+request_by name.Dis given = disassemble_for given
+request_by name.Trace given = trace_for given
+request_by name.Check given = check_for given
+request_by name.Load given = load_for given
+
 -- what a command asks for with the words behind it
-abbrev pub request_for : List ℕ → List (List ℕ) → Option Request
-request_for command words =
-    if bytes_eq command (codes "solo") then option_and_then solo_for (given_in solo_app words) else
-    if bytes_eq command (codes "run") then option_and_then run_for (given_in run_app words) else
-    if bytes_eq command (codes "asm") then option_and_then assemble_for (given_in asm_app words) else
-    if bytes_eq command (codes "dis") then option_and_then disassemble_for (given_in dis_app words) else
-    if bytes_eq command (codes "trace") then option_and_then trace_for (given_in trace_app words) else
-    if bytes_eq command (codes "check") then option_and_then check_for (given_in check_app words) else
-    if bytes_eq command (codes "load") then option_and_then load_for (given_in load_app words) else
-    None
+abbrev pub request_in : CommandName → List (List ℕ) → Option Request
+request_in command words = option_and_then (request_by command) (given_in (app_by command) words)
 
 -- what the words ask for, None where they are refused
 abbrev pub request_of : List (List ℕ) → Option Request
 request_of [] = None
-request_of (command ∷ words) = request_for command words
+request_of (word ∷ words) = option_and_then (λ command. request_in command words) (command_named word)
 
 -- the machine of these numbers
 abbrev pub machine_by : MachineNumbers → Numbers

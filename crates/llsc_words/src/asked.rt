@@ -2,10 +2,11 @@
 ghost use Rattle.std.specs.Prelude.{◌≡◌, IfSome};
 ghost use Rattle.std.specs.Option.{option_map};
 ghost use Rattle.llsc_words.specs.Given.{seen};
-ghost use Rattle.llsc_words.specs.Request.{asked, assemble_for, check_for, disassemble_for, format_of, load_for, run_for, solo_for, trace_for, HasBudget};
+ghost use Rattle.llsc_words.specs.Request.{asked, assemble_for, check_for, disassemble_for, format_of, load_for, request_by, run_for, solo_for, trace_for, HasBudget};
 
 use crate::formats::Format;
 use crate::given::Given;
+use crate::names::CommandName;
 use crate::numbers::{budget_or, number_in, number_or};
 use crate::requests::{LoadNumbers, MachineNumbers, Request, RunNumbers, TraceNumbers};
 
@@ -58,7 +59,7 @@ impl Given<'_> {
 }
 
 /// What `solo` asks for.
-pub fn solo(given: Given<'_>) -> Option<Request<'_>>
+fn solo(given: Given<'_>) -> Option<Request<'_>>
     ensures request { option_map asked result ≡ solo_for (seen given.entry) }
     ensures budget { IfSome result HasBudget }
 {
@@ -71,7 +72,7 @@ pub fn solo(given: Given<'_>) -> Option<Request<'_>>
 }
 
 /// What `run` asks for.
-pub fn run(given: Given<'_>) -> Option<Request<'_>>
+fn run(given: Given<'_>) -> Option<Request<'_>>
     ensures request { option_map asked result ≡ run_for (seen given.entry) }
     ensures budget { IfSome result HasBudget }
 {
@@ -92,7 +93,7 @@ pub fn run(given: Given<'_>) -> Option<Request<'_>>
 }
 
 /// What `asm` asks for.
-pub fn assemble(given: Given<'_>) -> Option<Request<'_>>
+fn assemble(given: Given<'_>) -> Option<Request<'_>>
     ensures request { option_map asked result ≡ assemble_for (seen given.entry) }
     ensures budget { IfSome result HasBudget }
 {
@@ -103,7 +104,7 @@ pub fn assemble(given: Given<'_>) -> Option<Request<'_>>
 }
 
 /// What `dis` asks for.
-pub fn disassemble(given: Given<'_>) -> Option<Request<'_>>
+fn disassemble(given: Given<'_>) -> Option<Request<'_>>
     ensures request { option_map asked result ≡ disassemble_for (seen given.entry) }
     ensures budget { IfSome result HasBudget }
 {
@@ -115,7 +116,7 @@ pub fn disassemble(given: Given<'_>) -> Option<Request<'_>>
 }
 
 /// What `trace` asks for.
-pub fn trace(given: Given<'_>) -> Option<Request<'_>>
+fn trace(given: Given<'_>) -> Option<Request<'_>>
     ensures request { option_map asked result ≡ trace_for (seen given.entry) }
     ensures budget { IfSome result HasBudget }
 {
@@ -133,7 +134,7 @@ pub fn trace(given: Given<'_>) -> Option<Request<'_>>
 }
 
 /// What `check` asks for.
-pub fn check(given: Given<'_>) -> Option<Request<'_>>
+fn check(given: Given<'_>) -> Option<Request<'_>>
     ensures request { option_map asked result ≡ check_for (seen given.entry) }
     ensures budget { IfSome result HasBudget }
 {
@@ -146,7 +147,7 @@ pub fn check(given: Given<'_>) -> Option<Request<'_>>
 }
 
 /// What `load` asks for.
-pub fn load(given: Given<'_>) -> Option<Request<'_>>
+fn load(given: Given<'_>) -> Option<Request<'_>>
     ensures request { option_map asked result ≡ load_for (seen given.entry) }
     ensures budget { IfSome result HasBudget }
 {
@@ -158,4 +159,20 @@ pub fn load(given: Given<'_>) -> Option<Request<'_>>
             budget: budget_or(BUDGET, given.budget)?,
         },
     })
+}
+
+/// What a command asks for.
+pub fn request_by(name: CommandName, given: Given<'_>) -> Option<Request<'_>>
+    ensures request { option_map asked result ≡ request_by name (seen given.entry) }
+    ensures budget { IfSome result HasBudget }
+{
+    match name {
+        CommandName::Solo => solo(given),
+        CommandName::Run => run(given),
+        CommandName::Asm => assemble(given),
+        CommandName::Dis => disassemble(given),
+        CommandName::Trace => trace(given),
+        CommandName::Check => check(given),
+        CommandName::Load => load(given),
+    }
 }

@@ -1,9 +1,10 @@
 //! The commands, each with its options and files.
 ghost use Rattle.std.specs.Prelude.{◌≡◌, IfOk, codes};
 ghost use Rattle.clap.specs.Words.{app_of};
-ghost use Rattle.llsc_words.specs.Commands.{asm_app, check_app, dis_app, load_app, machine_app, program_app, run_app, solo_app, trace_app};
+ghost use Rattle.llsc_words.specs.Commands.{app_by, asm_app, check_app, dis_app, load_app, machine_app, program_app, run_app, solo_app, trace_app};
 
 use crate::arguments::{flag, option, plain, positional};
+use crate::names::CommandName;
 use clap::Command;
 use std::alloc::{AllocError, Global};
 
@@ -28,7 +29,7 @@ fn machine<'a>(alloc: Global, name: &'a str) -> Result<Command<'a>, AllocError>
 
 /// `solo`: runs one thread.
 #[tactic(auto, unfolding(crate::specs::Commands::solo_app))]
-pub fn solo<'a>(alloc: Global) -> Result<Command<'a>, AllocError>
+fn solo<'a>(alloc: Global) -> Result<Command<'a>, AllocError>
     ensures { IfOk result (λ command. app_of command ≡ solo_app) }
 {
     program(alloc, "solo")?
@@ -38,7 +39,7 @@ pub fn solo<'a>(alloc: Global) -> Result<Command<'a>, AllocError>
 
 /// `asm`: makes a file of a text.
 #[tactic(auto, unfolding(crate::specs::Commands::asm_app))]
-pub fn asm<'a>(alloc: Global) -> Result<Command<'a>, AllocError>
+fn asm<'a>(alloc: Global) -> Result<Command<'a>, AllocError>
     ensures { IfOk result (λ command. app_of command ≡ asm_app) }
 {
     program(alloc, "asm")
@@ -46,7 +47,7 @@ pub fn asm<'a>(alloc: Global) -> Result<Command<'a>, AllocError>
 
 /// `dis`: shows a file as text.
 #[tactic(auto, unfolding(crate::specs::Commands::dis_app))]
-pub fn dis<'a>(alloc: Global) -> Result<Command<'a>, AllocError>
+fn dis<'a>(alloc: Global) -> Result<Command<'a>, AllocError>
     ensures { IfOk result (λ command. app_of command ≡ dis_app) }
 {
     program(alloc, "dis")?.arg(option(alloc, "mem"))
@@ -54,7 +55,7 @@ pub fn dis<'a>(alloc: Global) -> Result<Command<'a>, AllocError>
 
 /// `run`: runs all threads.
 #[tactic(auto, unfolding(crate::specs::Commands::run_app))]
-pub fn run<'a>(alloc: Global) -> Result<Command<'a>, AllocError>
+fn run<'a>(alloc: Global) -> Result<Command<'a>, AllocError>
     ensures { IfOk result (λ command. app_of command ≡ run_app) }
 {
     machine(alloc, "run")?
@@ -65,7 +66,7 @@ pub fn run<'a>(alloc: Global) -> Result<Command<'a>, AllocError>
 
 /// `trace`: records a run of all threads.
 #[tactic(auto, unfolding(crate::specs::Commands::trace_app))]
-pub fn trace<'a>(alloc: Global) -> Result<Command<'a>, AllocError>
+fn trace<'a>(alloc: Global) -> Result<Command<'a>, AllocError>
     ensures { IfOk result (λ command. app_of command ≡ trace_app) }
 {
     machine(alloc, "trace")?
@@ -75,7 +76,7 @@ pub fn trace<'a>(alloc: Global) -> Result<Command<'a>, AllocError>
 
 /// `check`: checks a record.
 #[tactic(auto, unfolding(crate::specs::Commands::check_app))]
-pub fn check<'a>(alloc: Global) -> Result<Command<'a>, AllocError>
+fn check<'a>(alloc: Global) -> Result<Command<'a>, AllocError>
     ensures { IfOk result (λ command. app_of command ≡ check_app) }
 {
     plain(alloc, "check")
@@ -87,7 +88,7 @@ pub fn check<'a>(alloc: Global) -> Result<Command<'a>, AllocError>
 
 /// `load`: runs the counter guest of a seed.
 #[tactic(auto, unfolding(crate::specs::Commands::load_app))]
-pub fn load<'a>(alloc: Global) -> Result<Command<'a>, AllocError>
+fn load<'a>(alloc: Global) -> Result<Command<'a>, AllocError>
     ensures { IfOk result (λ command. app_of command ≡ load_app) }
 {
     plain(alloc, "load")
@@ -95,4 +96,19 @@ pub fn load<'a>(alloc: Global) -> Result<Command<'a>, AllocError>
         .arg(option(alloc, "threads"))?
         .arg(option(alloc, "rounds"))?
         .arg(option(alloc, "budget"))
+}
+
+/// The command of a name, with its options and files.
+pub fn command_by<'a>(alloc: Global, name: CommandName) -> Result<Command<'a>, AllocError>
+    ensures { IfOk result (λ command. app_of command ≡ app_by name) }
+{
+    match name {
+        CommandName::Solo => solo(alloc),
+        CommandName::Run => run(alloc),
+        CommandName::Asm => asm(alloc),
+        CommandName::Dis => dis(alloc),
+        CommandName::Trace => trace(alloc),
+        CommandName::Check => check(alloc),
+        CommandName::Load => load(alloc),
+    }
 }

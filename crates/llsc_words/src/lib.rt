@@ -9,6 +9,7 @@ mod asked;
 mod commands;
 mod formats;
 mod given;
+mod names;
 mod numbers;
 mod requests;
 mod words;
