@@ -36,7 +36,7 @@ bytes_short replies pairs from (suc count) (byte ∷ bytes) decided silent less 
     (subst (AreDecided replies) same decided) (subst (IsSilent replies) same silent) (omega (arith, less)))
 
 -- each byte is loaded once
-loads_count : (from : ℕ) (bytes : List ℕ) → length (byte_loads from bytes) ≡ length bytes
+pub loads_count : (from : ℕ) (bytes : List ℕ) → length (byte_loads from bytes) ≡ length bytes
 loads_count from [] = refl
 loads_count from (byte ∷ bytes) = ap suc (loads_count (from + 1) bytes)
 

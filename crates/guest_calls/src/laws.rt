@@ -1,9 +1,11 @@
 //! The laws of runs, each a function of no effect whose contract is the law.
-ghost use Rattle.std.specs.Prelude.{◌≡◌, ℕ, List};
+ghost use Rattle.std.specs.Prelude.{◌≡◌, ◌≤◌, ℕ, List, length};
 ghost use Rattle.llsc_base.specs.Images.{Program};
 ghost use Rattle.a32_instr.specs.declared.outside.Ask.{Ask};
 ghost use Rattle.a32_instr.specs.declared.outside.Stop.{Stop};
-ghost use Rattle.a32_step.specs.Machine.{Machine};
+ghost use Rattle.a32_instr.specs.State.{State};
+ghost use Rattle.a32_step.specs.Machine.{Machine, between};
+ghost use Rattle.guest_calls.specs.Bound.{most_accesses_in};
 ghost use Rattle.guest_calls.specs.Run.{Pair, Ends, EndsOn, Asks};
 
 /// A guest thread that starts so, with this budget and these accesses and replies, has one end at most: its stop, its
@@ -35,4 +37,18 @@ pub fn runs_ask_one_access()
 pub fn runs_ask_or_end()
     ensures { (program : Program) (budget : ℕ) (start : Machine) (pairs : List Pair) (ask : Ask) (stop : Stop) (steps : ℕ) (output : List ℕ) →
         Asks program budget start pairs ask → Ends program budget start pairs stop steps output → ⊥ }
+{}
+
+/// A guest thread that starts between two instructions makes at most 16 accesses for each of its steps, and at most 65,552
+/// besides: one for each byte that it writes, and 16 of an instruction that isn't complete.
+pub fn runs_make_few_accesses()
+    ensures { (program : Program) (budget : ℕ) (start : State) (pairs : List Pair) (stop : Stop) (steps : ℕ) (output : List ℕ) →
+        EndsOn program budget (between start) pairs stop steps output → length pairs ≤ most_accesses_in steps }
+{}
+
+/// A guest thread makes no more steps than its budget.
+#[tactic(auto, using(crate::proofs::FewAccesses::steps_within))]
+pub fn runs_keep_to_their_budget()
+    ensures { (program : Program) (budget : ℕ) (start : Machine) (pairs : List Pair) (stop : Stop) (steps : ℕ) (output : List ℕ) →
+        EndsOn program budget start pairs stop steps output → steps ≤ budget }
 {}

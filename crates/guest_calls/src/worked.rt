@@ -1,5 +1,6 @@
 //! Worked cases of the table of guest calls, and of the accesses of a thread as its run has them.
 ghost use Rattle.std.specs.Prelude.{◌≡◌, ◌∷◌, [], false, true};
+ghost use Rattle.guest_calls.specs.Bound.{most_accesses_in};
 ghost use Rattle.guest_calls.specs.Calls.{answers, call_effect, exits, write_effect, writes_bytes};
 ghost use Rattle.guest_calls.specs.Pairs.{pair_of, pairs_in, pairs_of, reply_of};
 ghost use Rattle.guest_calls.specs.Run.{byte_loads, effect_of_call};
@@ -98,4 +99,11 @@ pub fn accesses_of_a_thread()
         ∷ record { thread = 1; deed = Deed.StoreFail; place = word; value = 9 }
         ∷ [])
         ≡ (Ask.Load word, 7) ∷ (Ask.StoreEx word 9, 1) ∷ [] }
+{}
+
+/// The most accesses of a thread are 65,552 before its first step is over, and 16 more for each step.
+pub fn most_accesses_by_steps()
+    ensures none { most_accesses_in 0 ≡ 65552 }
+    ensures one { most_accesses_in 1 ≡ 65568 }
+    ensures budget { most_accesses_in 1000000000000 ≡ 16000000065552 }
 {}

@@ -13,6 +13,7 @@ use Rattle.a32_step.specs.Ports.{Leads, goes, refused, stays}
 use Rattle.a32_step.proofs.Follows.{next_follows}
 use Rattle.guest_calls.specs.Run.{Pair, Reaches, accesses, steps_on}
 use Rattle.guest_calls.specs.Calls.{most_output}
+use Rattle.guest_calls.proofs.FewAccesses.{given_one}
 use Rattle.guest_thread.specs.Ports.{IsAtRest, IsRunning}
 use Rattle.guest_thread.specs.Progress.{IsBounded, progress_of}
 use Rattle.guest_thread.specs.ThreadState.{ThreadState, IsReadyBy}
@@ -47,13 +48,6 @@ leads_counted replies counted from _ _ one none (refused pairs at next ask leads
     let before : counted at ≤ counted from + length pairs = leads_counted replies counted from at pairs one none leads in
     let here : counted next ≤ counted at = none at ask next served in
     omega (arith, before, here)
-
-given_one : (machine : Machine) (reply : ℕ) (phase : Phase) → IsAwaiting phase → (given_in machine reply phase).replies ≡ machine.replies ++ reply ∷ []
-given_one machine reply Between awaits = absurd awaits
-given_one machine reply (Inside instr) awaits = absurd awaits
-given_one machine reply (Awaiting instr ask) awaits = refl
-given_one machine reply (Calling call) awaits = absurd awaits
-given_one machine reply (Stopped stop) awaits = absurd awaits
 
 given_ready : (machine : Machine) (reply : ℕ) (phase : Phase) → IsAwaiting phase → IsReady (given_in machine reply phase).phase
 given_ready machine reply Between awaits = absurd awaits

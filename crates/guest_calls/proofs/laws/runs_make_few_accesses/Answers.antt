@@ -1,0 +1,7 @@
+use Rattle.std.proofs.Common.{refl}
+use Rattle.a32_step.specs.Machine.{between}
+use Rattle.guest_calls.proofs.FewAccesses.{few_accesses}
+use Rattle.guest_calls.proofs.laws.runs_make_few_accesses.Goals as goal
+
+pub returns : goal.returns
+returns c program budget start = few_accesses program budget (between start) refl
