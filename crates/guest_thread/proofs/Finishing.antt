@@ -1,16 +1,14 @@
 -- The end of a thread's run over a memory that threads share.
-use Rattle.std.proofs.Common.{◌≡◌, inl, inr, ℕ, ◌+◌, ◌*◌, ◌^◌, ◌<◌, ◌≤◌, true, List, [], refl, sym, subst, ap, ◌∙◌, arith}
+use Rattle.std.proofs.Common.{◌≡◌, inl, inr, ℕ, true, List, [], refl, sym, subst, ap, ◌∙◌}
 use Rattle.llsc_base.specs.Images.{Program}
-use Rattle.llsc_base.specs.Limits.{most_budget}
 use Rattle.history.specs.declared.entry.Entry.{Entry}
 use Rattle.a32_instr.specs.declared.outside.Stop.{Stop}
 use Rattle.a32_instr.specs.declared.outside.Stop.TheVariants.{TagLimit}
 use Rattle.a32_step.specs.Machine.{Machine, between}
 use Rattle.a32_step.proofs.Passed.{GoesOn}
 use Rattle.guest_calls.specs.Pairs.{pairs_of}
-use Rattle.guest_calls.specs.Calls.{most_output}
 use Rattle.guest_calls.specs.Run.{Pair, EndsOn, by_itself}
-use Rattle.guest_thread.specs.Counting.{AreCounts, accesses_counted, counts_in}
+use Rattle.guest_thread.specs.Counting.{AreCounts, counts_in}
 use Rattle.guest_thread.specs.Outcome.{IsSpent, IsEndOn}
 use Rattle.guest_thread.specs.Ports.{EndsBy}
 use Rattle.guest_thread.specs.Sharing.{SharingState, IsServedBy, RefusesAt}
@@ -19,7 +17,6 @@ use Rattle.atomic_table.specs.Seated.{TableId}
 use Rattle.history.specs.Parts.{entries_of}
 use Rattle.shared_memory.specs.Origin.{Origin}
 use Rattle.guest_thread.specs.ThreadState.{ThreadState}
-use Rattle.guest_thread.specs.declared.counts.Counts.{Counts}
 use Rattle.guest_thread.specs.declared.ends.GuestEnd.{GuestEnd}
 use Rattle.guest_thread.proofs.Placed.{ends_untagged}
 use Rattle.guest_thread.proofs.Shared.{HasShared, after_all}
@@ -59,12 +56,6 @@ module _ (program : Program) (budget : ℕ) (start : Machine) (between_two : sta
       → EndsBy (RefusesAt last) program budget start pairs stop steps output → stop ≡ TagLimit addr → first.origin.spends ≡ true
   spends_at first last pairs stop steps output addr shared ends is =
       ap (λ o. o.spends) (sym shared.goes_on.origin) ∙ (refused_by (RefusesAt last) pairs stop steps output addr ends is).0
-
--- ---- how many accesses it made
-
--- a step has 16 of them at most, and a byte of output has one
-pub few_made : (budget : ℕ) (counts : Counts) → budget ≤ most_budget → accesses_counted counts ≤ 17 * budget + most_output + 16 → accesses_counted counts < 2 ^ 45
-few_made budget counts within few = omega (arith, within, few)
 
 -- ---- from its start
 

@@ -1,5 +1,6 @@
 pub mod Calling
 pub mod Effects
+pub mod FewAccesses
 pub mod Loops
 pub mod Printed
 pub mod Reached

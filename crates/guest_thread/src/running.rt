@@ -1,10 +1,10 @@
 //! The run of a thread on a memory that threads share.
-ghost use Rattle.std.specs.Prelude.{◌≡◌, ◌<◌, ◌≤◌, ◌+◌, ◌^◌, ℕ, [], length, true};
+ghost use Rattle.std.specs.Prelude.{◌≡◌, ◌<◌, ◌≤◌, ℕ, [], length, true};
 ghost use Rattle.llsc_base.specs.Limits.{most_budget};
-ghost use Rattle.history.specs.Parts.{entries_of};
+ghost use Rattle.history.specs.Parts.{accesses_of, entries_of};
 ghost use Rattle.shared_memory.specs.Seen.{IsFront, IsSingle};
 ghost use Rattle.a32_step.specs.Machine.{between};
-ghost use Rattle.guest_thread.specs.Counting.{accesses_counted, counts_in};
+ghost use Rattle.guest_calls.specs.Bound.{most_accesses_in};
 ghost use Rattle.guest_thread.specs.Outcome.{IsEndOn};
 
 use crate::ends::GuestEnd;
@@ -26,6 +26,7 @@ pub struct Finished<P> {
 /// at most 1,000,000,000,000 steps. No memory is taken from the allocator.
 ///
 /// What it did is in what the pass has seen of the history: its accesses there are those of a run of the core, with this end.
+/// They are at most 16 for each of its steps, and at most 65,552 besides.
 pub fn run_thread<M: SharedMemory, R: Wait>(
     rt: &R,
     mem: &M,
@@ -48,7 +49,7 @@ pub fn run_thread<M: SharedMemory, R: Wait>(
     ensures single { IsSingle result.end.thread (M.numbers result.pass) }
     ensures begins { IsFront (M.seen pass) (M.seen result.pass) }
     ensures memory { M.home result.pass ≡ M.home pass }
-    ensures few { accesses_counted (counts_in result.end) < 2 ^ 45 }
+    ensures few { length (accesses_of (entries_of result.end.thread (M.seen result.pass))) ≤ most_accesses_in result.end.steps }
 {
     let most = mem.size().mem();
     prove!(most <= 16_777_216);

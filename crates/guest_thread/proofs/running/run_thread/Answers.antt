@@ -1,11 +1,10 @@
-use Rattle.std.proofs.Common.{◌<◌, ◌^◌, ◌∙◌, refl, sym, subst}
+use Rattle.std.proofs.Common.{◌∙◌, refl, sym, subst}
 use Rattle.shared_memory.specs.Seen.{IsFront, IsSingle}
-use Rattle.guest_thread.specs.Counting.{accesses_counted}
 use Rattle.guest_thread.specs.Outcome.{IsEndOn}
-use Rattle.guest_thread.specs.declared.counts.Counts.{Counts}
 use Rattle.guest_thread.specs.declared.ends.GuestEnd.{GuestEnd}
 use Rattle.guest_thread.specs.Sharing.{RefusesAt}
-use Rattle.guest_thread.proofs.Finishing.{at_start, end_on, ends_as, few_made, shared_from, spends_at}
+use Rattle.guest_thread.proofs.FewAccesses.{few_in_history}
+use Rattle.guest_thread.proofs.Finishing.{at_start, end_on, ends_as, shared_from, spends_at}
 use Rattle.guest_thread.proofs.running.run_thread.Goals as goal
 
 pub returns-clause-end : goal.returns-clause-end
@@ -83,5 +82,5 @@ returns-clause-memory g c =
 
 pub returns-clause-few : goal.returns-clause-few
 returns-clause-few g c =
-    subst (λ (counts : Counts). accesses_counted counts < 2 ^ 45) (sym c.counts-counts.ensures)
-    (few_made c.args.budget c.run-stop.new.port.counts c.requires.budget c.run-stop.ensures.few)
+    few_in_history c.args.code.program (g.M.SharedMemory.origin c.args.mem.now).size c.args.budget c.args.cpu (g.M.SharedMemory.seen c.into_pass.result) _ c.requires.between
+    (returns-clause-end g c)
