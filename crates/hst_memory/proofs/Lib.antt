@@ -6,10 +6,8 @@ pub mod Moves
 pub mod PlainSteps
 pub mod Ready
 pub mod Waits
-pub mod FirstWords
 pub mod Opening
 pub mod SeatSteps
-pub mod HeldMarks
 pub mod Betweens
 pub mod Closing
 pub mod AloneSteps

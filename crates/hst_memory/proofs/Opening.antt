@@ -1,9 +1,8 @@
 -- The rule holds of a memory that is made.
-use Rattle.std.proofs.Common.{◌≡◌, ◌+◌, ◌/◌, ◌<◌, ◌≤◌, ℕ, zero, suc, true, false, List, [], length, nat_lt, replicate, slice_index, refl, sym, ◌∙◌, inl, inr, arith}
-use Rattle.std.proofs.lemmas.Bool.{cases_lt, le-ltb, lt-ltb}
+use Rattle.std.proofs.Common.{◌≡◌, ◌+◌, ◌/◌, ◌<◌, ℕ, List, [], length, slice_index, refl, inl, arith}
 use Rattle.row_bytes.specs.Cell.{cell_at}
 use Rattle.atomic_table.specs.Table.{opening}
-use Rattle.shared_memory.specs.Passes.{first_view, marked}
+use Rattle.shared_memory.specs.Passes.{first_view}
 use Rattle.shared_memory.proofs.Closed.{opened}
 use Rattle.hst_memory.specs.declared.hands.Doing.TheVariants.{Rest}
 use Rattle.hst_memory.specs.declared.hands.Reserve.TheVariants.{Nothing}
@@ -25,20 +24,3 @@ opens plan words memory long zeros cells = record {
   laid = record { long = long; tags = λ c h. zeros (1 + c) (omega arith); cells = cells };
   section = record { counts = zeros 0 (omega arith); few = inl (omega arith) };
 }
-
-marked-here : (n t : ℕ) → t < n → marked (replicate n true) t ≡ true
-marked-here zero t h = absurd (omega arith)
-marked-here (suc n) zero h = refl
-marked-here (suc n) (suc t) h = marked-here n t (omega arith)
-
-marked-past : (n t : ℕ) → n ≤ t → marked (replicate n true) t ≡ false
-marked-past zero t h = refl
-marked-past (suc n) zero h = absurd (omega arith)
-marked-past (suc n) (suc t) h = marked-past n t (omega arith)
-
--- the numbers of the first pass
-pub marked-first : (n t : ℕ) → marked (replicate n true) t ≡ nat_lt t n
-marked-first n t = elim (cases_lt t n) [
-  | inl below ↦ marked-here n t below ∙ sym (lt-ltb t n below)
-  | inr above ↦ marked-past n t above ∙ sym (le-ltb t n above)
-]

@@ -9,7 +9,7 @@ use Rattle.hst_memory.specs.declared.hands.Doing.TheVariants.{Rest}
 use Rattle.hst_memory.specs.declared.hands.Reserve.{Reserve}
 use Rattle.hst_memory.specs.declared.hands.Reserve.TheVariants.{Nothing, Row, Several}
 use Rattle.hst_memory.specs.declared.plans.Plan.{Plan}
-use Rattle.hst_memory.specs.declared.targets.Target.{Target}
+use Rattle.shared_memory.specs.declared.targets.Target.{Target}
 use Rattle.hst_memory.specs.Kept.{cell_word, tag_word, words_of}
 use Rattle.hst_memory.specs.Told.{Mine}
 

@@ -18,11 +18,11 @@ use crate::plans::{HstSeat, HstShared};
 use crate::plays::{
     Absent, Asks, ChangeAlone, Clear, EnterAlone, LeaveAlone, LeaveWritten, ReadEx, Test, Watch,
 };
-use crate::targets::Target;
 use crossbeam_utils::Backoff;
 use history::Entry;
 use llsc_base::Place;
 use row_bytes::put;
+use shared_memory::Target;
 use std::sync::Wait;
 
 /// The section's word while one thread is inside alone.

@@ -4,7 +4,6 @@
 mod alone;
 mod hands;
 mod making;
-mod marks;
 mod memory;
 mod passes;
 mod plain;
@@ -12,7 +11,6 @@ mod plans;
 mod plays;
 mod seats;
 mod sharing;
-mod targets;
 
 pub use memory::HstMemory;
 pub use passes::{HstPass, HstStory};

@@ -12,11 +12,11 @@ ghost use Rattle.hst_memory.specs.Told.{Goes, ask};
 
 use crate::plans::{HstSeat, HstShared};
 use crate::plays::{Asks, Change, Enter, Leave, Load, Look, Tag};
-use crate::targets::Target;
 use crossbeam_utils::Backoff;
 use history::Entry;
 use llsc_base::Place;
 use row_bytes::put;
+use shared_memory::Target;
 use std::sync::Wait;
 
 /// Loads the cell of a place, as a load of the place.

@@ -12,20 +12,8 @@ ghost use Rattle.hst_memory.specs.Told.{Settles};
 use crate::hands::HstView;
 use crate::plans::{HstSeat, HstShared};
 use atomic_table::{Join, Play, Split};
-use std::marker::{Brand, PhantomData};
-
-/// Which number a seat gives away, and which of the others leads it from then on: a call picks them.
-pub trait Gives {
-    ghost thread: { ℕ };
-
-    ghost lead: { ℕ };
-}
-
-impl Gives for Brand {
-    ghost thread = { 0 };
-
-    ghost lead = { 0 };
-}
+use shared_memory::Gives;
+use std::marker::PhantomData;
 
 /// A seat gives a number away.
 struct Given<J> {

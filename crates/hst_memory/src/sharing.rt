@@ -12,15 +12,13 @@ ghost use Rattle.std.specs.Bool.{OnFalse, OnTrue};
 ghost use Rattle.hst_memory.specs.Memory.{memory_id, memory_origin, pass_home, pass_numbers, pass_seen, story_history};
 
 use crate::alone::{clear_reservation, fail_absent, load_ex_cell, store_ex_cell};
-use crate::marks::{merge_marks, only_mark, other_number};
 use crate::memory::HstMemory;
 use crate::passes::{HstPass, HstStory};
 use crate::plain::{load_cell, store_cell};
 use crate::seats::{join_numbers, split_number};
-use crate::targets::Target;
 use llsc_base::{MachineSize, Place};
 use row_bytes::take;
-use shared_memory::{Rows, SharedMemory, Spent};
+use shared_memory::{Rows, SharedMemory, Spent, Target, merge_marks, only_mark, other_number};
 use std::marker::Brand;
 use std::snapshot::Snapshot;
 use std::sync::Wait;

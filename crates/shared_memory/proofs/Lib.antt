@@ -5,3 +5,5 @@ pub mod Grown
 pub mod Split
 pub mod Joined
 pub mod Closed
+pub mod FirstWords
+pub mod HeldMarks

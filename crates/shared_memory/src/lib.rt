@@ -2,9 +2,17 @@
 #![tactic(auto)]
 
 mod memory;
+mod numbers;
 mod rows;
+mod seats;
+mod targets;
 mod views;
+mod words;
 
 pub use memory::{SharedMemory, Spent};
+pub use numbers::{Marks, first_marks, merge_marks, only_mark, other_number};
 pub use rows::Rows;
+pub use seats::Gives;
+pub use targets::Target;
 pub use views::{Part, View};
+pub use words::first_words;

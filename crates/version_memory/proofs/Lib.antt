@@ -1,5 +1,3 @@
-mod FirstWords
-mod HeldMarks
 mod Ready
 mod After
 mod Whole

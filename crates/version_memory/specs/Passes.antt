@@ -14,7 +14,7 @@ use Rattle.version_rule.specs.Hands.{class_at}
 use Rattle.version_rule.specs.Kept.{cell_word, tag_word, words_of}
 use Rattle.version_rule.specs.Told.{Mine}
 use Rattle.version_memory.specs.declared.passes.Reserved.{Reserved}
-use Rattle.version_memory.specs.declared.targets.Target.{Target}
+use Rattle.shared_memory.specs.declared.targets.Target.{Target}
 
 -- the table of a memory of this plan
 pub record IsMade (plan : Plan) (table : TableId) : Type 0 where

@@ -13,9 +13,9 @@ ghost use Rattle.version_memory.specs.Passes.{IsReady, IsTarget};
 ghost use Rattle.version_memory.specs.Stored.{HasFailed, HasStoredEx};
 
 use crate::plain::write_held;
-use crate::targets::Target;
 use crossbeam_utils::Backoff;
 use history::Entry;
+use shared_memory::Target;
 use version_rule::{
     Absent, Asks, ClaimEx, Clear, Limited, ReadEx, TryWatch, VersionSeat, VersionShared, Watch,
 };

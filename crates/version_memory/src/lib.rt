@@ -3,7 +3,6 @@
 
 mod exclusive;
 mod making;
-mod marks;
 mod memory;
 mod now;
 mod passes;
@@ -12,7 +11,6 @@ mod seats;
 mod sharing;
 mod stamped;
 mod stamps;
-mod targets;
 
 pub use memory::VersionMemory;
 pub use passes::{VersionPass, VersionStory};

@@ -8,37 +8,10 @@ ghost use Rattle.version_memory.specs.Memory.{memory_id, memory_origin, pass_hom
 use crate::memory::VersionMemory;
 use crate::passes::VersionPass;
 use llsc_base::{Image, MachineSize};
-use row_bytes::first_cell;
+use shared_memory::{first_marks, first_words};
 use std::alloc::{AllocError, Global};
 use std::snapshot::Snapshot;
 use version_rule::{Plan, VersionTable};
-
-/// The words of the table at first: so many that are 0, and then the cells that spell these bytes.
-fn first_words(alloc: Global, bytes: &[u8], zeros: usize) -> Result<Vec<u64>, AllocError>
-    requires { zeros ≤ 5000 }
-    ensures long { IfOk result (λ words. vec_len words ≡ zeros + length bytes.now / 8) }
-    ensures zeros { IfOk result (λ words. (i : ℕ) → i < zeros → slice_index words.items i ≡ 0) }
-    ensures cells { IfOk result (λ words. (i : ℕ) → i < length bytes.now / 8 → slice_index words.items (zeros + i) ≡ cell_at bytes.now i) }
-    ensures bytes { (k : ℕ) → slice_index bytes.now k < 256 }
-{
-    let mut words = vec![in alloc; 0; zeros]?;
-    for i in 0..bytes.len() / 8 {
-        words.push(first_cell(&bytes[8 * i..]))?;
-    }
-    Ok(words)
-}
-
-/// The marks of the first numbers.
-fn first_marks(threads: u32) -> [bool; 16]
-    requires { threads ≤ 16 }
-    ensures { (t : ℕ) → marked result t ≡ nat_lt t threads }
-{
-    let mut has = [false; 16];
-    for t in 0..threads as usize {
-        has[t] = true;
-    }
-    has
-}
 
 impl VersionMemory {
     /// A memory of these bytes at first, as many as the machine has, with the pass that holds the numbers of all its threads.

@@ -13,11 +13,11 @@ ghost use Rattle.version_memory.specs.Passes.{IsPlace, IsReady, IsTarget};
 ghost use Rattle.version_memory.specs.Stands.{IsStamped};
 ghost use Rattle.version_memory.specs.Stored.{HasStored};
 
-use crate::targets::Target;
 use crossbeam_utils::Backoff;
 use history::Entry;
 use llsc_base::Place;
 use row_bytes::put;
+use shared_memory::Target;
 use std::sync::Wait;
 use version_rule::{
     Asks, Change, Claim, Load, LookAtTag, Release, Take, VersionSeat, VersionShared,

@@ -10,21 +10,9 @@ ghost use Rattle.version_memory.specs.Passes.{IsMade};
 ghost use Rattle.version_rule.specs.Told.{Settles};
 
 use atomic_table::{Join, Play, Split};
-use std::marker::{Brand, PhantomData};
+use shared_memory::Gives;
+use std::marker::PhantomData;
 use version_rule::{VersionSeat, VersionShared, VersionView};
-
-/// Which number a seat gives away, and which of the others leads it from then on: a call picks them.
-pub trait Gives {
-    ghost thread: { ℕ };
-
-    ghost lead: { ℕ };
-}
-
-impl Gives for Brand {
-    ghost thread = { 0 };
-
-    ghost lead = { 0 };
-}
 
 /// A seat gives a number away.
 struct Given<J> {

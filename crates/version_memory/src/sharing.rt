@@ -15,16 +15,14 @@ ghost use Rattle.version_memory.specs.Passes.{IsPlace, IsTarget, reserved_after}
 ghost use Rattle.version_memory.specs.Memory.{memory_id, memory_origin, pass_home, pass_numbers, pass_seen, story_history};
 
 use crate::exclusive::{clear_reservation, load_ex_soon};
-use crate::marks::{merge_marks, only_mark, other_number};
 use crate::memory::VersionMemory;
 use crate::passes::{Reserved, VersionPass, VersionStory};
 use crate::plain::load_cell;
 use crate::seats::{join_numbers, split_number};
-use crate::targets::Target;
 use history::Entry;
 use llsc_base::{MachineSize, Place};
 use row_bytes::take;
-use shared_memory::{Rows, SharedMemory, Spent};
+use shared_memory::{Rows, SharedMemory, Spent, Target, merge_marks, only_mark, other_number};
 use std::marker::Brand;
 use std::snapshot::Snapshot;
 use std::sync::Wait;

@@ -12,9 +12,9 @@ ghost use Rattle.version_memory.specs.Passes.{IsReady, IsTarget};
 ghost use Rattle.version_memory.specs.Stored.{HasLoaded, HasLoadedEx};
 
 use crate::exclusive::Linked;
-use crate::targets::Target;
 use crossbeam_utils::Backoff;
 use history::Entry;
+use shared_memory::Target;
 use std::sync::Wait;
 use version_rule::{
     Asks, FirstLook, SecondLook, ThirdLook, ThirdLookEx, VersionSeat, VersionShared,

@@ -1,8 +1,8 @@
 use Rattle.std.proofs.Common.{◌≡◌, ◌||◌, Bool, length-set, ap, sym, ◌∙◌, arith}
 use Rattle.shared_memory.specs.Passes.{marked}
-use Rattle.version_memory.proofs.HeldMarks.{merge-more, merge-rest, merged-all}
-use Rattle.version_memory.proofs.marks.merge_marks.Goals as goal
-use Rattle.version_memory.proofs.marks.merge_marks.Goals.{then-has-t, else-has-t}
+use Rattle.shared_memory.proofs.HeldMarks.{merge-more, merge-rest, merged-all}
+use Rattle.shared_memory.proofs.numbers.merge_marks.Goals as goal
+use Rattle.shared_memory.proofs.numbers.merge_marks.Goals.{then-has-t, else-has-t}
 
 pub loop-t-preserved : goal.loop-t-preserved
 loop-t-preserved c =

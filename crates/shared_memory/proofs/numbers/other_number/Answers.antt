@@ -2,7 +2,7 @@ use Rattle.std.proofs.Common.{◌≡◌, true, false, ap, sym, ◌∙◌, inl, i
 use Rattle.std.proofs.lemmas.Bool.{cases_lt}
 use Rattle.shared_memory.specs.Passes.{marked}
 use Rattle.shared_memory.proofs.Marks.{marked-below}
-use Rattle.hst_memory.proofs.marks.other_number.Goals as goal
+use Rattle.shared_memory.proofs.numbers.other_number.Goals as goal
 
 pub unreachable-requires : goal.unreachable-requires
 unreachable-requires c =

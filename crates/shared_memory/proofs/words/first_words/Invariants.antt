@@ -1,6 +1,6 @@
 use Rattle.std.proofs.Common.{◌≡◌, ◌+◌, ◌<◌, ℕ, length, get_or}
 use Rattle.row_bytes.specs.Cell.{cell_at}
-use Rattle.hst_memory.proofs.making.first_words.Given as goal
+use Rattle.shared_memory.proofs.words.first_words.Given as goal
 
 abbrev pub invariant-loop-i : goal.invariant-loop-i
 invariant-loop-i l = record {

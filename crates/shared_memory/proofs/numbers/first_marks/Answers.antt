@@ -1,6 +1,6 @@
 use Rattle.std.proofs.Common.{true, length-set, nat_lt, refl, ap, ◌∙◌, arith}
-use Rattle.hst_memory.proofs.FirstWords.{mark-more, no-marks}
-use Rattle.hst_memory.proofs.making.first_marks.Goals as goal
+use Rattle.shared_memory.proofs.FirstWords.{mark-more, no-marks}
+use Rattle.shared_memory.proofs.numbers.first_marks.Goals as goal
 
 pub loop-t-preserved : goal.loop-t-preserved
 loop-t-preserved c =

@@ -1,7 +1,7 @@
 use Rattle.std.proofs.Common.{◌≡◌, ◌<◌, ◌≤◌, ℕ, length}
 use Rattle.shared_memory.specs.Passes.{marked}
 use Rattle.shared_memory.specs.Seen.{joint}
-use Rattle.hst_memory.proofs.marks.merge_marks.Given as goal
+use Rattle.shared_memory.proofs.numbers.merge_marks.Given as goal
 
 abbrev pub invariant-loop-t : goal.invariant-loop-t
 invariant-loop-t l = record {

@@ -1,6 +1,6 @@
 use Rattle.std.proofs.Common.{◌≡◌, ℕ, length, nat_lt}
 use Rattle.shared_memory.specs.Passes.{marked}
-use Rattle.version_memory.proofs.making.first_marks.Given as goal
+use Rattle.shared_memory.proofs.numbers.first_marks.Given as goal
 
 abbrev pub invariant-loop-t : goal.invariant-loop-t
 invariant-loop-t l = record {

@@ -1,5 +1,5 @@
 //! Which thread numbers a pass holds, as marks.
-ghost use Rattle.std.specs.Prelude.{◌≡◌, ◌≢◌, ◌<◌, ℕ, length, slice_set, false, true};
+ghost use Rattle.std.specs.Prelude.{◌≡◌, ◌≢◌, ◌<◌, ◌≤◌, ℕ, length, nat_lt, slice_set, false, true};
 ghost use Rattle.shared_memory.specs.Passes.{marked, one_mark};
 ghost use Rattle.shared_memory.specs.Seen.{IsOneOf, joint};
 
@@ -37,6 +37,18 @@ pub fn merge_marks(one: &Marks, other: &Marks) -> Marks
     let mut has = *one;
     for t in 0..16usize {
         has[t] = has[t] || other[t];
+    }
+    has
+}
+
+/// The marks of the first numbers.
+pub fn first_marks(threads: u32) -> Marks
+    requires { threads ≤ 16 }
+    ensures { (t : ℕ) → marked result t ≡ nat_lt t threads }
+{
+    let mut has = [false; 16];
+    for t in 0..threads as usize {
+        has[t] = true;
     }
     has
 }

@@ -3,8 +3,8 @@ use Rattle.std.proofs.lemmas.Bool.{cases_lt}
 use Rattle.std.proofs.lemmas.List.{length-replicate, take_rest}
 use Rattle.llsc_base.specs.Memory.{number_of}
 use Rattle.row_bytes.specs.Cell.{cell_at}
-use Rattle.version_memory.proofs.FirstWords.{word-kept, word-last, zero-words}
-use Rattle.version_memory.proofs.making.first_words.Goals as goal
+use Rattle.shared_memory.proofs.FirstWords.{word-kept, word-last, zero-words}
+use Rattle.shared_memory.proofs.words.first_words.Goals as goal
 
 pub loop-i-preserved : goal.loop-i-preserved
 loop-i-preserved c =
