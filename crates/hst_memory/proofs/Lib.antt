@@ -12,4 +12,3 @@ pub mod Betweens
 pub mod Closing
 pub mod AloneSteps
 pub mod Exactly
-pub mod TestPasses

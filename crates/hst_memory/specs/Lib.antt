@@ -5,4 +5,3 @@ pub mod Exact
 pub mod Told
 pub mod Passes
 pub mod Memory
-pub mod Worked

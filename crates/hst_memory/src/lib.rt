@@ -14,6 +14,3 @@ mod sharing;
 
 pub use memory::HstMemory;
 pub use passes::{HstPass, HstStory};
-
-#[cfg(test)]
-mod tests;

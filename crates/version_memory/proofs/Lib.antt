@@ -4,4 +4,3 @@ mod Whole
 mod Waited
 mod Exactly
 mod Betweens
-mod TestPasses

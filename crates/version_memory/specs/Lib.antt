@@ -3,4 +3,3 @@ pub mod Exact
 pub mod Passes
 pub mod Memory
 pub mod Stored
-pub mod Worked

@@ -14,6 +14,3 @@ mod stamps;
 
 pub use memory::VersionMemory;
 pub use passes::{VersionPass, VersionStory};
-
-#[cfg(test)]
-mod tests;

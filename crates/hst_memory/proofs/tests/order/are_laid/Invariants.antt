@@ -1,5 +1,0 @@
-use Rattle.hst_memory.specs.Worked.{IsOfFour}
-use Rattle.hst_memory.proofs.tests.order.are_laid.Given as goal
-
-abbrev pub invariant-loop : goal.invariant-loop
-invariant-loop l = IsOfFour l.plain

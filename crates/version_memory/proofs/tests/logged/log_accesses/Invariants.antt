@@ -1,8 +1,0 @@
-use Rattle.std.proofs.Common.{◌≡◌}
-use Rattle.version_memory.proofs.tests.logged.log_accesses.Given as goal
-
-abbrev pub invariant-loop-access : goal.invariant-loop-access
-invariant-loop-access g l = record {
-  home : g.M.SharedMemory.home l.pass ≡ g.M.SharedMemory.home l.fn.pass;
-  numbers : g.M.SharedMemory.numbers l.pass ≡ g.M.SharedMemory.numbers l.fn.pass;
-}
