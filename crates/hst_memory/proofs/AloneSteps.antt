@@ -30,11 +30,13 @@ use Rattle.hst_memory.specs.declared.hands.Doing.TheVariants.{Rest, Alone, Watch
 use Rattle.hst_memory.specs.declared.hands.Reserve.{Reserve}
 use Rattle.hst_memory.specs.declared.hands.Reserve.TheVariants.{Nothing, Row, Several}
 use Rattle.hst_memory.specs.declared.hands.Hand.{Hand}
-use Rattle.hst_memory.specs.declared.plans.Plan.{Plan}
+use Rattle.shared_memory.specs.declared.plans.Plan.{Plan}
 use Rattle.hst_memory.specs.Hands.{alone_word, hand, weight_of}
 use Rattle.hst_memory.specs.Knowledge.{IsAt, IsReserve, Keeps, Knows}
-use Rattle.hst_memory.specs.Kept.{IsLaid, IsSection, Kept, KeptBy, cell_word, origin_of, tag_word, words_of}
-use Rattle.hst_memory.specs.Told.{Mine, absent, ask, changed_alone, cleared, entered_alone, left_alone, left_written, read_ex, tested, watched}
+use Rattle.shared_memory.specs.Layout.{cell_word, tag_word, words_of}
+use Rattle.hst_memory.specs.Kept.{IsLaid, IsSection, Kept, KeptBy, origin_of}
+use Rattle.shared_memory.specs.Told.{ask}
+use Rattle.hst_memory.specs.Told.{Mine, absent, changed_alone, cleared, entered_alone, left_alone, left_written, read_ex, tested, watched}
 use Rattle.hst_memory.proofs.Laid.{laid-cell, laid-same, laid-section, laid-tag}
 use Rattle.hst_memory.proofs.Moves.{inside-safe, moves-none, moves-one, told-none, told-one}
 use Rattle.hst_memory.proofs.Own.{own-alone, own-begin_ex, own-clear, own-end_ex, own-fail, own-leave, own-read_ex, own-watch, own-write_ex}

@@ -11,7 +11,8 @@ use Rattle.hst_memory.specs.declared.hands.Reserve.TheVariants.{Nothing, Several
 use Rattle.hst_memory.specs.declared.hands.Hand.{Hand}
 use Rattle.hst_memory.specs.Hands.{hand, reserve_joined}
 use Rattle.hst_memory.specs.Passes.{IsBetween, row_of_reserve}
-use Rattle.hst_memory.specs.Told.{Mine, Settles}
+use Rattle.shared_memory.specs.Told.{Settles}
+use Rattle.hst_memory.specs.Told.{Mine}
 
 nothing-several : Nothing ≡ Several → ⊥
 nothing-several h = let f : ⊥ = cc in f

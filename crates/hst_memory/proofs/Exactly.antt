@@ -11,8 +11,9 @@ use Rattle.hst_memory.specs.declared.hands.Reserve.TheVariants.{Nothing}
 use Rattle.hst_memory.specs.declared.hands.Hand.{Hand}
 use Rattle.hst_memory.specs.Exact.{IsExact, IsUndisturbed}
 use Rattle.hst_memory.specs.Hands.{hand}
-use Rattle.hst_memory.specs.Told.{Goes, HasLost, HasWon, Mine}
-use Rattle.hst_memory.proofs.Ready.{goes-then_by}
+use Rattle.shared_memory.specs.Told.{Goes}
+use Rattle.hst_memory.specs.Told.{HasLost, HasWon, Mine}
+use Rattle.shared_memory.proofs.Sequences.{goes-then_by}
 
 seen-more : (past : List Entry) (entry : Entry) (seen new added : List Entry) → seen ≡ past ++ entry ∷ [] → new ≡ seen ++ added → new ≡ past ++ (entry ∷ added)
 seen-more past entry seen new added is longer = longer ∙ ap (λ (l : List Entry). l ++ added) is ∙ append_assoc past (entry ∷ []) added

@@ -5,7 +5,6 @@ pub mod Laid
 pub mod Moves
 pub mod PlainSteps
 pub mod Ready
-pub mod Waits
 pub mod Opening
 pub mod SeatSteps
 pub mod Betweens

@@ -2,7 +2,6 @@
 use Rattle.std.proofs.Common.{◌≡◌, ◌≢◌, ℕ, ◌≤◌, false, List, [], ◌∷◌, ◌++◌, set, slice_index, refl, ap, sym, ◌∙◌, inr}
 use mathlib.Core.Option.{some}
 use lib.ListN.{get_elem?}
-use Rattle.std.proofs.lemmas.Bool.{eq-eqb, ne_eqb}
 use Rattle.history.specs.Entry.{thread_of}
 use Rattle.history.specs.Standing.{joined, standing_after}
 use Rattle.history.specs.Follow.{MayFollow, MayJoin}
@@ -10,21 +9,16 @@ use Rattle.history.specs.declared.entry.Entry.{Entry}
 use Rattle.shared_memory.specs.declared.views.View.{View}
 use Rattle.shared_memory.specs.Seen.{IsOneOf, IsSingle}
 use Rattle.shared_memory.specs.Passes.{marked, moved}
-use Rattle.shared_memory.proofs.Grown.{AreBy, are_by-none, grown, legal-tells, sees-grown}
+use Rattle.shared_memory.proofs.Grown.{AreBy, are_by-none, grown}
+use Rattle.shared_memory.proofs.Stepped.{are_by-one, goes-grown}
 use Rattle.hst_memory.specs.declared.hands.Hand.{Hand}
-use Rattle.hst_memory.specs.declared.plans.Plan.{Plan}
+use Rattle.shared_memory.specs.declared.plans.Plan.{Plan}
 use Rattle.hst_memory.specs.Hands.{weight_of}
 use Rattle.hst_memory.specs.Knowledge.{Knows}
 use Rattle.hst_memory.specs.Kept.{IsLaid, IsSection, Kept, origin_of}
-use Rattle.hst_memory.specs.Told.{Goes}
+use Rattle.shared_memory.specs.Told.{Goes}
 use Rattle.hst_memory.proofs.Others.{IsSafe, knows-other}
 use Rattle.hst_memory.proofs.Sections.{none-alone, weight}
-
-pub are_by-one : (e : Entry) (lead : ℕ) → thread_of e ≡ lead → AreBy lead (e ∷ [])
-are_by-one e lead own = record {
-  own = rw (eq-eqb (thread_of e) lead own) refl;
-  none = λ u ne. rw (ne_eqb (thread_of e) u (λ same. ne (sym same ∙ own))) refl;
-}
 
 module _ (plan : Plan) (words : List ℕ) (views : List (View Hand)) (k : Kept plan words views) (seat : ℕ) (v : View Hand) (at : get_elem? views seat ≡ some v)
     (single : IsSingle v.lead (marked v.numbers)) where
@@ -49,19 +43,7 @@ module _ (plan : Plan) (words : List ℕ) (views : List (View Hand)) (k : Kept p
       → ((j : ℕ) (w : View Hand) → j ≢ seat → get_elem? views j ≡ some w → (u : ℕ) → IsOneOf u (marked w.numbers) → u ≢ v.lead → Knows plan.size k.standing u w.doing
       → Knows plan.size (standing_after plan.size k.standing es) u w.doing)
       → Goes (origin_of plan) (v, slots) es h (moved v k.history es h, slots)
-  told es h slots by may known frame =
-      let s' = standing_after plan.size k.standing es in
-      let new = grown (Knows plan.size) plan.size plan.image.value.bytes views k.history es k.standing s' seat v h k.tells at single by may refl known frame in
-      record {
-        sees = sees-grown (origin_of plan) v.lead v.numbers v.seen k.history es (k.tells.each seat v at).part single.has by
-            (legal-tells (Knows plan.size) plan.size plan.image.value.bytes (set views seat (moved v k.history es h)) (k.history ++ es) s' plan.size.threads false new);
-        numbers = refl;
-        lead = refl;
-        left = refl;
-        right = refl;
-        doing_is = refl;
-        slots = refl;
-      }
+  told es h slots by may known frame = goes-grown (Knows plan.size) plan.size plan.image.value.bytes views k.history k.standing seat v k.tells at single plan.size.threads false es h slots by may known frame
 
   -- no entry
   pub moves-none : (words' : List ℕ) (h : Hand) → Knows plan.size k.standing v.lead h → IsLaid plan.size words' k.standing

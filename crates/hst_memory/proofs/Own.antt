@@ -19,7 +19,8 @@ use Rattle.hst_memory.specs.declared.hands.Reserve.TheVariants.{Nothing, Row, Se
 use Rattle.hst_memory.specs.declared.hands.Hand.{Hand}
 use Rattle.hst_memory.specs.Hands.{hand, reserve_after}
 use Rattle.hst_memory.specs.Knowledge.{Agrees, IsAt, IsReserve, Keeps, Knows}
-use Rattle.hst_memory.proofs.Others.{keeps-stay, mark-written, stage-other, stage-own}
+use Rattle.shared_memory.proofs.Apart.{mark-written, stage-other, stage-own}
+use Rattle.hst_memory.proofs.Others.{keeps-stay}
 
 -- ---- a reservation stays
 

@@ -22,11 +22,13 @@ use Rattle.shared_memory.specs.Passes.{marked, moved}
 use Rattle.hst_memory.specs.declared.hands.Doing.{Doing}
 use Rattle.hst_memory.specs.declared.hands.Doing.TheVariants.{Rest, Inside, Begun, Written}
 use Rattle.hst_memory.specs.declared.hands.Hand.{Hand}
-use Rattle.hst_memory.specs.declared.plans.Plan.{Plan}
+use Rattle.shared_memory.specs.declared.plans.Plan.{Plan}
 use Rattle.hst_memory.specs.Hands.{hand, reserve_after, weight_of}
 use Rattle.hst_memory.specs.Knowledge.{IsAt, Knows}
-use Rattle.hst_memory.specs.Kept.{IsLaid, IsSection, Kept, KeptBy, cell_word, origin_of, tag_word, words_of}
-use Rattle.hst_memory.specs.Told.{Mine, ask, changed, entered, left_shared, loaded, looked_at, tagged}
+use Rattle.shared_memory.specs.Layout.{cell_word, tag_word, words_of}
+use Rattle.hst_memory.specs.Kept.{IsLaid, IsSection, Kept, KeptBy, origin_of}
+use Rattle.shared_memory.specs.Told.{ask, loaded, looked_at}
+use Rattle.hst_memory.specs.Told.{Mine, changed, entered, left_shared, tagged}
 use Rattle.hst_memory.proofs.Laid.{laid-cell, laid-same, laid-section, laid-tag}
 use Rattle.hst_memory.proofs.Moves.{inside-safe, moves-none, moves-one, told-none, told-one}
 use Rattle.hst_memory.proofs.Own.{own-begin, own-end, own-enter, own-read, own-write}

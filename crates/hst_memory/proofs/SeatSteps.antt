@@ -17,11 +17,12 @@ use Rattle.hst_memory.specs.declared.hands.Doing.TheVariants.{Rest}
 use Rattle.hst_memory.specs.declared.hands.Reserve.{Reserve}
 use Rattle.hst_memory.specs.declared.hands.Reserve.TheVariants.{Nothing, Several}
 use Rattle.hst_memory.specs.declared.hands.Hand.{Hand}
-use Rattle.hst_memory.specs.declared.plans.Plan.{Plan}
+use Rattle.shared_memory.specs.declared.plans.Plan.{Plan}
 use Rattle.hst_memory.specs.Hands.{hand, reserve_joined, weight_of}
 use Rattle.hst_memory.specs.Knowledge.{IsAt, Knows}
 use Rattle.hst_memory.specs.Kept.{IsSection, KeptBy}
-use Rattle.hst_memory.specs.Told.{Mine, settled_at}
+use Rattle.shared_memory.specs.Told.{settled_at}
+use Rattle.hst_memory.specs.Told.{Mine}
 use Rattle.hst_memory.proofs.PlainSteps.{as-found}
 use Rattle.hst_memory.proofs.Sections.{section-same, total-push, weight}
 

@@ -1,5 +1,5 @@
 -- What a memory that is kept by names and a section keeps between any two of its steps. This project's own.
-use Rattle.std.specs.Prelude.{◌≡◌, ◌⊎◌, ◌+◌, ◌/◌, ◌<◌, ◌≤◌, ℕ, List, length, slice_index}
+use Rattle.std.specs.Prelude.{◌≡◌, ◌⊎◌, ◌/◌, ◌<◌, ◌≤◌, ℕ, List, length, slice_index, false}
 use mathlib.Core.Option.{some}
 use lib.ListN.{get_elem?}
 use Rattle.llsc_base.specs.Sizes.{Numbers}
@@ -9,22 +9,11 @@ use Rattle.atomic_table.specs.Table.{State}
 use Rattle.shared_memory.specs.declared.views.View.{View}
 use Rattle.shared_memory.specs.Origin.{Origin}
 use Rattle.shared_memory.specs.Rule.{Tells}
+use Rattle.shared_memory.specs.Layout.{cell_word, tag_word, words_of}
 use Rattle.hst_memory.specs.declared.hands.Hand.{Hand}
-use Rattle.hst_memory.specs.declared.plans.Plan.{Plan}
+use Rattle.shared_memory.specs.declared.plans.Plan.{Plan}
 use Rattle.hst_memory.specs.Hands.{alone_word, total_of, weight_of}
 use Rattle.hst_memory.specs.Knowledge.{Knows}
-use Rattle.std.specs.Prelude.{false}
-
--- the words of the table: the section's, the classes' tags, and the cells
-abbrev pub words_of : Numbers → ℕ
-words_of size = 1 + size.classes + size.mem / 8
-
--- the word of a class's tag, and of a cell
-abbrev pub tag_word : ℕ → ℕ
-tag_word class = 1 + class
-
-abbrev pub cell_word : Numbers → ℕ → ℕ
-cell_word size cell = 1 + size.classes + cell
 
 -- one thread is inside alone
 pub record IsAlone (views : List (View Hand)) : Type 0 where

@@ -1,16 +1,13 @@
 -- What holds of a pass between two calls, and of a seat in a call. This project's own.
-use Rattle.std.specs.Prelude.{◌≡◌, ◌+◌, ◌%◌, ◌^◌, ◌<◌, ◌≤◌, ℕ, Bool, true, Option, Some, None, List, []}
-use Rattle.llsc_base.specs.Memory.{cell_of, class_of, is_aligned, row_of, size_bytes}
-use Rattle.llsc_base.specs.declared.access.Place.{Place}
+use Rattle.std.specs.Prelude.{◌≡◌, ◌%◌, ◌<◌, ◌≤◌, ℕ, Bool, Option, Some, None, List, []}
 use Rattle.atomic_table.specs.Seated.{TableId}
 use Rattle.shared_memory.specs.Passes.{marked, nobody}
 use Rattle.shared_memory.specs.Seen.{IsOneOf, IsSingle}
 use Rattle.hst_memory.specs.declared.hands.Doing.TheVariants.{Rest}
 use Rattle.hst_memory.specs.declared.hands.Reserve.{Reserve}
 use Rattle.hst_memory.specs.declared.hands.Reserve.TheVariants.{Nothing, Row, Several}
-use Rattle.hst_memory.specs.declared.plans.Plan.{Plan}
-use Rattle.shared_memory.specs.declared.targets.Target.{Target}
-use Rattle.hst_memory.specs.Kept.{cell_word, tag_word, words_of}
+use Rattle.shared_memory.specs.declared.plans.Plan.{Plan}
+use Rattle.shared_memory.specs.Layout.{words_of}
 use Rattle.hst_memory.specs.Told.{Mine}
 
 -- the table of a memory of this plan
@@ -26,11 +23,6 @@ pub record IsReady (plan : Plan) (table home : TableId) (me : Mine) : Type 0 whe
   pub made : IsMade plan table
   pub home_is : home ≡ table
   pub single : IsSingle me.0.lead (marked me.0.numbers)
-
--- the place may be accessed
-pub record IsPlace (plan : Plan) (place : Place) : Type 0 where
-  pub aligned : is_aligned place ≡ true
-  pub inside : place.addr + size_bytes place.size ≤ plan.size.mem
 
 -- the row that a pass keeps of a reservation
 abbrev pub row_of_reserve : Reserve → Option ℕ
@@ -50,10 +42,3 @@ pub record IsBetween (me : Mine) (has : List Bool) (number : ℕ) (reserved : Op
   pub tied : row_of_reserve me.0.doing.reserve ≡ reserved
   pub several : me.0.doing.reserve ≡ Several → (t : ℕ) → IsSingle t (marked me.0.numbers) → ⊥
   pub slots : me.1 ≡ []
-
--- the place may be accessed, the value is one of its size, and the words are its own
-pub record IsTarget (plan : Plan) (target : Target) : Type 0 where
-  pub may : IsPlace plan target.place
-  pub fits : target.value < 256 ^ size_bytes target.place.size
-  pub tag_is : target.tag ≡ tag_word (class_of plan.size.classes (row_of plan.size.granule target.place))
-  pub word_is : target.word ≡ cell_word plan.size (cell_of target.place)

@@ -2,51 +2,23 @@
 use Rattle.std.specs.Prelude.{◌≡◌, ◌≢◌, ◌+◌, ℕ, true, false, List, [], ◌∷◌, ◌++◌}
 use Rattle.llsc_base.specs.Memory.{row_of}
 use Rattle.llsc_base.specs.declared.access.Place.{Place}
-use Rattle.llsc_base.specs.declared.access.Size.TheVariants.{B1}
 use Rattle.row_bytes.specs.Cell.{value_in_cell}
 use Rattle.history.specs.declared.entry.Entry.{Entry}
 use Rattle.history.specs.declared.entry.Entry.TheVariants.{Read, Write, Fail, Clear, Watch, Begin, End}
 use Rattle.history.specs.declared.entry.Cause.TheVariants.{Absent, Lost}
-use Rattle.atomic_table.specs.Table.{Me, Step}
-use Rattle.shared_memory.specs.declared.views.View.{View}
+use Rattle.atomic_table.specs.Table.{Step}
+use Rattle.shared_memory.specs.Told.{Ask, Goes, SeatOf}
 use Rattle.shared_memory.specs.Origin.{Origin}
-use Rattle.shared_memory.specs.Passes.{IsSettled, nobody}
-use Rattle.shared_memory.specs.Seen.{IsFront, Sees}
+use Rattle.shared_memory.specs.Seen.{IsFront}
 use Rattle.hst_memory.specs.declared.hands.Hand.{Hand}
 use Rattle.hst_memory.specs.declared.hands.Doing.TheVariants.{Rest, Inside, Begun, Written, Alone, Watching, Done, AloneBegun, AloneWritten}
 use Rattle.hst_memory.specs.declared.hands.Reserve.TheVariants.{Nothing, Row}
 use Rattle.hst_memory.specs.Exact.{IsUndisturbed}
 use Rattle.hst_memory.specs.Hands.{hand, reserve_after}
 
--- what a call is about: the memory, the place, and the value to store
-pub record Ask : Type 0 where
-  pub origin : Origin
-  pub place : Place
-  pub value : ℕ
-
-abbrev pub ask : Origin → Place → ℕ → Ask
-ask origin place value = record { origin = origin; place = place; value = value }
-
+-- what a seat of such a memory knows
 abbrev pub Mine : Type 0
-Mine = Me (Unit {0}) (View Hand)
-
--- a seat has seen the whole history, to which it has added these entries, and is doing this
-pub record Goes (origin : Origin) (old : Mine) (entries : List Entry) (doing : Hand) (new : Mine) : Type 0 where
-  pub sees : Sees origin old.0.lead old.0.seen entries new.0.seen
-  pub numbers : new.0.numbers ≡ old.0.numbers
-  pub lead : new.0.lead ≡ old.0.lead
-  pub left : new.0.left ≡ nobody
-  pub right : new.0.right ≡ nobody
-  pub doing_is : new.0.doing ≡ doing
-  pub slots : new.1 ≡ old.1
-
--- a load of a cell, as a load of the place
-abbrev pub loaded : Ask → Step (Unit {0}) → Mine → ℕ → Mine → Type 0
-loaded q st old n new = Goes q.origin old (Read old.0.lead q.place (value_in_cell n q.place) false ∷ []) old.0.doing new
-
--- a load that is no access
-abbrev pub looked_at : Ask → Step (Unit {0}) → Mine → ℕ → Mine → Type 0
-looked_at q st old n new = Goes q.origin old [] old.0.doing new
+Mine = SeatOf Hand
 
 -- a store comes into the section where its word is still what was expected
 abbrev pub entered : Ask → Step (Unit {0}) → Mine → ℕ → Mine → Type 0
@@ -67,18 +39,6 @@ changed q st old n new =
 -- it leaves the section
 abbrev pub left_shared : Ask → Step (Unit {0}) → Mine → ℕ → Mine → Type 0
 left_shared q st old n new = Goes q.origin old (End old.0.lead q.place ∷ []) (hand Rest old.0.doing.reserve) new
-
--- where a call doesn't say what it is about
-abbrev pub no_ask : Ask
-no_ask = ask (record { size = record { mem = 0; threads = 0; classes = 0; limit = 0; granule = 0 }; first = 0; bytes = []; spends = false }) (record { addr = 0; size = B1 }) 0
-
--- a seat that has taken in another is as one from then on
-pub record Settles (old new : Mine) : Type 0 where
-  pub settled : IsSettled old.0 new.0
-  pub slots : new.1 ≡ old.1
-
-abbrev pub settled_at : Step (Unit {0}) → Mine → ℕ → Mine → Type 0
-settled_at st old n new = Settles old new
 
 -- ---- inside alone
 

@@ -1,7 +1,7 @@
 //! The steps of exclusive accesses.
-ghost use Rattle.std.specs.Prelude.{◌≡◌, ◌≢◌, ◌+◌, ◌^◌, ◌<◌, ◌≤◌, [], ◌∷◌, false, true};
+ghost use Rattle.std.specs.Prelude.{◌≡◌, ◌≢◌, ◌+◌, ◌<◌, [], ◌∷◌, false, true};
 ghost use Rattle.std.specs.Bool.{OnFalse, OnTrue};
-ghost use Rattle.llsc_base.specs.Memory.{cell_of, class_of, row_of, size_bytes};
+ghost use Rattle.llsc_base.specs.Memory.{cell_of, class_of, row_of};
 ghost use Rattle.row_bytes.specs.Cell.{value_in_cell};
 ghost use Rattle.history.specs.Operation.{clear, entries_of_operation, fail, load_watched, store};
 ghost use Rattle.history.specs.declared.entry.Cause.{Cause};
@@ -9,20 +9,23 @@ ghost use Rattle.hst_memory.specs.declared.hands.Doing.TheVariants.{Rest, Alone,
 ghost use Rattle.hst_memory.specs.declared.hands.Reserve.TheVariants.{Nothing, Row, Several};
 ghost use Rattle.hst_memory.specs.Exact.{IsExact};
 ghost use Rattle.hst_memory.specs.Hands.{hand};
-ghost use Rattle.hst_memory.specs.Kept.{cell_word, origin_of, tag_word};
-ghost use Rattle.hst_memory.specs.Passes.{IsPlace, IsReady, IsTarget};
-ghost use Rattle.hst_memory.specs.Told.{Goes, HasLost, HasWon, ask};
+ghost use Rattle.shared_memory.specs.Layout.{cell_word, tag_word};
+ghost use Rattle.hst_memory.specs.Kept.{origin_of};
+ghost use Rattle.shared_memory.specs.Targets.{IsPlace, IsTarget};
+ghost use Rattle.hst_memory.specs.Passes.{IsReady};
+ghost use Rattle.shared_memory.specs.Told.{Goes, ask};
+ghost use Rattle.hst_memory.specs.Told.{HasLost, HasWon};
 
 use crate::plain::look;
 use crate::plans::{HstSeat, HstShared};
 use crate::plays::{
-    Absent, Asks, ChangeAlone, Clear, EnterAlone, LeaveAlone, LeaveWritten, ReadEx, Test, Watch,
+    Absent, ChangeAlone, Clear, EnterAlone, LeaveAlone, LeaveWritten, ReadEx, Test, Watch,
 };
 use crossbeam_utils::Backoff;
 use history::Entry;
 use llsc_base::Place;
 use row_bytes::put;
-use shared_memory::Target;
+use shared_memory::{Asks, Target};
 use std::sync::Wait;
 
 /// The section's word while one thread is inside alone.

@@ -1,15 +1,12 @@
 //! A memory is made.
-ghost use Rattle.std.specs.Prelude.{◌≡◌, ◌+◌, ◌/◌, ◌%◌, ◌*◌, ◌<◌, ◌≤◌, ℕ, [], false, IfOk, length, nat_lt, slice_index, take, vec_len};
-ghost use Rattle.llsc_base.specs.Memory.{number_of};
-ghost use Rattle.row_bytes.specs.Cell.{cell_at};
-ghost use Rattle.shared_memory.specs.Passes.{marked};
+ghost use Rattle.std.specs.Prelude.{◌≡◌, ◌+◌, ◌%◌, ◌*◌, ◌<◌, ℕ, [], false, IfOk, length, nat_lt};
 ghost use Rattle.hst_memory.specs.Memory.{memory_id, memory_origin, pass_home, pass_numbers, pass_seen};
 
 use crate::memory::HstMemory;
 use crate::passes::HstPass;
-use crate::plans::{HstTable, Plan};
+use crate::plans::HstTable;
 use llsc_base::{Image, MachineSize};
-use shared_memory::{first_marks, first_words};
+use shared_memory::{Plan, first_marks, first_words};
 use std::alloc::{AllocError, Global};
 use std::snapshot::Snapshot;
 

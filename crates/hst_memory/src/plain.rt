@@ -1,22 +1,24 @@
 //! The steps of loads and stores.
-ghost use Rattle.std.specs.Prelude.{◌≡◌, ◌+◌, ◌^◌, ◌<◌, ◌≤◌, ◌≢◌, [], ◌∷◌, false};
+ghost use Rattle.std.specs.Prelude.{◌≡◌, ◌+◌, ◌^◌, ◌<◌, ◌≢◌, [], ◌∷◌, false};
 ghost use Rattle.std.specs.Bool.{OnFalse, OnTrue};
 ghost use Rattle.llsc_base.specs.Memory.{cell_of, class_of, row_of, size_bytes};
 ghost use Rattle.row_bytes.specs.Cell.{value_in_cell};
 ghost use Rattle.history.specs.Operation.{entries_of_operation, store};
 ghost use Rattle.hst_memory.specs.declared.hands.Doing.TheVariants.{Rest, Inside, Begun, Written};
 ghost use Rattle.hst_memory.specs.Hands.{hand, reserve_after};
-ghost use Rattle.hst_memory.specs.Kept.{cell_word, origin_of, tag_word};
-ghost use Rattle.hst_memory.specs.Passes.{IsPlace, IsReady, IsTarget};
-ghost use Rattle.hst_memory.specs.Told.{Goes, ask};
+ghost use Rattle.shared_memory.specs.Layout.{cell_word, tag_word};
+ghost use Rattle.hst_memory.specs.Kept.{origin_of};
+ghost use Rattle.shared_memory.specs.Targets.{IsPlace, IsTarget};
+ghost use Rattle.hst_memory.specs.Passes.{IsReady};
+ghost use Rattle.shared_memory.specs.Told.{Goes, ask};
 
 use crate::plans::{HstSeat, HstShared};
-use crate::plays::{Asks, Change, Enter, Leave, Load, Look, Tag};
+use crate::plays::{Change, Enter, Leave, Tag};
 use crossbeam_utils::Backoff;
 use history::Entry;
 use llsc_base::Place;
 use row_bytes::put;
-use shared_memory::Target;
+use shared_memory::{Asks, Load, Look, Target};
 use std::sync::Wait;
 
 /// Loads the cell of a place, as a load of the place.

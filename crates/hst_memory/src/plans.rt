@@ -1,16 +1,8 @@
 //! The rule of the table.
 use crate::hands::HstView;
 use atomic_table::{Seat, Shared, Table, TableRule};
-use llsc_base::{Image, MachineSize};
+use shared_memory::Plan;
 use std::alloc::Global;
-use std::snapshot::Snapshot;
-
-/// What the table is told once: what the memory was made with.
-#[derive(Drop)]
-pub struct Plan {
-    pub size: MachineSize,
-    pub image: Snapshot<Image>,
-}
 
 /// Names and a section: word 0 is the number of stores inside, or says that one thread is inside alone, the words behind it
 /// are the tags of the classes, each 0 or one more than the thread that last came to the class, and then come the cells.

@@ -1,42 +1,8 @@
 //! What each step tells its caller.
 use crate::hands::HstView;
 use atomic_table::Play;
-use std::marker::{Brand, PhantomData};
-
-/// What a call is about: a call picks it, and the steps that it makes speak of it.
-pub trait Asks {
-    ghost use Rattle.hst_memory.specs.Told.{Ask};
-
-    ghost ask: { Ask };
-}
-
-impl Asks for Brand {
-    ghost use Rattle.hst_memory.specs.Told.{no_ask};
-
-    ghost ask = { no_ask };
-}
-
-/// A load of a cell, as a load of the place.
-pub struct Load<J> {
-    of: PhantomData<J>,
-}
-
-impl<J: Asks> Play<(), HstView> for Load<J> {
-    ghost use Rattle.hst_memory.specs.Told.{loaded};
-
-    ghost then = { loaded J.ask };
-}
-
-/// A load that is no access.
-pub struct Look<J> {
-    of: PhantomData<J>,
-}
-
-impl<J: Asks> Play<(), HstView> for Look<J> {
-    ghost use Rattle.hst_memory.specs.Told.{looked_at};
-
-    ghost then = { looked_at J.ask };
-}
+use shared_memory::Asks;
+use std::marker::PhantomData;
 
 /// A store comes into the shared section.
 pub struct Enter<J> {

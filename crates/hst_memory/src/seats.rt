@@ -1,5 +1,5 @@
 //! How seats are split and joined.
-ghost use Rattle.std.specs.Prelude.{◌≡◌, ◌≢◌, ◌<◌, ℕ, [], true};
+ghost use Rattle.std.specs.Prelude.{◌≡◌, ◌<◌, ℕ, []};
 ghost use Rattle.history.specs.Parts.{entries_of};
 ghost use Rattle.shared_memory.specs.Passes.{alone_mark, joined_view, marked, nobody, without_mark};
 ghost use Rattle.shared_memory.specs.Seen.{IsOneOf};
@@ -7,12 +7,12 @@ ghost use Rattle.hst_memory.specs.declared.hands.Doing.TheVariants.{Rest};
 ghost use Rattle.hst_memory.specs.declared.hands.Reserve.TheVariants.{Nothing};
 ghost use Rattle.hst_memory.specs.Hands.{hand, reserve_joined};
 ghost use Rattle.hst_memory.specs.Passes.{IsMade};
-ghost use Rattle.hst_memory.specs.Told.{Settles};
+ghost use Rattle.shared_memory.specs.Told.{Settles};
 
 use crate::hands::HstView;
 use crate::plans::{HstSeat, HstShared};
-use atomic_table::{Join, Play, Split};
-use shared_memory::Gives;
+use atomic_table::{Join, Split};
+use shared_memory::{Gives, Settle};
 use std::marker::PhantomData;
 
 /// A seat gives a number away.
@@ -43,15 +43,6 @@ impl Join<HstView> for Both {
     ghost both = { λ v w. joined_view (hand Rest (reserve_joined v w)) v w };
 
     ghost spent = { spent_view (hand Rest Nothing) };
-}
-
-/// And learns what it had seen.
-struct Settle;
-
-impl Play<(), HstView> for Settle {
-    ghost use Rattle.hst_memory.specs.Told.{settled_at};
-
-    ghost then = { settled_at };
 }
 
 /// A seat gives a number away before any of its numbers has an entry, and another of its numbers leads it.

@@ -1,10 +1,9 @@
 //! The memory is one that threads share.
 ghost use Rattle.std.specs.Prelude.{◌≡◌, ◌⊎◌, ◌+◌, ◌^◌, ◌<◌, ◌≤◌, ℕ, IsTrue, false, true};
-ghost use Rattle.llsc_base.specs.Memory.{cell_of, class_of, is_aligned, row_of, size_bytes};
-ghost use Rattle.hst_memory.specs.Kept.{cell_word, tag_word};
+ghost use Rattle.llsc_base.specs.Memory.{is_aligned, size_bytes};
 ghost use Rattle.hst_memory.specs.Hands.{row_after};
 ghost use Rattle.hst_memory.specs.Exact.{IsExact};
-ghost use Rattle.hst_memory.specs.Passes.{IsPlace, IsTarget};
+ghost use Rattle.shared_memory.specs.Targets.{IsPlace, IsTarget};
 ghost use Rattle.history.specs.Operation.{entries_of_operation, fail, load_missed, load_watched, store};
 ghost use Rattle.history.specs.declared.entry.Cause.{Cause};
 ghost use Rattle.shared_memory.specs.Seen.{IsSingle, Sees};
@@ -18,21 +17,15 @@ use crate::plain::{load_cell, store_cell};
 use crate::seats::{join_numbers, split_number};
 use llsc_base::{MachineSize, Place};
 use row_bytes::take;
-use shared_memory::{Rows, SharedMemory, Spent, Target, merge_marks, only_mark, other_number};
+use shared_memory::{
+    Rows, SharedMemory, Spent, Target, merge_marks, only_mark, other_number, word_of_cell,
+};
 use std::marker::Brand;
 use std::snapshot::Snapshot;
 use std::sync::Wait;
 
 impl HstMemory {
-    /// The word of the cell of a place.
-    #[inline]
-    fn cell_word(&self, place: Place) -> usize
-        ensures { result ≡ cell_word self.now.table.shared.key.size (cell_of place) }
-    {
-        1 + self.size.classes() as usize + place.cell() as usize
-    }
-
-    /// Where a store goes.
+    /// Where an access goes, and the value that a store puts there.
     #[inline]
     fn target(&self, place: Place, value: u64) -> Target
         requires place { IsPlace self.now.table.shared.key place }
@@ -41,20 +34,7 @@ impl HstMemory {
         ensures place { result.place ≡ place }
         ensures value { result.value ≡ value }
     {
-        Target {
-            place,
-            value,
-            tag: self.tag_word(place.row(self.size.granule())),
-            word: self.cell_word(place),
-        }
-    }
-
-    /// The word of the tag of the class of a row.
-    #[inline]
-    fn tag_word(&self, row: u32) -> usize
-        ensures { result ≡ tag_word (class_of self.now.table.shared.key.size.classes row) }
-    {
-        1 + self.size.class_of(row) as usize
+        Target::of(&self.size, place, value)
     }
 
     /// A reservation after the thread's own store to a place, which ends it where the place falls into its class.
@@ -101,7 +81,7 @@ impl SharedMemory for HstMemory {
     }
 
     fn load(&self, pass: &mut HstPass, place: Place) -> u64 {
-        let word = self.cell_word(place);
+        let word = word_of_cell(&self.size, place);
         let cell = load_cell::<Brand>(&self.table.shared, &mut pass.seat, place, word);
         take(cell, place)
     }

@@ -7,3 +7,8 @@ pub mod Joined
 pub mod Closed
 pub mod FirstWords
 pub mod HeldMarks
+pub mod Apart
+pub mod Sequences
+pub mod Waits
+pub mod Closing
+pub mod Stepped

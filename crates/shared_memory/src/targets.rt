@@ -1,7 +1,11 @@
-//! Where a store goes.
-use llsc_base::Place;
+//! Where an access goes.
+ghost use Rattle.std.specs.Prelude.{◌≡◌};
+ghost use Rattle.llsc_base.specs.Memory.{cell_of, class_of, row_of};
+ghost use Rattle.shared_memory.specs.Layout.{cell_word, tag_word};
 
-/// A value to store, the place, and the words of the table that serve it.
+use llsc_base::{MachineSize, Place};
+
+/// A place, a value to store there, and the words of the table that serve it.
 #[derive(Clone, Copy)]
 pub struct Target {
     pub place: Place,
@@ -10,4 +14,30 @@ pub struct Target {
     pub tag: usize,
     /// The word of its cell.
     pub word: usize,
+}
+
+impl Target {
+    /// A place with its words, and a value.
+    #[inline]
+    pub fn of(size: &MachineSize, place: Place, value: u64) -> Target
+        ensures place { result.place ≡ place }
+        ensures value { result.value ≡ value }
+        ensures tag { result.tag ≡ tag_word (class_of size.now.classes (row_of size.now.granule place)) }
+        ensures word { result.word ≡ cell_word size.now (cell_of place) }
+    {
+        Target {
+            place,
+            value,
+            tag: 1 + size.class_of(place.row(size.granule())) as usize,
+            word: word_of_cell(size, place),
+        }
+    }
+}
+
+/// The word of the cell of a place.
+#[inline]
+pub fn word_of_cell(size: &MachineSize, place: Place) -> usize
+    ensures { result ≡ cell_word size.now (cell_of place) }
+{
+    1 + size.classes() as usize + place.cell() as usize
 }

@@ -14,7 +14,8 @@ use Rattle.shared_memory.specs.Seen.{IsFront, Sees}
 use Rattle.shared_memory.proofs.Fronts.{front-trans}
 use Rattle.version_rule.specs.declared.hands.Hand.{Hand}
 use Rattle.version_rule.specs.Exact.{IsVersion}
-use Rattle.version_rule.specs.Told.{Decides, Goes, Mine}
+use Rattle.shared_memory.specs.Told.{Goes}
+use Rattle.version_rule.specs.Told.{Decides, Mine}
 use Rattle.version_memory.specs.Stands.{Stands}
 
 pub front-sees : (origin : Origin) (t : ℕ) (old es new : List Entry) → Sees origin t old es new → IsFront old new

@@ -1,5 +1,5 @@
 -- What holds of a pass after it was split or joined.
-use Rattle.std.proofs.Common.{◌≡◌, ◌≢◌, ◌==◌, ◌&&◌, ◌||◌, not, ℕ, Bool, true, false, if◌then◌else◌, Option, None, List, [], set, take, drop, slice_index, get_or-take, get_or-drop, ◌+◌, ◌<◌, refl, ap, sym, ◌∙◌, subst, inl, inr}
+use Rattle.std.proofs.Common.{◌≡◌, ◌≢◌, ◌==◌, ◌&&◌, ◌||◌, not, ℕ, Bool, true, false, if◌then◌else◌, Option, None, List, [], set, refl, ap, sym, ◌∙◌, subst, inl, inr}
 use Rattle.std.proofs.lemmas.Bool.{cases_Bool, eqb-false}
 use Rattle.shared_memory.specs.declared.views.View.{View}
 use Rattle.shared_memory.specs.Passes.{alone_mark, joined_view, marked, merged, one_mark, without_mark}
@@ -12,7 +12,8 @@ use Rattle.version_memory.specs.declared.passes.Reserved.{Reserved}
 use Rattle.version_rule.specs.declared.hands.Hand.{Hand}
 use Rattle.version_rule.specs.Hands.{hand, reserve_joined}
 use Rattle.version_memory.specs.Passes.{IsBetween, reserved_of}
-use Rattle.version_rule.specs.Told.{Mine, Settles}
+use Rattle.shared_memory.specs.Told.{Settles}
+use Rattle.version_rule.specs.Told.{Mine}
 
 nothing-row : {A : Type 0} → (row version : ℕ) → Nothing ≡ Row row version → A
 nothing-row row version h = let f : ⊥ = cc in absurd f
@@ -93,6 +94,3 @@ between-joined me other new has has_other has_both number number_other reserved 
           (subst (λ (ns : List Bool). IsSingle t (marked ns)) numbers single);
       slots = both.slots ∙ b.slots;
     }
-
-pub part-at : (words : List ℕ) (first count i : ℕ) → i < count → slice_index (take count (drop first words)) i ≡ slice_index words (first + i)
-part-at words first count i h = get_or-take count (drop first words) i 0 h ∙ get_or-drop first words i 0

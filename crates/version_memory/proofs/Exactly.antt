@@ -11,8 +11,9 @@ use Rattle.version_rule.specs.declared.hands.Reserve.TheVariants.{Nothing}
 use Rattle.version_rule.specs.declared.hands.Hand.{Hand}
 use Rattle.version_rule.specs.Exact.{IsUndisturbed}
 use Rattle.version_rule.specs.Hands.{hand}
-use Rattle.version_rule.specs.Told.{Decides, Goes, HasLost, IsDisturbed, IsUndisturbedAt, Mine, ask}
-use Rattle.version_rule.proofs.Sequences.{goes-then_by}
+use Rattle.shared_memory.specs.Told.{Goes, ask}
+use Rattle.version_rule.specs.Told.{Decides, HasLost, IsDisturbed, IsUndisturbedAt, Mine}
+use Rattle.shared_memory.proofs.Sequences.{goes-then_by}
 use Rattle.version_memory.specs.Exact.{HasFailedAt}
 use Rattle.version_memory.specs.Stands.{IsStamped}
 use Rattle.version_memory.specs.Stored.{HasFailed, HasStoredEx}

@@ -7,12 +7,14 @@ use Rattle.history.specs.declared.entry.Entry.{Entry}
 use Rattle.atomic_table.specs.Seated.{TableId}
 use Rattle.shared_memory.specs.Origin.{Origin}
 use Rattle.version_rule.specs.declared.hands.Hand.{Hand}
-use Rattle.version_rule.specs.declared.plans.Plan.{Plan}
+use Rattle.shared_memory.specs.declared.plans.Plan.{Plan}
 use Rattle.version_rule.specs.Hands.{class_at}
-use Rattle.version_rule.specs.Kept.{cell_word, tag_word}
-use Rattle.version_rule.specs.Told.{Goes, Mine, ask, third_found, third_found_ex, watched, watched_or_not}
-use Rattle.version_rule.proofs.Sequences.{single-goes}
-use Rattle.version_memory.specs.Passes.{IsMade, IsPlace, IsReady}
+use Rattle.shared_memory.specs.Layout.{cell_word, tag_word}
+use Rattle.shared_memory.specs.Told.{Goes, ask}
+use Rattle.version_rule.specs.Told.{Mine, third_found, third_found_ex, watched, watched_or_not}
+use Rattle.shared_memory.proofs.Sequences.{single-goes}
+use Rattle.shared_memory.specs.Targets.{IsPlace}
+use Rattle.version_memory.specs.Passes.{IsMade, IsReady}
 use Rattle.std.proofs.lemmas.Bool.{cases_eq}
 use Rattle.atomic_table.specs.Table.{Step}
 use Rattle.version_rule.specs.declared.hands.Doing.TheVariants.{Looking, Second}

@@ -11,8 +11,9 @@ use Rattle.version_rule.specs.declared.hands.Doing.TheVariants.{Rest}
 use Rattle.version_rule.specs.declared.hands.Reserve.TheVariants.{Row}
 use Rattle.version_rule.specs.declared.hands.Hand.{Hand}
 use Rattle.version_rule.specs.Hands.{hand, reserve_after}
-use Rattle.version_rule.specs.Told.{Goes, Mine}
-use Rattle.version_rule.proofs.Waits.{Waits, waits-goes_by}
+use Rattle.shared_memory.specs.Told.{Goes}
+use Rattle.version_rule.specs.Told.{Mine}
+use Rattle.shared_memory.proofs.Waits.{Waits, waits-goes_by}
 use Rattle.version_memory.specs.Stands.{IsStamped, HasRoom}
 use Rattle.version_memory.specs.Stored.{HasLoaded, HasLoadedEx, HasStored}
 use Rattle.version_memory.proofs.After.{stands-within}

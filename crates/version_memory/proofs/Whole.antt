@@ -11,8 +11,9 @@ use Rattle.version_rule.specs.declared.hands.Reserve.TheVariants.{Row}
 use Rattle.version_rule.specs.declared.hands.Hand.{Hand}
 use Rattle.version_rule.specs.Exact.{IsVersion}
 use Rattle.version_rule.specs.Hands.{hand, reserve_after}
-use Rattle.version_rule.specs.Told.{Decides, Goes, Mine}
-use Rattle.version_rule.proofs.Sequences.{goes-then_by}
+use Rattle.shared_memory.specs.Told.{Goes}
+use Rattle.version_rule.specs.Told.{Decides, Mine}
+use Rattle.shared_memory.proofs.Sequences.{goes-then_by}
 use Rattle.version_memory.specs.Stands.{IsStamped, HasRoom}
 use Rattle.version_memory.specs.Stored.{HasLoaded, HasLoadedEx, HasStored}
 use Rattle.version_memory.proofs.After.{front-goes, room-version, stamp-version, stands-decides, stands-within, writes-watch}

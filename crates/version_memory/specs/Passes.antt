@@ -1,6 +1,6 @@
 -- What holds of a pass between two calls, and of a seat in a call. This project's own.
-use Rattle.std.specs.Prelude.{◌≡◌, ◌+◌, ◌%◌, ◌^◌, ◌<◌, ◌≤◌, ◌==◌, if◌then◌else◌, ℕ, Bool, true, Option, Some, None, List, []}
-use Rattle.llsc_base.specs.Memory.{cell_of, class_of, is_aligned, size_bytes}
+use Rattle.std.specs.Prelude.{◌≡◌, ◌%◌, ◌^◌, ◌<◌, ◌≤◌, ◌==◌, if◌then◌else◌, ℕ, Bool, Option, Some, None, List, []}
+use Rattle.llsc_base.specs.Memory.{class_of}
 use Rattle.llsc_base.specs.Sizes.{Numbers}
 use Rattle.llsc_base.specs.declared.access.Place.{Place}
 use Rattle.atomic_table.specs.Seated.{TableId}
@@ -9,12 +9,11 @@ use Rattle.shared_memory.specs.Seen.{IsOneOf, IsSingle}
 use Rattle.version_rule.specs.declared.hands.Doing.TheVariants.{Rest}
 use Rattle.version_rule.specs.declared.hands.Reserve.{Reserve}
 use Rattle.version_rule.specs.declared.hands.Reserve.TheVariants.{Nothing, Row, Several}
-use Rattle.version_rule.specs.declared.plans.Plan.{Plan}
+use Rattle.shared_memory.specs.declared.plans.Plan.{Plan}
 use Rattle.version_rule.specs.Hands.{class_at}
-use Rattle.version_rule.specs.Kept.{cell_word, tag_word, words_of}
+use Rattle.shared_memory.specs.Layout.{words_of}
 use Rattle.version_rule.specs.Told.{Mine}
 use Rattle.version_memory.specs.declared.passes.Reserved.{Reserved}
-use Rattle.shared_memory.specs.declared.targets.Target.{Target}
 
 -- the table of a memory of this plan
 pub record IsMade (plan : Plan) (table : TableId) : Type 0 where
@@ -30,11 +29,6 @@ pub record IsReady (plan : Plan) (table home : TableId) (me : Mine) : Type 0 whe
   pub made : IsMade plan table
   pub home_is : home ≡ table
   pub single : IsSingle me.0.lead (marked me.0.numbers)
-
--- the place may be accessed
-pub record IsPlace (plan : Plan) (place : Place) : Type 0 where
-  pub aligned : is_aligned place ≡ true
-  pub inside : place.addr + size_bytes place.size ≤ plan.size.mem
 
 -- what a pass keeps of a reservation
 abbrev pub reserved_of : Reserve → Option Reserved
@@ -60,10 +54,3 @@ pub record IsBetween (me : Mine) (has : List Bool) (number : ℕ) (reserved : Op
   pub short : (row version : ℕ) → me.0.doing.reserve ≡ Row row version → version ≤ 2 ^ 63
   pub several : me.0.doing.reserve ≡ Several → (t : ℕ) → IsSingle t (marked me.0.numbers) → ⊥
   pub slots : me.1 ≡ []
-
--- the place may be accessed, the value is one of its size, and the words are its own
-pub record IsTarget (plan : Plan) (target : Target) : Type 0 where
-  pub may : IsPlace plan target.place
-  pub fits : target.value < 256 ^ size_bytes target.place.size
-  pub tag_is : target.tag ≡ tag_word (class_at plan.size target.place)
-  pub word_is : target.word ≡ cell_word plan.size (cell_of target.place)

@@ -12,7 +12,8 @@ use Rattle.version_rule.specs.declared.hands.Doing.TheVariants.{Rest}
 use Rattle.version_rule.specs.declared.hands.Reserve.TheVariants.{Nothing, Row}
 use Rattle.version_rule.specs.Exact.{IsOvertaken, IsUndisturbed}
 use Rattle.version_rule.specs.Hands.{hand, reserve_after}
-use Rattle.version_rule.specs.Told.{Goes, Mine}
+use Rattle.shared_memory.specs.Told.{Goes}
+use Rattle.version_rule.specs.Told.{Mine}
 use Rattle.version_memory.specs.Stands.{HasRoom, IsStamped, Stands}
 
 -- a seat has loaded a cell, as a load of the place, with this stamp

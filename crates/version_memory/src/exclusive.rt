@@ -8,16 +8,18 @@ ghost use Rattle.version_rule.specs.declared.hands.Doing.TheVariants.{Rest, Clai
 ghost use Rattle.version_rule.specs.declared.hands.Reserve.TheVariants.{Nothing, Row, Several};
 ghost use Rattle.version_rule.specs.Hands.{hand};
 ghost use Rattle.version_rule.specs.Kept.{origin_of};
-ghost use Rattle.version_rule.specs.Told.{Decides, Goes, HasLost, IsDisturbed, IsUndisturbedAt, ask};
-ghost use Rattle.version_memory.specs.Passes.{IsReady, IsTarget};
+ghost use Rattle.shared_memory.specs.Told.{Goes, ask};
+ghost use Rattle.version_rule.specs.Told.{Decides, HasLost, IsDisturbed, IsUndisturbedAt};
+ghost use Rattle.shared_memory.specs.Targets.{IsTarget};
+ghost use Rattle.version_memory.specs.Passes.{IsReady};
 ghost use Rattle.version_memory.specs.Stored.{HasFailed, HasStoredEx};
 
 use crate::plain::write_held;
 use crossbeam_utils::Backoff;
 use history::Entry;
-use shared_memory::Target;
+use shared_memory::{Asks, Target};
 use version_rule::{
-    Absent, Asks, ClaimEx, Clear, Limited, ReadEx, TryWatch, VersionSeat, VersionShared, Watch,
+    Absent, ClaimEx, Clear, Limited, ReadEx, TryWatch, VersionSeat, VersionShared, Watch,
 };
 
 /// What a load-exclusive has found.

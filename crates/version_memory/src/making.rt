@@ -1,17 +1,14 @@
 //! A memory is made.
-ghost use Rattle.std.specs.Prelude.{◌≡◌, ◌+◌, ◌/◌, ◌%◌, ◌*◌, ◌<◌, ◌≤◌, ℕ, [], true, IfOk, length, nat_lt, slice_index, take, vec_len};
-ghost use Rattle.llsc_base.specs.Memory.{number_of};
-ghost use Rattle.row_bytes.specs.Cell.{cell_at};
-ghost use Rattle.shared_memory.specs.Passes.{marked};
+ghost use Rattle.std.specs.Prelude.{◌≡◌, ◌+◌, ◌%◌, ◌*◌, ◌<◌, ℕ, [], true, IfOk, length, nat_lt};
 ghost use Rattle.version_memory.specs.Memory.{memory_id, memory_origin, pass_home, pass_numbers, pass_seen};
 
 use crate::memory::VersionMemory;
 use crate::passes::VersionPass;
 use llsc_base::{Image, MachineSize};
-use shared_memory::{first_marks, first_words};
+use shared_memory::{Plan, first_marks, first_words};
 use std::alloc::{AllocError, Global};
 use std::snapshot::Snapshot;
-use version_rule::{Plan, VersionTable};
+use version_rule::VersionTable;
 
 impl VersionMemory {
     /// A memory of these bytes at first, as many as the machine has, with the pass that holds the numbers of all its threads.

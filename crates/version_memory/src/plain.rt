@@ -1,15 +1,17 @@
 //! The steps of loads and stores.
-ghost use Rattle.std.specs.Prelude.{◌≡◌, ◌≢◌, ◌*◌, ◌/◌, ◌%◌, ◌<◌, ◌≤◌, ℕ, None, IfSome, [], ◌∷◌, false};
+ghost use Rattle.std.specs.Prelude.{◌≡◌, ◌*◌, ◌/◌, ◌%◌, ◌<◌, ℕ, None, IfSome, [], ◌∷◌, false};
 ghost use Rattle.std.specs.Bool.{OnFalse, OnTrue};
 ghost use Rattle.llsc_base.specs.Memory.{cell_of};
 ghost use Rattle.row_bytes.specs.Cell.{value_in_cell};
-ghost use Rattle.history.specs.Operation.{entries_of_operation, store};
 ghost use Rattle.version_rule.specs.declared.hands.Doing.TheVariants.{Rest, Claimed, Holding, Written};
 ghost use Rattle.version_rule.specs.Exact.{IsSpent, IsVersion};
 ghost use Rattle.version_rule.specs.Hands.{hand, reserve_after};
-ghost use Rattle.version_rule.specs.Kept.{cell_word, origin_of};
-ghost use Rattle.version_rule.specs.Told.{Decides, Goes, HasFoundTag, ask};
-ghost use Rattle.version_memory.specs.Passes.{IsPlace, IsReady, IsTarget};
+ghost use Rattle.shared_memory.specs.Layout.{cell_word};
+ghost use Rattle.version_rule.specs.Kept.{origin_of};
+ghost use Rattle.shared_memory.specs.Told.{Goes, ask};
+ghost use Rattle.version_rule.specs.Told.{Decides, HasFoundTag};
+ghost use Rattle.shared_memory.specs.Targets.{IsPlace, IsTarget};
+ghost use Rattle.version_memory.specs.Passes.{IsReady};
 ghost use Rattle.version_memory.specs.Stands.{IsStamped};
 ghost use Rattle.version_memory.specs.Stored.{HasStored};
 
@@ -17,11 +19,9 @@ use crossbeam_utils::Backoff;
 use history::Entry;
 use llsc_base::Place;
 use row_bytes::put;
-use shared_memory::Target;
+use shared_memory::{Asks, Load, Target};
 use std::sync::Wait;
-use version_rule::{
-    Asks, Change, Claim, Load, LookAtTag, Release, Take, VersionSeat, VersionShared,
-};
+use version_rule::{Change, Claim, LookAtTag, Release, Take, VersionSeat, VersionShared};
 
 /// Loads the cell of a place, as a load of the place.
 #[inline]

@@ -1,17 +1,17 @@
 //! The memory is one that threads share.
-ghost use Rattle.std.specs.Prelude.{◌≡◌, ◌⊎◌, ◌+◌, ◌^◌, ◌<◌, ◌≤◌, ℕ, None, Some, IfErr, IfSome, IsTrue, [], false, true};
+ghost use Rattle.std.specs.Prelude.{◌≡◌, ◌+◌, ◌^◌, ◌<◌, ◌≤◌, ℕ, None, Some, IfErr, IsTrue, [], false, true};
 ghost use Rattle.std.specs.Bool.{OnFalse, OnTrue};
 ghost use Rattle.std.specs.Result.{OnOk};
-ghost use Rattle.llsc_base.specs.Memory.{cell_of, is_aligned, row_of, size_bytes};
-ghost use Rattle.history.specs.Operation.{entries_of_operation, fail, load_missed, load_watched, store};
+ghost use Rattle.llsc_base.specs.Memory.{is_aligned, size_bytes};
+ghost use Rattle.history.specs.Operation.{entries_of_operation, fail, store};
 ghost use Rattle.history.specs.declared.entry.Cause.{Cause};
 ghost use Rattle.shared_memory.specs.Seen.{IsSingle, IsUsedUp, Sees};
 ghost use Rattle.version_rule.specs.Exact.{IsSpent, IsUndisturbed};
 ghost use Rattle.version_memory.specs.Exact.{HasFailedAt};
 ghost use Rattle.version_memory.specs.Stands.{HasRoom, Stands};
 ghost use Rattle.version_rule.specs.Hands.{class_at};
-ghost use Rattle.version_rule.specs.Kept.{cell_word, tag_word};
-ghost use Rattle.version_memory.specs.Passes.{IsPlace, IsTarget, reserved_after};
+ghost use Rattle.shared_memory.specs.Targets.{IsPlace, IsTarget};
+ghost use Rattle.version_memory.specs.Passes.{reserved_after};
 ghost use Rattle.version_memory.specs.Memory.{memory_id, memory_origin, pass_home, pass_numbers, pass_seen, story_history};
 
 use crate::exclusive::{clear_reservation, load_ex_soon};
@@ -22,20 +22,14 @@ use crate::seats::{join_numbers, split_number};
 use history::Entry;
 use llsc_base::{MachineSize, Place};
 use row_bytes::take;
-use shared_memory::{Rows, SharedMemory, Spent, Target, merge_marks, only_mark, other_number};
+use shared_memory::{
+    Rows, SharedMemory, Spent, Target, merge_marks, only_mark, other_number, word_of_cell,
+};
 use std::marker::Brand;
 use std::snapshot::Snapshot;
 use std::sync::Wait;
 
 impl VersionMemory {
-    /// The word of the cell of a place.
-    #[inline]
-    fn cell_word(&self, place: Place) -> usize
-        ensures { result ≡ cell_word self.now.table.shared.key.size (cell_of place) }
-    {
-        1 + self.size.classes() as usize + place.cell() as usize
-    }
-
     /// The class of a place.
     #[inline]
     pub(crate) fn class_at(&self, place: Place) -> u32
@@ -53,12 +47,7 @@ impl VersionMemory {
         ensures place { result.place ≡ place }
         ensures value { result.value ≡ value }
     {
-        Target {
-            place,
-            value,
-            tag: 1 + self.class_at(place) as usize,
-            word: self.cell_word(place),
-        }
+        Target::of(&self.size, place, value)
     }
 
     /// A reservation after the thread's own store to a place, which ends it where the place falls into its class.
@@ -108,7 +97,7 @@ impl SharedMemory for VersionMemory {
     }
 
     fn load(&self, pass: &mut VersionPass, place: Place) -> u64 {
-        let word = self.cell_word(place);
+        let word = word_of_cell(&self.size, place);
         let cell = load_cell::<Brand>(&self.table.shared, &mut pass.seat, place, word);
         take(cell, place)
     }

@@ -7,18 +7,18 @@ ghost use Rattle.version_rule.specs.declared.hands.Reserve.TheVariants.{Row};
 ghost use Rattle.version_rule.specs.Exact.{IsVersion};
 ghost use Rattle.version_rule.specs.Hands.{hand};
 ghost use Rattle.version_rule.specs.Kept.{origin_of};
-ghost use Rattle.version_rule.specs.Told.{Decides, Goes, ask};
-ghost use Rattle.version_memory.specs.Passes.{IsReady, IsTarget};
+ghost use Rattle.shared_memory.specs.Told.{Goes, ask};
+ghost use Rattle.version_rule.specs.Told.{Decides};
+ghost use Rattle.shared_memory.specs.Targets.{IsTarget};
+ghost use Rattle.version_memory.specs.Passes.{IsReady};
 ghost use Rattle.version_memory.specs.Stored.{HasLoaded, HasLoadedEx};
 
 use crate::exclusive::Linked;
 use crossbeam_utils::Backoff;
 use history::Entry;
-use shared_memory::Target;
+use shared_memory::{Asks, Target};
 use std::sync::Wait;
-use version_rule::{
-    Asks, FirstLook, SecondLook, ThirdLook, ThirdLookEx, VersionSeat, VersionShared,
-};
+use version_rule::{FirstLook, SecondLook, ThirdLook, ThirdLookEx, VersionSeat, VersionShared};
 
 /// What a stamped load has found.
 #[derive(Clone, Copy)]

@@ -13,7 +13,7 @@ use Rattle.history.proofs.Stages.{MayJoin-stage, stage_after, stage_before}
 use Rattle.version_rule.specs.Hands.{class_at}
 use Rattle.version_rule.specs.Kept.{AreClasses}
 use Rattle.version_rule.specs.Knowledge.{Flies}
-use Rattle.version_rule.proofs.Apart.{stage-other, stage-own}
+use Rattle.shared_memory.proofs.Apart.{stage-other, stage-own}
 
 -- what is asked of an entry beside its being legal: a write begins where none of its class is in flight and the class may take
 -- one, and is over where it was written, once

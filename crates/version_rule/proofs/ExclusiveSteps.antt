@@ -20,11 +20,13 @@ use Rattle.version_rule.specs.declared.hands.Doing.TheVariants.{Rest, Claimed, L
 use Rattle.version_rule.specs.declared.hands.Reserve.{Reserve}
 use Rattle.version_rule.specs.declared.hands.Reserve.TheVariants.{Nothing, Row, Several}
 use Rattle.version_rule.specs.declared.hands.Hand.{Hand}
-use Rattle.version_rule.specs.declared.plans.Plan.{Plan}
+use Rattle.shared_memory.specs.declared.plans.Plan.{Plan}
 use Rattle.version_rule.specs.Hands.{class_at, hand}
 use Rattle.version_rule.specs.Knowledge.{IsAt, IsReserve, Knows}
-use Rattle.version_rule.specs.Kept.{IsLaid, Kept, KeptBy, cell_word, origin_of, tag_word}
-use Rattle.version_rule.specs.Told.{HasLost, IsDisturbed, IsUndisturbedAt, Mine, absent, ask, claimed_ex, cleared, limited, read_ex, watched, watched_or_not}
+use Rattle.shared_memory.specs.Layout.{cell_word, tag_word}
+use Rattle.version_rule.specs.Kept.{IsLaid, Kept, KeptBy, origin_of}
+use Rattle.shared_memory.specs.Told.{ask}
+use Rattle.version_rule.specs.Told.{HasLost, IsDisturbed, IsUndisturbedAt, Mine, absent, claimed_ex, cleared, limited, read_ex, watched, watched_or_not}
 use Rattle.version_rule.proofs.Classes.{IsOrderly, flies-none}
 use Rattle.version_rule.proofs.Facts.{as-found, cell-is, known, lead-below, overtaken-is, reserved-is, sound, stirred-is, tag-is, writes-is}
 use Rattle.version_rule.proofs.Laid.{laid-same, laid-tag}

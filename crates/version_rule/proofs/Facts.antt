@@ -20,11 +20,12 @@ use Rattle.shared_memory.specs.declared.views.View.{View}
 use Rattle.shared_memory.specs.Seen.{IsSingle}
 use Rattle.shared_memory.specs.Passes.{marked}
 use Rattle.version_rule.specs.declared.hands.Hand.{Hand}
-use Rattle.version_rule.specs.declared.plans.Plan.{Plan}
+use Rattle.shared_memory.specs.declared.plans.Plan.{Plan}
 use Rattle.version_rule.specs.Exact.{IsSpent}
 use Rattle.version_rule.specs.Hands.{class_at}
 use Rattle.version_rule.specs.Knowledge.{Knows}
-use Rattle.version_rule.specs.Kept.{Kept, cell_word, tag_word}
+use Rattle.shared_memory.specs.Layout.{cell_word, tag_word}
+use Rattle.version_rule.specs.Kept.{Kept}
 use Rattle.version_rule.proofs.Classes.{flies-at, odd-even}
 
 module _ (plan : Plan) where

@@ -15,7 +15,7 @@ use Rattle.history.proofs.Marks.{updated-other, updated-same}
 use Rattle.version_rule.specs.Hands.{class_at}
 use Rattle.version_rule.specs.Kept.{AreClasses}
 use Rattle.version_rule.specs.Knowledge.{Flies}
-use Rattle.version_rule.proofs.Apart.{mark-other, mark-written}
+use Rattle.shared_memory.proofs.Apart.{mark-other, mark-written}
 use Rattle.version_rule.proofs.Classes.{IsOrderly, flies-at, odd-even}
 
 -- places of one cell, or of one row, are of one class

@@ -4,7 +4,8 @@ use Rattle.std.proofs.lemmas.Bool.{cases_eq}
 use Rattle.llsc_base.specs.Sizes.{Numbers}
 use Rattle.history.specs.Standing.{Standing, updated}
 use Rattle.history.proofs.Marks.{updated-other, updated-same}
-use Rattle.version_rule.specs.Kept.{IsLaid, cell_word, tag_word}
+use Rattle.shared_memory.specs.Layout.{cell_word, tag_word}
+use Rattle.version_rule.specs.Kept.{IsLaid}
 
 pub laid-same : (size : Numbers) (words : List ℕ) (s s' : Standing) → s'.edges ≡ s.edges → s'.cells ≡ s.cells → IsLaid size words s → IsLaid size words s'
 laid-same size words s s' edges cells laid = record {

@@ -1,4 +1,3 @@
-mod Apart
 mod Classes
 mod Held
 mod Others
@@ -12,5 +11,3 @@ pub mod StampedSteps
 pub mod SeatSteps
 pub mod Opening
 pub mod Closing
-pub mod Waits
-pub mod Sequences

@@ -9,10 +9,11 @@ use Rattle.history.specs.Standing.{standing_of}
 use Rattle.llsc_base.specs.Sizes.{Numbers}
 use Rattle.version_rule.specs.declared.hands.Doing.TheVariants.{Rest}
 use Rattle.version_rule.specs.declared.hands.Reserve.TheVariants.{Nothing}
-use Rattle.version_rule.specs.declared.plans.Plan.{Plan}
+use Rattle.shared_memory.specs.declared.plans.Plan.{Plan}
 use Rattle.version_rule.specs.Hands.{hand}
 use Rattle.version_rule.specs.Knowledge.{Knows}
-use Rattle.version_rule.specs.Kept.{AreClasses, KeptBy, words_of}
+use Rattle.shared_memory.specs.Layout.{words_of}
+use Rattle.version_rule.specs.Kept.{AreClasses, KeptBy}
 use Rattle.version_rule.proofs.Classes.{flies-none}
 
 -- before the first entry no write is in flight, and no class has had one

@@ -18,7 +18,7 @@ use Rattle.version_rule.specs.declared.hands.Hand.{Hand}
 use Rattle.version_rule.specs.Hands.{class_at}
 use Rattle.version_rule.specs.Kept.{AreClasses}
 use Rattle.version_rule.specs.Knowledge.{HasBegun, HasFound, IsAt, IsMarked, IsReserve, IsWritten, Knows, Watches}
-use Rattle.version_rule.proofs.Apart.{mark-other, reserved-other, stage-other}
+use Rattle.shared_memory.proofs.Apart.{mark-other, reserved-other, stage-other}
 use Rattle.version_rule.proofs.Classes.{IsOrderly, flies-at, odd-even}
 use Rattle.version_rule.proofs.Held.{edges-grow, found-cell, held-cell, held-edges, held-mark, held-writes, other-row}
 

@@ -18,7 +18,7 @@ use Rattle.version_rule.specs.declared.hands.Hand.{Hand}
 use Rattle.version_rule.specs.Hands.{class_at, hand, reserve_after}
 use Rattle.version_rule.specs.Kept.{AreClasses}
 use Rattle.version_rule.specs.Knowledge.{Agrees, IsAt, IsReserve, Knows, Watches}
-use Rattle.version_rule.proofs.Apart.{mark-written, stage-own}
+use Rattle.shared_memory.proofs.Apart.{mark-written, stage-own}
 use Rattle.version_rule.proofs.Others.{flag-else, watches-stay}
 
 -- ---- a reservation stays

@@ -17,12 +17,14 @@ use Rattle.shared_memory.specs.Seen.{IsSingle}
 use Rattle.shared_memory.specs.Passes.{marked, moved}
 use Rattle.version_rule.specs.declared.hands.Doing.{Doing}
 use Rattle.version_rule.specs.declared.hands.Doing.TheVariants.{Rest, Claimed, Holding, Written}
-use Rattle.version_rule.specs.declared.plans.Plan.{Plan}
+use Rattle.shared_memory.specs.declared.plans.Plan.{Plan}
 use Rattle.version_rule.specs.Exact.{IsSpent, IsVersion}
 use Rattle.version_rule.specs.Hands.{class_at, hand, reserve_after}
 use Rattle.version_rule.specs.Knowledge.{IsAt, Knows}
-use Rattle.version_rule.specs.Kept.{IsLaid, Kept, KeptBy, cell_word, origin_of, tag_word}
-use Rattle.version_rule.specs.Told.{Decides, Goes, Mine, ask, changed, claimed, loaded, looked_at, released, tag_found, taken}
+use Rattle.shared_memory.specs.Layout.{cell_word, tag_word}
+use Rattle.version_rule.specs.Kept.{IsLaid, Kept, KeptBy, origin_of}
+use Rattle.shared_memory.specs.Told.{Goes, ask, loaded, looked_at}
+use Rattle.version_rule.specs.Told.{Decides, Mine, changed, claimed, released, tag_found, taken}
 use Rattle.version_rule.proofs.Classes.{IsOrderly}
 use Rattle.version_rule.proofs.Facts.{as-found, cell-below, cell-is, known, sound, spent, tag-is, writes-is}
 use Rattle.version_rule.proofs.Laid.{laid-cell, laid-same, laid-tag}

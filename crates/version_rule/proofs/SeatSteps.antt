@@ -17,11 +17,12 @@ use Rattle.version_rule.specs.declared.hands.Doing.TheVariants.{Rest}
 use Rattle.version_rule.specs.declared.hands.Reserve.{Reserve}
 use Rattle.version_rule.specs.declared.hands.Reserve.TheVariants.{Nothing, Several}
 use Rattle.version_rule.specs.declared.hands.Hand.{Hand}
-use Rattle.version_rule.specs.declared.plans.Plan.{Plan}
+use Rattle.shared_memory.specs.declared.plans.Plan.{Plan}
 use Rattle.version_rule.specs.Hands.{hand, reserve_joined}
 use Rattle.version_rule.specs.Knowledge.{IsAt, Knows}
 use Rattle.version_rule.specs.Kept.{KeptBy}
-use Rattle.version_rule.specs.Told.{Mine, settled_at}
+use Rattle.shared_memory.specs.Told.{settled_at}
+use Rattle.version_rule.specs.Told.{Mine}
 use Rattle.version_rule.proofs.Facts.{as-found}
 
 module _ (plan : Plan) where

@@ -16,13 +16,15 @@ use Rattle.shared_memory.specs.Passes.{marked, moved}
 use Rattle.version_rule.specs.declared.hands.Doing.{Doing}
 use Rattle.version_rule.specs.declared.hands.Doing.TheVariants.{Rest, First, Second}
 use Rattle.version_rule.specs.declared.hands.Reserve.TheVariants.{Row}
-use Rattle.version_rule.specs.declared.plans.Plan.{Plan}
+use Rattle.shared_memory.specs.declared.plans.Plan.{Plan}
 use Rattle.version_rule.specs.Exact.{IsVersion}
 use Rattle.version_rule.specs.Hands.{class_at, hand}
 use Rattle.version_rule.specs.Knowledge.{Knows}
-use Rattle.version_rule.specs.Kept.{KeptBy, cell_word, origin_of, tag_word}
-use Rattle.version_rule.specs.Told.{Decides, Goes, Mine, ask, first_found, second_found, third_found, third_found_ex}
-use Rattle.version_rule.proofs.Apart.{stage-own}
+use Rattle.shared_memory.specs.Layout.{cell_word, tag_word}
+use Rattle.version_rule.specs.Kept.{KeptBy, origin_of}
+use Rattle.shared_memory.specs.Told.{Goes, ask}
+use Rattle.version_rule.specs.Told.{Decides, Mine, first_found, second_found, third_found, third_found_ex}
+use Rattle.shared_memory.proofs.Apart.{stage-own}
 use Rattle.version_rule.proofs.Facts.{as-found, cell-is, known, sound, tag-is, writes-is}
 use Rattle.version_rule.proofs.Laid.{laid-same}
 use Rattle.version_rule.proofs.Moves.{decides, moves-none, moves-one, moves-two, told-none, told-one, told-two}

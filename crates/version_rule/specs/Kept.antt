@@ -1,5 +1,5 @@
 -- What a memory that is kept by versions keeps between any two of its steps. This project's own.
-use Rattle.std.specs.Prelude.{◌≡◌, ◌+◌, ◌*◌, ◌/◌, ◌%◌, ◌<◌, ◌≤◌, ℕ, List, length, slice_index, true}
+use Rattle.std.specs.Prelude.{◌≡◌, ◌*◌, ◌/◌, ◌%◌, ◌<◌, ◌≤◌, ℕ, List, length, slice_index, true}
 use Rattle.llsc_base.specs.Sizes.{Numbers}
 use Rattle.history.specs.Standing.{Standing}
 use Rattle.history.specs.declared.entry.Entry.{Entry}
@@ -7,20 +7,10 @@ use Rattle.atomic_table.specs.Table.{State}
 use Rattle.shared_memory.specs.declared.views.View.{View}
 use Rattle.shared_memory.specs.Origin.{Origin}
 use Rattle.shared_memory.specs.Rule.{Tells}
+use Rattle.shared_memory.specs.Layout.{cell_word, tag_word, words_of}
 use Rattle.version_rule.specs.declared.hands.Hand.{Hand}
-use Rattle.version_rule.specs.declared.plans.Plan.{Plan}
+use Rattle.shared_memory.specs.declared.plans.Plan.{Plan}
 use Rattle.version_rule.specs.Knowledge.{Flies, Knows}
-
--- the words of the table: one that is 0, the classes' tags, and the cells
-abbrev pub words_of : Numbers → ℕ
-words_of size = 1 + size.classes + size.mem / 8
-
--- the word of a class's tag, and of a cell
-abbrev pub tag_word : ℕ → ℕ
-tag_word class = 1 + class
-
-abbrev pub cell_word : Numbers → ℕ → ℕ
-cell_word size cell = 1 + size.classes + cell
 
 -- the words are those of how things stand: each tag says how many writes of its class have begun, and are over, and each cell
 -- is memory's

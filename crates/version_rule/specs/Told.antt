@@ -1,46 +1,25 @@
 -- What a step tells its caller. This project's own.
 use Rattle.std.specs.Prelude.{◌≡◌, ◌≢◌, ◌*◌, ◌%◌, ◌≤◌, ℕ, Bool, true, false, List, [], ◌∷◌, ◌++◌}
 use Rattle.llsc_base.specs.Memory.{row_of}
-use Rattle.llsc_base.specs.declared.access.Place.{Place}
-use Rattle.llsc_base.specs.declared.access.Size.TheVariants.{B1}
 use Rattle.row_bytes.specs.Cell.{value_in_cell}
 use Rattle.history.specs.declared.entry.Entry.{Entry}
 use Rattle.history.specs.declared.entry.Entry.TheVariants.{Read, Write, Fail, Clear, Watch, Miss, Begin, End}
 use Rattle.history.specs.declared.entry.Cause.TheVariants.{Absent, Lost, Limit}
-use Rattle.atomic_table.specs.Table.{Me, Step}
-use Rattle.shared_memory.specs.declared.views.View.{View}
+use Rattle.atomic_table.specs.Table.{Step}
+use Rattle.shared_memory.specs.Told.{Ask, Goes, SeatOf}
 use Rattle.shared_memory.specs.Origin.{Origin}
-use Rattle.shared_memory.specs.Passes.{IsSettled, nobody}
-use Rattle.shared_memory.specs.Seen.{IsFront, Sees}
+use Rattle.shared_memory.specs.Seen.{IsFront}
 use Rattle.version_rule.specs.declared.hands.Hand.{Hand}
 use Rattle.version_rule.specs.declared.hands.Doing.TheVariants.{Rest, Claimed, Holding, Written, Looking, First, Second}
 use Rattle.version_rule.specs.declared.hands.Reserve.TheVariants.{Nothing, Row}
 use Rattle.version_rule.specs.Exact.{IsOvertaken, IsSpent, IsUndisturbed, IsVersion}
 use Rattle.version_rule.specs.Hands.{hand, reserve_after}
 
--- what a call is about: the memory, the place, and the value to store
-pub record Ask : Type 0 where
-  pub origin : Origin
-  pub place : Place
-  pub value : ℕ
-
-abbrev pub ask : Origin → Place → ℕ → Ask
-ask origin place value = record { origin = origin; place = place; value = value }
-
+-- what a seat of such a memory knows
 abbrev pub Mine : Type 0
-Mine = Me (Unit {0}) (View Hand)
+Mine = SeatOf Hand
 
--- a seat has seen the whole history, to which it has added these entries, and is doing this
-pub record Goes (origin : Origin) (old : Mine) (entries : List Entry) (doing : Hand) (new : Mine) : Type 0 where
-  pub sees : Sees origin old.0.lead old.0.seen entries new.0.seen
-  pub numbers : new.0.numbers ≡ old.0.numbers
-  pub lead : new.0.lead ≡ old.0.lead
-  pub left : new.0.left ≡ nobody
-  pub right : new.0.right ≡ nobody
-  pub doing_is : new.0.doing ≡ doing
-  pub slots : new.1 ≡ old.1
-
--- the same, with what is so of the history before these entries, which are its last
+-- a seat goes on so, and something is so of the history before these entries, which are its last
 pub record Decides (origin : Origin) (old : Mine) (entries : List Entry) (about : List Entry → Type 0) (doing : Hand) (new : Mine) : Type 0 where
   pub goes : Goes origin old entries doing new
   pub past : List Entry
@@ -48,19 +27,7 @@ pub record Decides (origin : Origin) (old : Mine) (entries : List Entry) (about 
   pub is : new.0.seen ≡ past ++ entries
   pub fact : about past
 
--- where a call doesn't say what it is about
-abbrev pub no_ask : Ask
-no_ask = ask (record { size = record { mem = 0; threads = 0; classes = 0; limit = 0; granule = 0 }; first = 0; bytes = []; spends = true }) (record { addr = 0; size = B1 }) 0
-
 -- ---- loads and stores
-
--- a load of a cell, as a load of the place
-abbrev pub loaded : Ask → Step (Unit {0}) → Mine → ℕ → Mine → Type 0
-loaded q st old n new = Goes q.origin old (Read old.0.lead q.place (value_in_cell n q.place) false ∷ []) old.0.doing new
-
--- a load that is no access
-abbrev pub looked_at : Ask → Step (Unit {0}) → Mine → ℕ → Mine → Type 0
-looked_at q st old n new = Goes q.origin old [] old.0.doing new
 
 -- a load of the tag of a place's class, which is never above twice the limit, and there says that the class has had all of
 -- its writes
@@ -171,13 +138,3 @@ third_found_ex q st old n new = (version cell : ℕ) → old.0.doing.doing ≡ S
     → (n ≡ version → Decides q.origin old (Watch old.0.lead q.place ∷ Read old.0.lead q.place (value_in_cell cell q.place) true ∷ []) (IsVersion q.origin.size q.place version)
     (hand Rest (Row (row_of q.origin.size.granule q.place) version)) new)
     × (n ≢ version → Goes q.origin old [] (hand Rest old.0.doing.reserve) new)
-
--- ---- seats that are joined
-
--- a seat that has taken in another is as one from then on
-pub record Settles (old new : Mine) : Type 0 where
-  pub settled : IsSettled old.0 new.0
-  pub slots : new.1 ≡ old.1
-
-abbrev pub settled_at : Step (Unit {0}) → Mine → ℕ → Mine → Type 0
-settled_at st old n new = Settles old new

@@ -7,8 +7,8 @@ mod plans;
 mod plays;
 
 pub use hands::{Doing, Hand, Reserve, VersionView};
-pub use plans::{Plan, VersionRule, VersionSeat, VersionShared, VersionTable};
+pub use plans::{VersionRule, VersionSeat, VersionShared, VersionTable};
 pub use plays::{
-    Absent, Asks, Change, Claim, ClaimEx, Clear, FirstLook, Limited, Load, Look, LookAtTag, ReadEx,
-    Release, SecondLook, Take, ThirdLook, ThirdLookEx, TryWatch, Watch,
+    Absent, Change, Claim, ClaimEx, Clear, FirstLook, Limited, LookAtTag, ReadEx, Release,
+    SecondLook, Take, ThirdLook, ThirdLookEx, TryWatch, Watch,
 };

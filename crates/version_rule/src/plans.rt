@@ -1,16 +1,8 @@
 //! The rule of the table.
 use crate::hands::VersionView;
 use atomic_table::{Seat, Shared, Table, TableRule};
-use llsc_base::{Image, MachineSize};
+use shared_memory::Plan;
 use std::alloc::Global;
-use std::snapshot::Snapshot;
-
-/// What the table is told once: what the memory was made with.
-#[derive(Drop)]
-pub struct Plan {
-    pub size: MachineSize,
-    pub image: Snapshot<Image>,
-}
 
 /// Versions: word 0 is 0, the words behind it are the tags of the classes, each twice the writes of the class that are over,
 /// and one more while one of them is in flight, and then come the cells.

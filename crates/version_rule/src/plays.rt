@@ -1,42 +1,8 @@
 //! What each step tells its caller.
 use crate::hands::VersionView;
 use atomic_table::Play;
-use std::marker::{Brand, PhantomData};
-
-/// What a call is about: a call picks it, and the steps that it makes speak of it.
-pub trait Asks {
-    ghost use Rattle.version_rule.specs.Told.{Ask};
-
-    ghost ask: { Ask };
-}
-
-impl Asks for Brand {
-    ghost use Rattle.version_rule.specs.Told.{no_ask};
-
-    ghost ask = { no_ask };
-}
-
-/// A load of a cell, as a load of the place.
-pub struct Load<J> {
-    of: PhantomData<J>,
-}
-
-impl<J: Asks> Play<(), VersionView> for Load<J> {
-    ghost use Rattle.version_rule.specs.Told.{loaded};
-
-    ghost then = { loaded J.ask };
-}
-
-/// A load that is no access.
-pub struct Look<J> {
-    of: PhantomData<J>,
-}
-
-impl<J: Asks> Play<(), VersionView> for Look<J> {
-    ghost use Rattle.version_rule.specs.Told.{looked_at};
-
-    ghost then = { looked_at J.ask };
-}
+use shared_memory::Asks;
+use std::marker::PhantomData;
 
 /// A load of a tag, which is no access.
 pub struct LookAtTag<J> {

@@ -5,7 +5,7 @@ use Rattle.hst_memory.specs.declared.hands.Reserve.TheVariants.{Nothing}
 use Rattle.hst_memory.specs.declared.hands.Hand.{Hand}
 use Rattle.hst_memory.specs.Hands.{hand}
 use Rattle.hst_memory.specs.Kept.{origin_of}
-use Rattle.hst_memory.proofs.Waits.{waits-goes_by, waits-more, waits-not}
+use Rattle.shared_memory.proofs.Waits.{waits-goes_by, waits-more, waits-not}
 use Rattle.hst_memory.proofs.alone.change_alone.Goals as goal
 
 pub loop-init : goal.loop-init

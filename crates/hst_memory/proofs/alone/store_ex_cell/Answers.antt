@@ -1,6 +1,6 @@
 use Rattle.hst_memory.specs.Kept.{origin_of}
 use Rattle.hst_memory.proofs.Exactly.{exact-lost, exact-won, goes-won}
-use Rattle.hst_memory.proofs.Ready.{goes-then}
+use Rattle.shared_memory.proofs.Sequences.{goes-then}
 use Rattle.hst_memory.proofs.alone.store_ex_cell.Goals as goal
 
 pub returns-then-tag-name-clause-exact : goal.returns-then-tag-name-clause-exact

@@ -5,7 +5,7 @@ use Rattle.hst_memory.specs.declared.hands.Hand.{Hand}
 use Rattle.hst_memory.specs.Hands.{hand}
 use Rattle.hst_memory.specs.Kept.{origin_of}
 use Rattle.hst_memory.proofs.Ready.{cell_word-below}
-use Rattle.hst_memory.proofs.Waits.{waits-goes_by, waits-more, waits-not}
+use Rattle.shared_memory.proofs.Waits.{waits-goes_by, waits-more, waits-not}
 use Rattle.hst_memory.proofs.plain.change.Goals as goal
 
 pub look-cell-requires-clause-word : goal.look-cell-requires-clause-word

@@ -1,6 +1,6 @@
 use Rattle.std.proofs.Common.{◌≡◌}
 use Rattle.hst_memory.specs.Passes.{IsReady}
-use Rattle.hst_memory.proofs.Waits.{Waits}
+use Rattle.shared_memory.proofs.Waits.{Waits}
 use Rattle.hst_memory.proofs.plain.change.Given as goal
 
 abbrev pub invariant-loop : goal.invariant-loop

@@ -1,5 +1,5 @@
 use Rattle.std.proofs.Common.{◌≡◌}
-use Rattle.version_rule.proofs.Waits.{Waits}
+use Rattle.shared_memory.proofs.Waits.{Waits}
 use Rattle.version_memory.specs.Passes.{IsReady}
 use Rattle.version_memory.proofs.exclusive.watch_soon.Given as goal
 

@@ -3,7 +3,7 @@ use Rattle.version_rule.proofs.PlainSteps.{takes}
 use Rattle.version_rule.specs.declared.hands.Doing.TheVariants.{Holding}
 use Rattle.version_rule.specs.Hands.{hand}
 use Rattle.version_rule.specs.Kept.{origin_of}
-use Rattle.version_rule.specs.Told.{Goes}
+use Rattle.shared_memory.specs.Told.{Goes}
 use Rattle.version_memory.proofs.Ready.{cell_word-below, ready-goes}
 use Rattle.version_memory.proofs.plain.take_cell.Goals as goal
 

@@ -3,7 +3,7 @@ use Rattle.version_rule.proofs.StampedSteps.{looks-second}
 use Rattle.version_rule.specs.declared.hands.Doing.TheVariants.{Second}
 use Rattle.version_rule.specs.Hands.{hand}
 use Rattle.version_rule.specs.Kept.{origin_of}
-use Rattle.version_rule.specs.Told.{Goes}
+use Rattle.shared_memory.specs.Told.{Goes}
 use Rattle.version_memory.proofs.Ready.{cell_word-below, ready-goes}
 use Rattle.version_memory.proofs.stamped.find_cell.Goals as goal
 

@@ -1,7 +1,8 @@
 use Rattle.std.proofs.Common.{◌≡◌, ◌+◌, ◌/◌, ◌<◌, ℕ, List, length, take, drop, slice_index, ap, ◌∙◌, length-take, arith}
 use Rattle.std.specs.Mem.Slots.{slots_items}
 use Rattle.llsc_base.specs.Sizes.{Numbers}
-use Rattle.hst_memory.proofs.Closing.{complete-closed, legal-closed, part-at, rows-closed}
+use Rattle.shared_memory.proofs.Closing.{part-at}
+use Rattle.hst_memory.proofs.Closing.{complete-closed, legal-closed, rows-closed}
 use Rattle.hst_memory.proofs.sharing.HstMemorySharedMemory.close.Goals as goal
 
 pub new-rows-requires-clause-none : goal.new-rows-requires-clause-none

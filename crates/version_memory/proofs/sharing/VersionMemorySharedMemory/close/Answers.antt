@@ -2,7 +2,7 @@ use Rattle.std.proofs.Common.{◌≡◌, ◌+◌, ◌/◌, ◌<◌, ℕ, List, l
 use Rattle.std.specs.Mem.Slots.{slots_items}
 use Rattle.llsc_base.specs.Sizes.{Numbers}
 use Rattle.version_rule.proofs.Closing.{complete-closed, legal-closed, rows-closed}
-use Rattle.version_memory.proofs.Betweens.{part-at}
+use Rattle.shared_memory.proofs.Closing.{part-at}
 use Rattle.version_memory.proofs.sharing.VersionMemorySharedMemory.close.Goals as goal
 
 pub new-rows-requires-clause-none : goal.new-rows-requires-clause-none

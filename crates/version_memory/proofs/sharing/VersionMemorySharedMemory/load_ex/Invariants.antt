@@ -1,5 +1,5 @@
 use Rattle.version_rule.specs.Kept.{origin_of}
-use Rattle.version_rule.specs.Told.{ask}
+use Rattle.shared_memory.specs.Told.{ask}
 use Rattle.version_memory.proofs.sharing.VersionMemorySharedMemory.load_ex.Given as goal
 
 abbrev pub ghosts-load_ex_soon : goal.ghosts-load_ex_soon
