@@ -1,16 +1,14 @@
 -- Seats that are split and joined keep the rule.
-use Rattle.std.proofs.Common.{◌≡◌, ◌==◌, ℕ, Bool, true, false, if◌then◌else◌, List, [], ◌∷◌, ◌++◌, set, slice_index, refl, ap, sym, ◌∙◌, subst, inl, inr, ⊎_elim, arith}
-use mathlib.Core.Option.{none, some}
-use lib.ListN.{get_elem?}
-use Rattle.std.proofs.lemmas.Bool.{eqb-true}
+use Rattle.std.proofs.Common.{◌≡◌, ℕ, Bool, if◌then◌else◌, List, [], ◌∷◌, ◌++◌, set, slice_index, refl, ap, sym, ◌∙◌, subst, inl, inr, ⊎_elim, arith}
+use mathlib.Core.Option.{none}
 use Rattle.atomic_table.specs.Table.{Allows, Joins, Splits, keeps, step}
-use Rattle.atomic_table.proofs.Lists.{at_longer, set_else}
+use Rattle.atomic_table.proofs.Lists.{at_longer}
 use Rattle.history.specs.Parts.{entries_of}
 use Rattle.history.specs.Standing.{Standing}
 use Rattle.shared_memory.specs.declared.views.View.{View}
 use Rattle.shared_memory.specs.Passes.{alone_mark, joined_view, marked, nobody, spent_view, without_mark}
 use Rattle.shared_memory.specs.Seen.{IsOneOf}
-use Rattle.shared_memory.proofs.Joined.{joined, settled, settles}
+use Rattle.shared_memory.proofs.Joined.{joined, leads-differ, settled, settles}
 use Rattle.shared_memory.proofs.Split.{split}
 use Rattle.hst_memory.specs.declared.hands.Doing.{Doing}
 use Rattle.hst_memory.specs.declared.hands.Doing.TheVariants.{Rest}
@@ -58,34 +56,24 @@ module _ (plan : Plan) where
   pub joins : (seat : ℕ) (v : View Hand) (other : ℕ) (w : View Hand) → v.doing.doing ≡ Rest → w.doing.doing ≡ Rest
       → IsOneOf v.lead (marked v.numbers) → IsOneOf w.lead (marked w.numbers)
       → Joins (KeptBy plan) seat v other w (joined_view (hand Rest (reserve_joined v w)) v w) (spent_view (hand Rest Nothing))
-  joins seat v other w rest_v rest_w lead_v lead_w s k at apart there = by-leads (v.lead == w.lead) refl
-    where
-      at_w : get_elem? s.views other ≡ some w
-      at_w = sym (set_else s.views seat other (joined_view (hand Rest (reserve_joined v w)) v w) apart) ∙ there
-
-      by-leads : (same : Bool) → (v.lead == w.lead) ≡ same
-          → KeptBy plan (record { words = s.words; homes = s.homes; views = set (set s.views seat (joined_view (hand Rest (reserve_joined v w)) v w)) other (spent_view (hand Rest Nothing)) })
-      by-leads true is =
-          let one = (k.tells.each seat v at).owns v.lead lead_v in
-          let two = (k.tells.each other w at_w).owns w.lead lead_w in
-          absurd (apart (sym two ∙ ap k.tells.owner (sym (eqb-true v.lead w.lead is)) ∙ one))
-      by-leads false is =
-          let reserve : reserve_joined v w ≡ Several = ap (λ (b : Bool). if b then Nothing else Several) is in
-          let h = hand Rest (reserve_joined v w) in
-          let both = joined_view h v w in
-          let spent : View Hand = spent_view (hand Rest Nothing) in
-          let views = set s.views seat both in
-          let known = λ (t : ℕ) (d : Hand) (rest : d.doing ≡ Rest) (knows : Knows plan.size k.standing t d).
-          subst (λ (r : Reserve). Knows plan.size k.standing t (hand Rest r)) (sym reserve) (several k.standing t d rest knows) in
-          record {
-            history = k.history;
-            standing = k.standing;
-            tells = joined (Knows plan.size) plan.size plan.image.value.bytes s.views k.history k.standing seat other v w h (hand Rest Nothing) k.tells at apart there
-                (λ t knows. known t v.doing rest_v knows) (λ t knows. known t w.doing rest_w knows);
-            laid = k.laid;
-            section = section-same plan.size.threads (slice_index s.words 0) (slice_index s.words 0) views other w spent refl there (sym (ap weight_of rest_w))
-                (section-same plan.size.threads (slice_index s.words 0) (slice_index s.words 0) s.views seat v both refl at (sym (ap weight_of rest_v)) k.section);
-          }
+  joins seat v other w rest_v rest_w lead_v lead_w s k at apart there =
+      let h = hand Rest (reserve_joined v w) in
+      let both = joined_view h v w in
+      let spent : View Hand = spent_view (hand Rest Nothing) in
+      let views = set s.views seat both in
+      let differ = leads-differ (Knows plan.size) plan.size plan.image.value.bytes s.views k.history k.standing seat other v w both k.tells at apart there lead_v lead_w in
+      let reserve : reserve_joined v w ≡ Several = ap (λ (b : Bool). if b then Nothing else Several) differ in
+      let known = λ (t : ℕ) (d : Hand) (rest : d.doing ≡ Rest) (knows : Knows plan.size k.standing t d).
+      subst (λ (r : Reserve). Knows plan.size k.standing t (hand Rest r)) (sym reserve) (several k.standing t d rest knows) in
+      record {
+        history = k.history;
+        standing = k.standing;
+        tells = joined (Knows plan.size) plan.size plan.image.value.bytes s.views k.history k.standing seat other v w h (hand Rest Nothing) k.tells at apart there
+            (λ t knows. known t v.doing rest_v knows) (λ t knows. known t w.doing rest_w knows);
+        laid = k.laid;
+        section = section-same plan.size.threads (slice_index s.words 0) (slice_index s.words 0) views other w spent refl there (sym (ap weight_of rest_w))
+            (section-same plan.size.threads (slice_index s.words 0) (slice_index s.words 0) s.views seat v both refl at (sym (ap weight_of rest_v)) k.section);
+      }
 
   pub settle : (slots seat : ℕ) (me : Mine) → Allows (KeptBy plan) slots seat me 0 (λ n. n) (settled_at (step slots 0 0 0 none) me)
   settle slots seat me s k long at small =

@@ -1,8 +1,8 @@
 -- A seat takes in the numbers of another, and learns what it had seen.
-use Rattle.std.proofs.Common.{◌≡◌, ◌≢◌, ℕ, ◌<◌, ◌⊎◌, ◌||◌, Bool, true, false, if◌then◌else◌, List, [], length, set, refl, ap, sym, ◌∙◌, subst, ⊎_elim, inl, inr}
+use Rattle.std.proofs.Common.{◌≡◌, ◌≢◌, ◌==◌, ℕ, ◌<◌, ◌⊎◌, ◌||◌, Bool, true, false, if◌then◌else◌, List, [], length, set, refl, ap, sym, ◌∙◌, subst, ⊎_elim, inl, inr}
 use mathlib.Core.Option.{some, some-injective}
 use lib.ListN.{get_elem?}
-use Rattle.std.proofs.lemmas.Bool.{cases_Bool, cases_eq}
+use Rattle.std.proofs.lemmas.Bool.{cases_Bool, cases_eq, ne_eqb}
 use Rattle.atomic_table.proofs.Lists.{at_set, set_here, set_else}
 use Rattle.llsc_base.specs.Sizes.{Numbers}
 use Rattle.history.specs.Standing.{Standing}
@@ -151,6 +151,15 @@ module _ {D : Type 0} (knows : Standing → ℕ → D → Type 0) (size : Number
           ];
           outside = tells.outside;
         }
+
+    -- two seats are led by different numbers
+    pub leads-differ : (views : List (View D)) (history : List Entry) (s : Standing) (seat other : ℕ) (v w both : View D) → Tells knows size bytes views history s
+        → get_elem? views seat ≡ some v → other ≢ seat → get_elem? (set views seat both) other ≡ some w → IsOneOf v.lead (marked v.numbers) → IsOneOf w.lead (marked w.numbers)
+        → (v.lead == w.lead) ≡ false
+    leads-differ views history s seat other v w both t at apart there lead_v lead_w =
+        let one = (t.each seat v at).owns v.lead lead_v in
+        let two = (t.each other w (sym (set_else views seat other both apart) ∙ there)).owns w.lead lead_w in
+        ne_eqb v.lead w.lead (λ same. apart (sym two ∙ ap t.owner (sym same) ∙ one))
 
     -- a seat that was joined is as such from then on
     pub settled : (views : List (View D)) (history : List Entry) (s : Standing) (seat : ℕ) (v : View D)
