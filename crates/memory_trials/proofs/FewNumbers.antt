@@ -1,26 +1,7 @@
--- The numbers of two passes.
-use Rattle.std.proofs.Common.{◌≡◌, ◌≢◌, ◌⊎◌, ◌<◌, ◌==◌, ◌&&◌, ◌||◌, not, ℕ, Bool, true, false, nat_lt, refl, ap, sym, ◌∙◌, subst, inl, inr, arith}
+-- The numbers of two passes, and of four.
+use Rattle.std.proofs.Common.{◌≡◌, ◌≢◌, ◌⊎◌, ◌<◌, ◌==◌, ◌&&◌, ◌||◌, not, ℕ, Bool, true, false, nat_lt, refl, ap, sym, ◌∙◌, inl, inr, arith}
 use Rattle.std.proofs.lemmas.Bool.{cases_eq, eq-eqb, ltb-true}
 use Rattle.shared_memory.specs.Seen.{IsOneOf, IsSingle, all_but, joint}
-
--- of two numbers, without 1 there is 0
-pub zero-of-two : (f g : ℕ → Bool) → ((t : ℕ) → f t ≡ nat_lt t 2) → g ≡ all_but 1 f → IsSingle 0 g
-zero-of-two f g two is = subst (λ (h : ℕ → Bool). IsSingle 0 h) (sym is) (record {
-  has = ap (λ (b : Bool). b && true) (two 0);
-  only = λ u has. below u (two u) (cases_eq u 1) has;
-})
-  where
-    no-and : (b : Bool) → (b && false) ≡ true → ⊥
-    no-and true h = let e : ⊥ = cc in e
-    no-and false h = let e : ⊥ = cc in e
-
-    left-of : (a b : Bool) → (a && b) ≡ true → a ≡ true
-    left-of true b h = refl
-    left-of false b h = h
-
-    below : (u : ℕ) → f u ≡ nat_lt u 2 → (u ≡ 1) ⊎ (u ≢ 1) → (f u && not (u == 1)) ≡ true → u ≡ 0
-    below u is (inl one) has = absurd (no-and (f u) (ap (λ (b : Bool). f u && not b) (sym (eq-eqb u 1 one)) ∙ has))
-    below u is (inr other) has = let small = ltb-true u 2 (sym is ∙ left-of (f u) (not (u == 1)) has) in omega arith
 
 -- the numbers 0 and 1 together are all below 2
 pub all-of-two : (f g h : ℕ → Bool) → h ≡ joint f g → IsSingle 0 f → IsSingle 1 g → (t : ℕ) → t < 2 → IsOneOf t h

@@ -1,5 +1,5 @@
 //! Four threads make accesses beside each other, and log them.
-ghost use Rattle.std.specs.Prelude.{◌≡◌, ◌+◌, ◌<◌, IfOk};
+ghost use Rattle.std.specs.Prelude.{◌+◌, ◌<◌, IfOk};
 ghost use Rattle.memory_trials.specs.Tried.{AreFour, IsOfFour, IsPassOf, MayLog, MayLogBoth};
 
 use super::logged::log_accesses;

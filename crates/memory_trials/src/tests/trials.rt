@@ -1,6 +1,5 @@
 //! What every memory that threads share is to answer to accesses of two threads, one after the other.
-ghost use Rattle.std.specs.Prelude.{◌≡◌, ◌<◌, ℕ};
-ghost use Rattle.memory_trials.specs.Tried.{IsOf, IsPassOf};
+ghost use Rattle.std.specs.Prelude.{◌<◌};
 
 use super::accesses::{Deed, X, all_answer, at_x, of_one, of_other};
 use super::tried::{Shape, Tried, USUAL, two};

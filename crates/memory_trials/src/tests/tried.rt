@@ -46,7 +46,7 @@ impl Tried for VersionMemory {
     }
 }
 
-/// The numbers of a machine of two threads.
+/// A machine's numbers, beside its bytes and its threads.
 #[derive(Clone, Copy)]
 pub struct Shape {
     pub classes: u64,
@@ -64,7 +64,7 @@ pub const USUAL: Shape = Shape {
     granule: 0,
 };
 
-/// A machine of so many threads.
+/// A machine of 65,536 bytes and so many threads.
 pub fn machine(threads: u64, shape: Shape) -> Result<MachineSize, Fail>
     ensures mem { IfOk result (λ size. size.mem ≡ 65536) }
     ensures threads { IfOk result (λ size. size.threads ≡ threads) }
