@@ -1,4 +1,6 @@
 //! Guests that reach past memory, never stop, write all that they may, or write with all others in one class.
+ghost use Rattle.std.specs.Prelude.{◌≡◌, IfOk, length};
+
 use super::*;
 use crate::beside::run_beside;
 use crate::files::MOST_WRITES;
@@ -6,7 +8,7 @@ use crate::programs::image_of;
 use crate::summary::total;
 use elf32::write;
 use guest_gen::counters;
-use llsc_base::MachineSize;
+use llsc_base::{Image, MachineSize};
 use llsc_words::Format;
 
 /// Guests whose access lies outside of memory, and one that branches to itself.
@@ -69,15 +71,26 @@ fn counting(alloc: Global) -> Result<Vec<u8>, AllocError> {
     write(alloc, &unit)
 }
 
-/// What the counters hold together once the threads of an image have run.
+/// The image of an ELF file on a machine.
 #[tactic(auto, using(crate::proofs::Images::image_sized))]
+fn loaded(alloc: Global, size: &MachineSize, file: &[u8]) -> Result<Image, AllocError>
+    ensures { IfOk result (λ image. length image.bytes ≡ size.now.mem) }
+{
+    match image_of(alloc, Format::Elf, size, file) {
+        Ok(image) => Ok(image),
+        Err(_) => Err(AllocError),
+    }
+}
+
+/// What the counters hold together once the threads of an image have run.
 fn counted<R: Threads + Wait + Sync + AllocGlobal + Abort>(
     rt: &R,
     size: &MachineSize,
-    file: &[u8],
-) -> Result<u64, AllocError> {
-    let image = image_of(rt.alloc(), Format::Elf, size, file).map_err(|_| AllocError)?;
-    let done = run_beside(rt, rt.alloc(), size, &image, 1_000_000)?;
+    image: &Image,
+) -> Result<u64, AllocError>
+    requires { length image.now.bytes ≡ size.now.mem }
+{
+    let done = run_beside(rt, rt.alloc(), size, image, 1_000_000)?;
     assert!(rt; done.rows.count() >= 2000);
     Ok(total(&done.rows))
 }
@@ -86,7 +99,8 @@ fn counted<R: Threads + Wait + Sync + AllocGlobal + Abort>(
 fn counts_with_all_rows_in_one_class(rt: HostRuntime) -> Result<(), Fail> {
     let file = counting(rt.alloc())?;
     let size = MachineSize::new(1_048_576, 4, 1, MOST_WRITES)?;
-    same(&rt, counted(&rt, &size, file.as_slice())?, 400);
+    let image = loaded(rt.alloc(), &size, file.as_slice())?;
+    same(&rt, counted(&rt, &size, &image)?, 400);
     done(&rt, "run --threads 4 --classes 1 p", file, SPACE)?;
     Ok(())
 }
