@@ -72,7 +72,6 @@ fn counting(alloc: Global) -> Result<Vec<u8>, AllocError> {
 }
 
 /// The image of an ELF file on a machine.
-#[tactic(auto, using(crate::proofs::Images::image_sized))]
 fn loaded(alloc: Global, size: &MachineSize, file: &[u8]) -> Result<Image, AllocError>
     ensures { IfOk result (λ image. length image.bytes ≡ size.now.mem) }
 {
