@@ -6,6 +6,7 @@ mod making;
 mod memory;
 mod now;
 mod passes;
+mod pauses;
 mod plain;
 mod seats;
 mod sharing;

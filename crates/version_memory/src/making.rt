@@ -42,6 +42,7 @@ impl VersionMemory {
             has: first_marks(threads),
             number: 0,
             reserved: None,
+            pauses: 0,
         };
         Ok((memory, pass))
     }

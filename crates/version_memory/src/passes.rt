@@ -23,6 +23,8 @@ pub struct VersionPass {
     pub(crate) number: u32,
     /// The reservation of its thread.
     pub(crate) reserved: Option<Reserved>,
+    /// How often the next load-exclusive of its thread pauses first.
+    pub(crate) pauses: u32,
     ghost between: { IsBetween seat.me has number reserved },
 }
 

@@ -17,6 +17,7 @@ ghost use Rattle.version_memory.specs.Memory.{memory_id, memory_origin, pass_hom
 use crate::exclusive::{clear_reservation, load_ex_soon};
 use crate::memory::VersionMemory;
 use crate::passes::{Reserved, VersionPass, VersionStory};
+use crate::pauses::{pause, pauses_after};
 use crate::plain::load_cell;
 use crate::seats::{join_numbers, split_number};
 use history::Entry;
@@ -127,8 +128,10 @@ impl SharedMemory for VersionMemory {
         Ok(())
     }
 
-    // It waits a while for its class, and then goes on without a reservation.
+    // It pauses where store-exclusives of its thread failed of late, waits a while for its class, and then goes on without a
+    // reservation.
     fn load_ex<R: Wait>(&self, rt: &R, pass: &mut VersionPass, place: Place) -> u64 {
+        pause(pass.pauses);
         let target = self.target(place, 0);
         let linked = load_ex_soon::<Brand>(&self.table.shared, &mut pass.seat, target);
         let value = take(linked.cell, place);
@@ -157,7 +160,9 @@ impl SharedMemory for VersionMemory {
         ensures exact_done { OnTrue result ((t : ℕ) → IsSingle t (pass_numbers pass.old) → Stands (IsUndisturbed (memory_origin self.now).size t place) (Entry.Begin t place) (pass_seen pass.old) (pass_seen pass.new)) }
         ensures exact_failed { OnFalse result ((t : ℕ) → IsSingle t (pass_numbers pass.old) → HasFailedAt (memory_origin self.now).size t place value (pass_seen pass.old) (pass_seen pass.new)) }
     {
-        self.store_ex_now(pass, place, value)
+        let done = self.store_ex_now(pass, place, value);
+        pass.pauses = pauses_after(pass.pauses, done);
+        done
     }
 
     fn clear_ex(&self, pass: &mut VersionPass) {
@@ -176,6 +181,7 @@ impl SharedMemory for VersionMemory {
             has: only_mark(t),
             number: t,
             reserved: None,
+            pauses: 0,
         }
     }
 
@@ -185,6 +191,7 @@ impl SharedMemory for VersionMemory {
             has,
             number: _,
             reserved: _,
+            pauses: _,
         } = other;
         join_numbers(&self.table.shared, &mut pass.seat, seat);
         pass.has = merge_marks(&pass.has, &has);
@@ -198,6 +205,7 @@ impl SharedMemory for VersionMemory {
             has: _,
             number: _,
             reserved: _,
+            pauses: _,
         } = pass;
         let story = VersionStory {
             of: Snapshot::of(&seat),
