@@ -17,10 +17,10 @@ use Rattle.a32_step.specs.Passages.{IsCarried, IsGiven, word_ask}
 use Rattle.a32_step.proofs.Carrying.{carried_by_all, carried_short, given_same, held_replies}
 use Rattle.a32_step.specs.Ports.{IsAskIn}
 use Rattle.a32_step.specs.Words.{AreWords}
-use Rattle.a32_step.proofs.Blocks.{ask_tested}
+use Rattle.a32_step.proofs.Blocks.{ask_sound}
 use Rattle.a32_step.proofs.Lists.{highest, at_end, at_listed, at_unlisted, from_lowest}
 use Rattle.a32_step.proofs.Placed.{passed_placed}
-use Rattle.a32_step.proofs.Tested.{register_fits}
+use Rattle.a32_step.proofs.Instructions.{register_fits}
 
 -- so many registers of a list lie below one, and those from it up are left
 pub record AreLeft (list r number : ℕ) : Type 0 where
@@ -96,9 +96,9 @@ module _ (program : Program) (load : Bool) (lowest list r number addr : ℕ) (st
   -- and may be made
   pub may : AreWords state.regs → IsAskIn (length program.bytes) (word_ask load addr r state)
   may words =
-      let tested = ask_tested program load lowest list had state (register_fits state words) passes short in
+      let sound = ask_sound (AreWords state.regs) program had load lowest list state (register_fits state) passes short in
       subst (IsAskIn (length program.bytes)) (sym (ask_is load))
-      (passed_placed program (block_ask load lowest (registers_of list) state (length had)) tested.passes, tested.fits)
+      (passed_placed program (block_ask load lowest (registers_of list) state (length had)) sound.passes, sound.fits words)
 
 -- ---- a block, by its accesses
 

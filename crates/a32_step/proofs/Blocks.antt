@@ -1,4 +1,4 @@
--- What a block asks for has passed its tests.
+-- What a block asks for is sound.
 use Rattle.std.proofs.Common.{◌≡◌, ◌≤◌, ◌<◌, ◌+◌, ◌*◌, ◌^◌, ◌%◌, ◌-◌, ℕ, zero, suc, Bool, true, false, not, nat_lt, List, Option, None, Some, length, slice_index, arith, refl, subst, if◌then◌else◌, ◌==◌}
 use Rattle.std.proofs.lemmas.Bool.{ltb-true}
 use Rattle.llsc_base.specs.Images.{Program, bar_of, first_barred, or_later, word_place}
@@ -7,7 +7,7 @@ use Rattle.llsc_base.specs.declared.access.BarredWord.{BarredWord}
 use Rattle.a32_instr.specs.State.{State, Effect, asks, completes, low32, register, advanced, jumps}
 use Rattle.a32_instr.specs.Block.{is_listed, registers_of, count_of, block_ask, block_loaded, block_done, block_next, block_at, unless_barred, with_block}
 use Rattle.a32_step.proofs.Lists.{registers_most}
-use Rattle.a32_step.specs.Machine.{wanted_of, IsTested}
+use Rattle.a32_step.proofs.Effects.{IsSound, Stands, barred_own, chosen, jumps_stands}
 
 -- where no word is barred, none is
 none_barred : (program : Program) (store : Bool) (addr count i : ℕ) → first_barred program store addr count ≡ None → i < count
@@ -30,46 +30,41 @@ none_barred program store addr (suc count) (suc i) none less =
     later_none None later e = e
     later_none (Some bar) later e = cc
 
--- of two effects that are tested, the chosen one is
-chosen : (program : Program) (replies : List ℕ) (b : Bool) (x y : Effect) → (b ≡ true → IsTested program replies (wanted_of x)) → IsTested program replies (wanted_of y) → IsTested program replies (wanted_of (if b then x else y))
-chosen program replies true x y p q = p refl
-chosen program replies false x y p q = q
+module _ (words : Type 0) (program : Program) (replies : List ℕ) where
+  loaded_stands : (list : ℕ) (back : State) → Stands words program replies (block_loaded list replies back)
+  loaded_stands list back =
+      chosen words program replies (is_listed list 15) (jumps (with_block list replies back) (low32 (slice_index replies (count_of list - 1)))) (completes (advanced (with_block list replies back)))
+      (jumps_stands words program replies (with_block list replies back) (low32 (slice_index replies (count_of list - 1)))) tt
 
-jumps_tested : (program : Program) (replies : List ℕ) (state : State) (value : ℕ) → IsTested program replies (wanted_of (jumps state value))
-jumps_tested program replies state value =
-    chosen program replies (value % 2 == 1) _ _ (λ e. tt) (chosen program replies (value % 4 == 2) _ _ (λ e. tt) tt)
+  done_stands : (load : Bool) (list : ℕ) (back : State) → Stands words program replies (block_done load list replies back)
+  done_stands load list back =
+      chosen words program replies load (block_loaded list replies back) (completes (advanced back)) (loaded_stands list back) tt
 
-loaded_tested : (program : Program) (replies : List ℕ) (list : ℕ) (back : State) → IsTested program replies (wanted_of (block_loaded list replies back))
-loaded_tested program replies list back =
-    chosen program replies (is_listed list 15) (jumps (with_block list replies back) (low32 (slice_index replies (count_of list - 1)))) (completes (advanced (with_block list replies back)))
-    (λ e. jumps_tested program replies (with_block list replies back) (low32 (slice_index replies (count_of list - 1)))) tt
+  pub ask_sound : (load : Bool) (lowest list : ℕ) (state : State) → (words → (r : ℕ) → register state r < 2 ^ 32) → first_barred program (not load) lowest (count_of list) ≡ None
+      → length replies < count_of list → IsSound words program replies (block_ask load lowest (registers_of list) state (length replies))
+  ask_sound true lowest list state small none less =
+      let most : count_of list ≤ 16 = registers_most list in
+      record { passes = none_barred program false lowest (count_of list) (length replies) none less; room = omega (arith, most, less); fits = λ are. tt }
+  ask_sound false lowest list state small none less =
+      let most : count_of list ≤ 16 = registers_most list in
+      record {
+        passes = none_barred program true lowest (count_of list) (length replies) none less;
+        room = omega (arith, most, less);
+        fits = λ are. small are (slice_index (registers_of list) (length replies));
+      }
 
-done_tested : (program : Program) (load : Bool) (list : ℕ) (replies : List ℕ) (back : State) → IsTested program replies (wanted_of (block_done load list replies back))
-done_tested program load list replies back =
-    chosen program replies load (block_loaded list replies back) (completes (advanced back)) (λ e. loaded_tested program replies list back) tt
+  next_stands : (load : Bool) (lowest list : ℕ) (back state : State) (more : Bool) → nat_lt (length replies) (count_of list) ≡ more
+      → (words → (r : ℕ) → register state r < 2 ^ 32) → first_barred program (not load) lowest (count_of list) ≡ None
+      → Stands words program replies (if more then asks (block_ask load lowest (registers_of list) state (length replies)) else block_done load list replies back)
+  next_stands load lowest list back state true test small none = ask_sound load lowest list state small none (ltb-true (length replies) (count_of list) test)
+  next_stands load lowest list back state false test small none = done_stands load list back
 
-pub ask_tested : (program : Program) (load : Bool) (lowest list : ℕ) (replies : List ℕ) (state : State)
-    → ((r : ℕ) → register state r < 2 ^ 32) → first_barred program (not load) lowest (count_of list) ≡ None → length replies < count_of list
-    → IsTested program replies (wanted_of (asks (block_ask load lowest (registers_of list) state (length replies))))
-ask_tested program true lowest list replies state words none less =
-    let most : count_of list ≤ 16 = registers_most list in
-    record { passes = none_barred program false lowest (count_of list) (length replies) none less; fits = tt; room = omega (arith, most, less) }
-ask_tested program false lowest list replies state words none less =
-    let most : count_of list ≤ 16 = registers_most list in
-    record {
-      passes = none_barred program true lowest (count_of list) (length replies) none less;
-      fits = words (slice_index (registers_of list) (length replies));
-      room = omega (arith, most, less);
-    }
+  unless_stands : (found : Option BarredWord) (effect : Effect) → (found ≡ None → Stands words program replies effect) → Stands words program replies (unless_barred found effect)
+  unless_stands None effect p = p refl
+  unless_stands (Some word) effect p = barred_own word.bar word.addr
 
-unless_tested : (program : Program) (replies : List ℕ) (found : Option BarredWord) (effect : Effect) → (found ≡ None → IsTested program replies (wanted_of effect)) → IsTested program replies (wanted_of (unless_barred found effect))
-unless_tested program replies None effect p = p refl
-unless_tested program replies (Some word) effect p = tt
-
-pub block_tested : (program : Program) (load : Bool) (lowest list : ℕ) (back : State) (replies : List ℕ) (state : State)
-    → ((r : ℕ) → register state r < 2 ^ 32) → IsTested program replies (wanted_of (block_at program load lowest list back replies state))
-block_tested program load lowest list back replies state words =
-    unless_tested program replies (first_barred program (not load) lowest (count_of list)) (block_next load lowest list back replies state)
-    (λ none. chosen program replies (nat_lt (length replies) (count_of list)) (asks (block_ask load lowest (registers_of list) state (length replies))) (block_done load list replies back)
-    (λ less. ask_tested program load lowest list replies state words none (ltb-true (length replies) (count_of list) less))
-    (done_tested program load list replies back))
+  pub block_stands : (load : Bool) (lowest list : ℕ) (back state : State) → (words → (r : ℕ) → register state r < 2 ^ 32)
+      → Stands words program replies (block_at program load lowest list back replies state)
+  block_stands load lowest list back state small =
+      unless_stands (first_barred program (not load) lowest (count_of list)) (block_next load lowest list back replies state)
+      (next_stands load lowest list back state (nat_lt (length replies) (count_of list)) refl small)

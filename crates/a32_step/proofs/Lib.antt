@@ -1,10 +1,11 @@
 pub mod Amounts
 pub mod Follows
-pub mod Tested
 pub mod Words
 pub mod Lists
+pub mod Effects
 pub mod Blocks
-pub mod Passed
+pub mod Instructions
+pub mod Tested
 pub mod Replied
 pub mod Remembered
 pub mod ExecutionStates

@@ -7,11 +7,11 @@ use Rattle.a32_step.specs.Phase.{Phase, Between, Inside, Awaiting, Calling, Stop
 use Rattle.a32_step.specs.Machine.{Machine, wanted_of, between, after_next, given, given_in, IsReady, IsAwaiting}
 use Rattle.a32_step.specs.declared.phases.Wanted.TheVariants as wanted
 use Rattle.a32_step.proofs.Follows.{next_follows}
+use Rattle.a32_step.proofs.Tested.{GoesOnWith, next_room}
 use Rattle.guest_calls.specs.Bound.{most_accesses_in}
 use Rattle.guest_calls.specs.Calls.{most_output}
 use Rattle.guest_calls.specs.Run.{Pair, Point, first_point, byte_loads, Reaches, ReachesFrom, begins, accesses, steps_on, returns, prints, Ends, halts, leaves, spends, EndsOn, by_itself, by_limit}
 use Rattle.guest_calls.proofs.Asked.{loads_count}
-use Rattle.guest_calls.proofs.Room.{GoesOnWith, asks_leave_room}
 use Rattle.guest_calls.proofs.Written.{written_within}
 
 -- ---- a reply
@@ -75,7 +75,7 @@ module _ (program : Program) (budget : ℕ) (from : Point) (between_two : from.m
   made _ _ _ _ begins = at_first
   made _ _ _ _ (accesses pairs machine steps output ask reply reached less asked) =
       let before = made pairs machine steps output reached in
-      let room : length machine.replies < 16 = asks_leave_room program machine ask before.goes asked in
+      let room : length machine.replies < 16 = next_room program machine ask before.goes asked in
       let follows = next_follows program machine (wanted.Access ask) (after_next program machine) (goes_ready machine.phase machine.replies before.goes) (ap wanted_of (sym asked)) refl in
       let one : length (given (after_next program machine) reply).replies ≡ length machine.replies + 1 =
       ap (λ rs. length rs) (given_one (after_next program machine) reply (after_next program machine).phase follows.0 ∙ ap (λ rs. rs ++ reply ∷ []) follows.1)

@@ -5,7 +5,7 @@ use Rattle.history.specs.declared.entry.Entry.{Entry}
 use Rattle.a32_instr.specs.declared.outside.Stop.{Stop}
 use Rattle.a32_instr.specs.declared.outside.Stop.TheVariants.{TagLimit}
 use Rattle.a32_step.specs.Machine.{Machine, between}
-use Rattle.a32_step.proofs.Passed.{GoesOn}
+use Rattle.a32_step.proofs.Tested.{GoesOn}
 use Rattle.guest_calls.specs.Pairs.{pairs_of}
 use Rattle.guest_calls.specs.Run.{Pair, EndsOn, by_itself}
 use Rattle.guest_thread.specs.Counting.{AreCounts, counts_in}

@@ -13,7 +13,8 @@ use Rattle.guest_calls.specs.Run.{Pair, Reaches, begins, accesses, steps_on, ret
 use Rattle.guest_calls.proofs.Written.{written_within}
 use Rattle.a32_step.specs.Ports.{IsPlaced}
 use Rattle.a32_step.proofs.Placed.{passed_placed}
-use Rattle.a32_step.proofs.Passed.{GoesOn, IsOwn, next_own, next_passes}
+use Rattle.a32_step.proofs.Effects.{IsOwn}
+use Rattle.a32_step.proofs.Tested.{GoesOn, next_own, next_passes}
 
 -- ---- what a thread asks for
 

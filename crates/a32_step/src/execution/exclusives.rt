@@ -153,7 +153,7 @@ impl Execution {
     }
 
     /// STREX, STREXB, STREXH and STREXD (DDI 0406C A8.8.212 to A8.8.215).
-    #[tactic(auto, using(crate::proofs::Tested::stored_part_fits))]
+    #[tactic(auto, using(crate::proofs::Instructions::stored_part_fits))]
     fn carry_store_exclusive<P: Port>(
         &mut self,
         image: &Image,
