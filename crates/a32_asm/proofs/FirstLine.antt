@@ -1,9 +1,11 @@
 -- The first line of a text is what stands before its first newline.
-use Rattle.std.proofs.Common.{◌≡◌, ◌≤◌, ◌+◌, ℕ, suc, List, [], ◌∷◌, Bool, true, false, cond, if◌then◌else◌, ◌==◌, refl, ap, arith, length}
+use Rattle.std.proofs.Common.{◌≡◌, ◌≤◌, ◌+◌, ℕ, suc, List, [], ◌∷◌, ◌++◌, drop, Bool, true, false, cond, if◌then◌else◌, ◌==◌, refl, sym, ap, ◌∙◌, arith, length}
+use Rattle.std.proofs.lemmas.List.{drop_all, drop_at, drop-drop}
 use Rattle.std.specs.List.{slice_split, onto_first}
 use Rattle.a32_forms.specs.Cuts.{before_code, from_code}
 use Rattle.a32_asm.specs.Lines.{lines_of}
 use Rattle.a32_asm.specs.Layout.{line_size}
+use Rattle.a32_asm.proofs.CutTexts.{pieces, lengths}
 
 -- a byte in front of a text without newline
 one_cons : (b : Bool) (code : ℕ) (text : List ℕ)
@@ -42,16 +44,6 @@ line_before (code ∷ text) newline rest h = cut_cons (code == 10) code newline 
 
 -- ---- lengths
 
-halves_cons : (b : Bool) (code : ℕ) (text : List ℕ) → length text ≡ length (before_code 10 text) + length (from_code 10 text)
-    → length (code ∷ text) ≡ length (if b then [] else code ∷ before_code 10 text) + length (if b then code ∷ text else from_code 10 text)
-halves_cons true code text later = omega arith
-halves_cons false code text later = omega (arith, later)
-
-halves : (text : List ℕ) → length text ≡ length (before_code 10 text) + length (from_code 10 text)
-unfolding before_code from_code
-halves [] = refl
-halves (code ∷ text) = halves_cons (code == 10) code text (halves text)
-
 put_in_front : (line : List ℕ) (code : ℕ) (lines : List (List ℕ)) → line_size line lines ≡ length line + 1 → line_size line (onto_first code lines) ≡ length line + 1
 put_in_front line code [] h = absurd (omega (arith, h))
 put_in_front line code (first ∷ lines) h = refl
@@ -67,15 +59,28 @@ more line [] = refl
 more line (code ∷ text) = more_cons (code == 10) line code (lines_of text) (more line text)
 
 pub length_alone : (text : List ℕ) → length (from_code 10 text) ≡ 0 → length text ≡ length (before_code 10 text) + 0
-length_alone text h = omega (arith, h, halves text)
+length_alone text h = omega (arith, h, lengths 10 text)
 
 pub length_before : (text : List ℕ) (newline : ℕ) (rest : List ℕ) → from_code 10 text ≡ newline ∷ rest
     → length text ≡ line_size (before_code 10 text) (lines_of rest) + length rest
 length_before text newline rest h =
     let e : length (from_code 10 text) ≡ suc (length rest) = ap length h in
-    omega (arith, e, halves text, more (before_code 10 text) rest)
+    omega (arith, e, lengths 10 text, more (before_code 10 text) rest)
 
 pub rest_shorter : (text : List ℕ) (newline : ℕ) (rest : List ℕ) → from_code 10 text ≡ newline ∷ rest → length rest + 1 ≤ length text
 rest_shorter text newline rest h =
     let e : length (from_code 10 text) ≡ suc (length rest) = ap length h in
-    omega (arith, e, halves text)
+    omega (arith, e, lengths 10 text)
+
+-- ---- what stands behind the first line
+
+pub rest_alone : (text : List ℕ) → length (from_code 10 text) ≡ 0 → [] ≡ drop (length (before_code 10 text)) text
+rest_alone text h = sym (drop_all (length (before_code 10 text)) text (omega (arith, h, lengths 10 text)))
+
+pub rest_before : (text : List ℕ) (newline : ℕ) (rest : List ℕ) → from_code 10 text ≡ newline ∷ rest
+    → rest ≡ drop (line_size (before_code 10 text) (lines_of rest)) text
+rest_before text newline rest h =
+    ap (drop 1) (sym (drop_at (before_code 10 text) (newline ∷ rest) (length (before_code 10 text)) refl))
+    ∙ ap (λ t. drop 1 (drop (length (before_code 10 text)) t)) (ap (λ t. before_code 10 text ++ t) (sym h) ∙ pieces 10 text)
+    ∙ drop-drop 1 (length (before_code 10 text)) text
+    ∙ ap (λ n. drop n text) (sym (more (before_code 10 text) rest))

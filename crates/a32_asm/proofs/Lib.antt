@@ -1,5 +1,9 @@
 pub mod FirstLine
-pub mod LabelMaps
+pub mod CutTexts
+pub mod LineLabels
+pub mod FirstPlaces
+pub mod SortedPlaces
+pub mod FoundPlaces
 pub mod LaidLines
 pub mod AddedLines
 pub mod ShownLines

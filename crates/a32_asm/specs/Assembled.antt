@@ -1,6 +1,6 @@
 -- The program that a text is, or the first fault of the text.
 use Rattle.std.specs.Prelude.{ℕ, ◌+◌, ◌*◌, ◌||◌, nat_lt, if◌then◌else◌, Bool, false, List, [], ◌∷◌, ◌++◌, Option, Some, None, Result, Ok, Err}
-use Rattle.a32_asm.specs.declared.labels.LabelPlace.{LabelPlace}
+use Rattle.a32_asm.specs.declared.places.LabelPlace.{LabelPlace}
 use Rattle.elf32.specs.declared.units.Unit.{Unit}
 use Rattle.llsc_base.specs.Limits.{code_start}
 use Rattle.elf32.specs.Units.{most_words, most_data}
@@ -34,10 +34,10 @@ behind_line before line lines = record {
   read = before.read + line_size line lines;
 }
 
--- the first label of a name is one of an earlier line
+-- the first label of a name is one of an earlier line: its name begins before this line
 abbrev pub is_earlier : ℕ → Option LabelPlace → Bool
 is_earlier read None = false
-is_earlier read (Some place) = nat_lt place.read read
+is_earlier read (Some place) = nat_lt place.at read
 
 -- a line defines a label that an earlier line defines
 abbrev pub is_known : Layout → ℕ → Option (List ℕ) → Bool

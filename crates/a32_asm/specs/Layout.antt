@@ -1,5 +1,5 @@
 -- Where each line of a text stands, and the addresses of its labels.
-use Rattle.std.specs.Prelude.{ℕ, ◌+◌, ◌*◌, ◌%◌, ◌^◌, ◌&&◌, not, if◌then◌else◌, Bool, true, false, List, [], ◌∷◌, ◌++◌, length, Option, Some, None, codes}
+use Rattle.std.specs.Prelude.{ℕ, ◌+◌, ◌-◌, ◌*◌, ◌%◌, ◌^◌, ◌&&◌, not, if◌then◌else◌, Bool, true, false, List, [], ◌∷◌, ◌++◌, length, Option, Some, None, codes}
 use Rattle.std.specs.List.{find}
 use Rattle.std.specs.Option.{option_map}
 use Rattle.std.specs.Str.{bytes_eq}
@@ -8,10 +8,10 @@ use Rattle.elf32.specs.Units.{data_start}
 use Rattle.a32_forms.specs.Text.{parts}
 use Rattle.a32_forms.specs.Forms.{Chosen, chosen, number_at}
 use Rattle.a32_asm.specs.declared.layout.Spot.{Spot}
-use Rattle.a32_asm.specs.declared.labels.LabelPlace.{LabelPlace}
+use Rattle.a32_asm.specs.declared.places.LabelPlace.{LabelPlace}
 use Rattle.a32_asm.specs.declared.heads.Head.{Head}
 use Rattle.a32_asm.specs.declared.heads.Head.TheVariants.{Nothing, Text, Data, Word, Byte, Space, Instruction, Unreadable}
-use Rattle.a32_asm.specs.Lines.{before_comment, is_ascii, label_of, statement_of, head_of, operands_of}
+use Rattle.a32_asm.specs.Lines.{before_comment, is_ascii, front_of, label_of, statement_of, head_of, operands_of}
 
 -- a text begins in its code
 abbrev pub start : Spot
@@ -59,21 +59,30 @@ unfoldable pub next_spot : Spot → List ℕ → Spot
 next_spot spot line =
     if stands spot line then behind (head_of (statement_of line)) (operands_of (statement_of line)) spot else spot
 
--- A label names a place: the spot of its line, and how many bytes of text are before that line.
+-- how many bytes of its section are before a spot, modulo 2 to the 32: the space stands behind the other data
+abbrev pub offset_of : Spot → ℕ
+offset_of spot = (if spot.in_data then spot.bytes + spot.space else 4 * spot.words) % 2 ^ 32
+
+-- A label names a place: that of its line's spot, and of its name in the text.
 pub record Label : Type 0 where
   pub name : List ℕ
   pub place : LabelPlace
 
+-- the place at a spot, of a name that so many bytes of text are before
 abbrev pub place : Spot → ℕ → LabelPlace
-place spot read = record { spot = spot; read = read }
+place spot at = record { at = at; in_data = spot.in_data; offset = offset_of spot }
+
+-- how many blanks a line begins with
+abbrev pub indent_of : List ℕ → ℕ
+indent_of line = length (before_comment line) - length (front_of line)
 
 abbrev pub labels_here : LabelPlace → Option (List ℕ) → List Label
 labels_here place None = []
 labels_here place (Some name) = record { name = name; place = place } ∷ []
 
--- the label of a line at its spot, if it has one
+-- the label of a line at its spot, if it has one, behind so many bytes of text
 abbrev pub labels_of : Spot → ℕ → List ℕ → List Label
-labels_of spot read line = labels_here (place spot read) (label_of line)
+labels_of spot read line = labels_here (place spot (read + indent_of line)) (label_of line)
 
 -- how many bytes a line has, with the newline that ends it, which the last line doesn't have
 abbrev pub line_size : List ℕ → List (List ℕ) → ℕ
@@ -95,10 +104,9 @@ end_from spot (line ∷ lines) = end_from (next_spot spot line) lines
 abbrev pub place_in : List Label → List ℕ → Option LabelPlace
 place_in labels name = option_map (λ label. label.place) (find (λ label. bytes_eq name label.name) labels)
 
--- the address of a spot, modulo 2 to the 32, where the code has so many words: the space stands behind the other data
-abbrev pub address_at : ℕ → Spot → ℕ
-address_at words spot =
-    (if spot.in_data then data_start words + (spot.bytes + spot.space) else code_start + 4 * spot.words) % 2 ^ 32
+-- the address of a place, modulo 2 to the 32, where the code has so many words
+abbrev pub address_at : ℕ → LabelPlace → ℕ
+address_at words place = ((if place.in_data then data_start words else code_start) + place.offset) % 2 ^ 32
 
 -- What the lines of a text say of one another: the places of its labels, and how many words its code has.
 pub record Layout : Type 0 where
@@ -110,4 +118,4 @@ layout_of lines = record { places = place_in (labels_from start 0 lines); words 
 
 -- the address of a label
 abbrev pub address_of : Layout → List ℕ → Option ℕ
-address_of layout name = option_map (λ place. address_at layout.words place.spot) (layout.places name)
+address_of layout name = option_map (address_at layout.words) (layout.places name)

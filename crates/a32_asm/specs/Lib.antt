@@ -4,4 +4,5 @@ pub mod Statements
 pub mod Assembled
 pub mod Shown
 pub mod Seen
+pub mod Places
 pub mod Labels

@@ -4,6 +4,7 @@ use Rattle.std.specs.Borrow.{Bor}
 use Rattle.llsc_base.specs.Memory.{bytes_of}
 use Rattle.a32_asm.specs.declared.layout.Spot.{Spot}
 use Rattle.a32_asm.specs.declared.layout.TextLayout.{TextLayout}
+use Rattle.a32_asm.specs.declared.places.LabelPlace.{LabelPlace}
 use Rattle.a32_asm.specs.declared.lines.Line.{Line}
 use Rattle.a32_asm.specs.Lines.{lines_of, operands_of}
 use Rattle.a32_asm.specs.Layout.{Layout, may_stand, behind}
@@ -18,6 +19,11 @@ abbrev pub lines_left : Option (Bor (List ℕ)) → List (List ℕ)
 lines_left None = []
 lines_left (Some text) = lines_of text.now
 
+-- what is left
+abbrev pub text_left : Option (Bor (List ℕ)) → List ℕ
+text_left None = []
+text_left (Some text) = text.now
+
 -- how many bytes are left
 abbrev pub bytes_left : Option (Bor (List ℕ)) → ℕ
 bytes_left None = 0
@@ -28,12 +34,17 @@ abbrev pub size_left : Option (Bor (List ℕ)) → ℕ
 size_left None = 0
 size_left (Some text) = length text.now + 1
 
+-- the place of a label, if there is one
+abbrev pub places_here : LabelPlace → Option (List ℕ) → List LabelPlace
+places_here place None = []
+places_here place (Some name) = place ∷ []
+
 -- the spot behind a line that was read
 abbrev pub spot_behind : Spot → Line → Spot
 spot_behind spot line =
     if line.is_ascii && may_stand line.head spot then behind line.head (operands_of line.statement.now) spot else spot
 
--- a layout by what its map says of each name
+-- a layout by what its labels say of each name
 abbrev pub layout_seen : TextLayout → Layout
 layout_seen layout = record { places = place_named layout.labels; words = layout.words }
 

@@ -39,7 +39,7 @@ const OUT_OF_MEMORY: AsmFault = AsmFault {
 };
 
 /// Makes the program of the lines of a text, whose layout is known.
-fn assemble_lines(alloc: Global, text: &[u8], layout: &TextLayout) -> Result<Unit, AsmFault>
+fn assemble_lines(alloc: Global, text: &[u8], layout: &TextLayout<'_>) -> Result<Unit, AsmFault>
     ensures unit { IfOk result (λ unit. unit_from (layout_seen layout.now) first (lines_of text.now) ≡ Ok unit) }
     ensures fault { IfErr result (λ fault. (fault ≡ record { line = 0; kind = AsmKind.Memory }) ⊎ (unit_from (layout_seen layout.now) first (lines_of text.now) ≡ Err fault)) }
 {

@@ -1,67 +1,54 @@
 //! The labels of a text by their names.
-ghost use Rattle.std.specs.Prelude.{◌≡◌, ℕ, List, OnOk, Some};
-ghost use Rattle.std.specs.Option.{option_map};
-ghost use Rattle.a32_asm.specs.Layout.{place_in, labels_here};
-ghost use Rattle.a32_asm.specs.Labels.{place_named, or_first, or_place};
+ghost use Rattle.std.specs.Prelude.{◌≡◌, ℕ, List, map};
+ghost use Rattle.std.specs.List.Sorted.{IsSorted};
+ghost use Rattle.a32_forms.specs.Cuts.{before_code};
+ghost use Rattle.a32_asm.specs.Places.{order_of};
 
-use crate::layout::Spot;
-use std::alloc::{AllocError, Global};
-use std::collections::BTreeMap;
+use crate::places::{LabelPlace, compare_names, order_of, text_at};
+use a32_forms::before_code;
 
-/// Where a label stands: the spot of its line, and how many bytes of text are before that line.
-#[derive(Clone, Copy, Debug, PartialEq, Eq)]
-pub struct LabelPlace {
-    pub spot: Spot,
-    pub read: usize,
-}
-
-/// The first label of each name.
+/// The labels of a text, in the order of their names, and those of one name as the text has them.
 #[derive(Drop)]
-pub struct LabelMap {
-    places: BTreeMap<Vec<u8>, LabelPlace>,
+pub struct SortedLabels<'a> {
+    text: &'a [u8],
+    places: Vec<LabelPlace>,
+    ghost in_order: { IsSorted (order_of text.now) places.items },
 }
 
-impl LabelMap {
-    /// No labels.
-    pub fn new(alloc: Global) -> LabelMap
-        ensures { (name : List ℕ) → place_named result name ≡ None }
+impl<'a> SortedLabels<'a> {
+    ghost use Rattle.a32_asm.specs.Layout.{place_in};
+    ghost use Rattle.a32_asm.specs.Places.{label_at, AreBefore, Rise};
+    ghost use Rattle.a32_asm.specs.Labels.{place_named};
+
+    /// The labels at places of a text, which are given as the text has them.
+    pub fn new(text: &'a [u8], mut places: Vec<LabelPlace>) -> SortedLabels<'a>
+        requires { Rise 0 places.items }
+        ensures { (name : List ℕ) → place_named result name ≡ place_in (map (label_at text.now) places.items) name }
     {
-        LabelMap {
-            places: BTreeMap::new(alloc),
-        }
+        places.sort_unstable_by(|first, second| order_of(text, first, second));
+        SortedLabels { text, places }
     }
 
-    /// The first label of a name.
+    /// How many labels have names before a name, which ends before a colon.
+    fn count_before(&self, name: &[u8]) -> usize
+        ensures { AreBefore self.now.text.now (before_code 58 name.now) self.now.places.items result }
+    {
+        let text = self.text;
+        self.places
+            .partition_point(|place| compare_names(text_at(text, place), name).is_lt())
+    }
+
+    /// The place of the first label of a name.
     pub fn place(&self, name: &[u8]) -> Option<LabelPlace>
         ensures { result ≡ place_named self.now name.now }
     {
-        self.places.get(name).copied()
-    }
-
-    /// Adds a label, if there is none of its name.
-    pub fn add(&mut self, alloc: Global, name: &[u8], place: LabelPlace) -> Result<(), AllocError>
-        ensures { OnOk result ((other : List ℕ) → place_named self.new other ≡ or_first (place_named self.old other) name.now place other) }
-    {
-        if self.places.contains_key(name) {
-            return Ok(());
+        if before_code(name, b':').len() < name.len() {
+            return None;
         }
-        self.places.insert(Vec::from_slice(alloc, name)?, place)?;
-        Ok(())
-    }
-
-    /// Adds the label of a line, if the line has one.
-    pub fn add_label(
-        &mut self,
-        alloc: Global,
-        label: Option<&[u8]>,
-        place: LabelPlace,
-    ) -> Result<(), AllocError>
-        ensures { OnOk result ((other : List ℕ) → place_named self.new other
-            ≡ or_place (place_named self.old other) (place_in (labels_here place (option_map (λ name. name.now) label.entry)) other)) }
-    {
-        match label {
-            None => Ok(()),
-            Some(name) => self.add(alloc, name, place),
+        let place = self.places.get(self.count_before(name))?;
+        if compare_names(text_at(self.text, place), name).is_ne() {
+            return None;
         }
+        Some(*place)
     }
 }

@@ -1,14 +1,16 @@
 //! Where the lines of a text stand, and where its labels do.
-ghost use Rattle.std.specs.Prelude.{◌≡◌, ◌&&◌, IfOk, codes};
+ghost use Rattle.std.specs.Prelude.{◌≡◌, ◌+◌, ◌<◌, ◌^◌, ◌&&◌, ◌++◌, IfOk, OnOk, codes};
+ghost use Rattle.std.specs.Option.{option_map};
 ghost use Rattle.a32_forms.specs.Text.{parts};
 ghost use Rattle.a32_forms.specs.Forms.{chosen};
 ghost use Rattle.a32_asm.specs.Lines.{lines_of};
-ghost use Rattle.a32_asm.specs.Layout.{may_stand, space_of, behind, address_at, address_of, layout_of};
-ghost use Rattle.a32_asm.specs.Seen.{spot_behind, layout_seen, lines_left};
+ghost use Rattle.a32_asm.specs.Layout.{may_stand, space_of, behind, offset_of, place, address_at, address_of, layout_of};
+ghost use Rattle.a32_asm.specs.Seen.{spot_behind, places_here, layout_seen};
 
 use crate::heads::Head;
-use crate::labels::{LabelMap, LabelPlace};
+use crate::labels::SortedLabels;
 use crate::lines::{Line, first_line, operands_of, read_line};
+use crate::places::LabelPlace;
 use a32_forms::chosen;
 use llsc_base::CODE_START;
 use std::alloc::{AllocError, Global};
@@ -96,12 +98,12 @@ pub fn next_spot(spot: Spot, line: &Line<'_>) -> Spot
 
 /// What the lines of a text say of one another: the places of its labels, and how many words its code has.
 #[derive(Drop)]
-pub struct TextLayout {
-    labels: LabelMap,
+pub struct TextLayout<'a> {
+    labels: SortedLabels<'a>,
     words: u64,
 }
 
-impl TextLayout {
+impl TextLayout<'_> {
     /// The place of the first label of a name.
     pub fn place(&self, name: &[u8]) -> Option<LabelPlace>
         ensures { result ≡ (layout_seen self.now).places name.now }
@@ -114,39 +116,68 @@ impl TextLayout {
         ensures { result ≡ address_of (layout_seen self.now) name.now }
     {
         let place = self.labels.place(name)?;
-        Some(address_at(self.words, place.spot))
+        Some(address_at(self.words, place))
     }
 }
 
-/// The address of a spot, modulo 2 to the 32, where the code has so many words.
-fn address_at(words: u64, spot: Spot) -> u32
-    ensures { result ≡ address_at words spot }
+/// The address of a place, modulo 2 to the 32, where the code has so many words.
+fn address_at(words: u64, place: LabelPlace) -> u32
+    ensures { result ≡ address_at words place }
 {
     let code_start = u128::from(CODE_START);
-    if !spot.in_data {
-        return ((code_start + 4 * u128::from(spot.words)) % 0x1_0000_0000) as u32;
+    if !place.in_data {
+        return ((code_start + u128::from(place.offset)) % 0x1_0000_0000) as u32;
     }
     let data_start = (code_start + 4 * u128::from(words) + 4095) / 4096 * 4096;
-    ((data_start + (u128::from(spot.bytes) + u128::from(spot.space))) % 0x1_0000_0000) as u32
+    ((data_start + u128::from(place.offset)) % 0x1_0000_0000) as u32
+}
+
+/// How many bytes of its section are before a spot, modulo 2 to the 32.
+fn offset_of(spot: Spot) -> u32
+    ensures { result ≡ offset_of spot }
+{
+    if spot.in_data {
+        return ((u128::from(spot.bytes) + u128::from(spot.space)) % 0x1_0000_0000) as u32;
+    }
+    ((4 * u128::from(spot.words)) % 0x1_0000_0000) as u32
+}
+
+/// Adds the place of a line's label, if the line has one: it stands behind so many bytes of text.
+fn add_place(
+    places: &mut Vec<LabelPlace>,
+    spot: Spot,
+    at: usize,
+    label: Option<&[u8]>,
+) -> Result<(), AllocError>
+    ensures { OnOk result (places.new.items ≡ places.old.items ++ places_here (place spot at) (option_map (λ name. name.now) label.entry)) }
+{
+    if label.is_none() {
+        return Ok(());
+    }
+    Ok(places.push(LabelPlace {
+        at,
+        in_data: spot.in_data,
+        offset: offset_of(spot),
+    })?)
 }
 
 /// Reads where the lines of a text stand.
-pub fn lay_out(alloc: Global, text: &[u8]) -> Result<TextLayout, AllocError>
+pub fn lay_out(alloc: Global, text: &[u8]) -> Result<TextLayout<'_>, AllocError>
     ensures { IfOk result (λ layout. layout_seen layout ≡ layout_of (lines_of text.now)) }
 {
-    let mut labels = LabelMap::new(alloc);
+    let mut places = Vec::new(alloc);
     let mut spot = START;
     let mut left = Some(text);
     while let Some(rest) = left {
         let (line, after) = first_line(rest);
         let line = read_line(line);
         let read = text.len() - rest.len();
-        labels.add_label(alloc, line.label, LabelPlace { spot, read })?;
+        add_place(&mut places, spot, read + line.indent, line.label)?;
         spot = next_spot(spot, &line);
         left = after;
     }
     Ok(TextLayout {
-        labels,
+        labels: SortedLabels::new(text, places),
         words: spot.words,
     })
 }

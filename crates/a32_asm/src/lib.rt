@@ -6,7 +6,7 @@
 //! What a text means stands in `specs/`: the lines of a text (`Lines`), where each of them stands and where
 //! the labels do (`Layout`), what a line adds to the program (`Statements`), and the program or the first
 //! fault (`Assembled`). The instructions of the lines are those of `a32_syntax`. The code goes over a text
-//! twice: first it reads where the labels are, into an ordered map, and then what each line adds.
+//! twice: first it reads where the labels are, which it sorts by their names, and then what each line adds.
 #![tactic(auto)]
 
 mod assembler;
@@ -18,6 +18,7 @@ mod layout;
 mod lines;
 mod outcomes;
 mod pieces;
+mod places;
 
 pub use a32_syntax::AsmKind;
 pub use assembler::{AsmFault, assemble};

@@ -21,7 +21,7 @@ const MOST_WORDS: u64 = 65_536;
 const MOST_DATA: u128 = 1_048_576;
 
 /// What a line at its spot adds.
-pub fn line_piece(layout: &TextLayout, spot: Spot, line: &Line<'_>) -> Result<Added, AsmKind>
+pub fn line_piece(layout: &TextLayout<'_>, spot: Spot, line: &Line<'_>) -> Result<Added, AsmKind>
     requires { spot.words ≤ 65536 }
     ensures { piece_seen result ≡ (if line.now.is_ascii && may_stand line.now.head spot
         then piece_of (site_of (layout_seen layout.now) spot) spot.in_data line.now.head line.now.statement.now else Err AsmKind.Syntax) }
@@ -33,14 +33,14 @@ pub fn line_piece(layout: &TextLayout, spot: Spot, line: &Line<'_>) -> Result<Ad
 }
 
 /// Whether an earlier line than one that begins behind so many bytes has its label.
-pub fn is_repeated(layout: &TextLayout, read: usize, label: Option<&[u8]>) -> bool
+pub fn is_repeated(layout: &TextLayout<'_>, read: usize, label: Option<&[u8]>) -> bool
     ensures { result ≡ is_known (layout_seen layout.now) read (option_map (λ name. name.now) label.entry) }
 {
     let Some(name) = label else {
         return false;
     };
     match layout.place(name) {
-        Some(place) => place.read < read,
+        Some(place) => place.at < read,
         None => false,
     }
 }

@@ -32,7 +32,7 @@ pub enum Added {
     Byte(u8),
 }
 
-impl Labels for TextLayout {
+impl Labels for TextLayout<'_> {
     ghost addresses = { λ layout. address_of (layout_seen layout) };
 
     fn address(&self, name: &[u8]) -> Option<u32> {
@@ -61,7 +61,7 @@ fn alone(operands: &[u8]) -> Result<Added, AsmKind>
 }
 
 /// A number, or the address of a label.
-fn word_from(layout: &TextLayout, spot: Spot, operands: &[u8]) -> Result<Added, AsmKind>
+fn word_from(layout: &TextLayout<'_>, spot: Spot, operands: &[u8]) -> Result<Added, AsmKind>
     ensures { piece_seen result ≡ word_from (site_of (layout_seen layout.now) spot) spot.in_data (chosen (codes "n|l") (parts operands.now)) }
 {
     let Some(found) = chosen(b"n|l", operands) else {
@@ -118,7 +118,7 @@ fn encoded(instruction: &Instr) -> Result<Added, AsmKind>
 }
 
 /// An instruction at a spot of the code.
-fn instruction_from(layout: &TextLayout, spot: Spot, line: &Line<'_>) -> Result<Added, AsmKind>
+fn instruction_from(layout: &TextLayout<'_>, spot: Spot, line: &Line<'_>) -> Result<Added, AsmKind>
     requires { spot.words ≤ 65536 }
     ensures { piece_seen result ≡ instruction_from (site_of (layout_seen layout.now) spot) (parts (operands_of line.now.statement.now)) (mnemonic_of (front_word line.now.statement.now)) }
 {
@@ -133,7 +133,7 @@ fn instruction_from(layout: &TextLayout, spot: Spot, line: &Line<'_>) -> Result<
 }
 
 /// What a statement at a spot adds.
-pub fn piece_of(layout: &TextLayout, spot: Spot, line: &Line<'_>) -> Result<Added, AsmKind>
+pub fn piece_of(layout: &TextLayout<'_>, spot: Spot, line: &Line<'_>) -> Result<Added, AsmKind>
     requires { spot.words ≤ 65536 }
     ensures { piece_seen result ≡ piece_of (site_of (layout_seen layout.now) spot) spot.in_data line.now.head line.now.statement.now }
 {
