@@ -1,2 +1,3 @@
 pub mod Stated
 pub mod Found
+pub mod OnLiterals

@@ -2,3 +2,4 @@ pub mod Names
 pub mod Commands
 pub mod Given
 pub mod Request
+pub mod Worked

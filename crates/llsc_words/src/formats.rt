@@ -1,3 +1,5 @@
+//! The formats of a program's file.
+
 /// The format of a program's file.
 #[derive(Clone, Copy, Debug, PartialEq, Eq)]
 pub enum Format {

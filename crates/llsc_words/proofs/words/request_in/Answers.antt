@@ -1,5 +1,4 @@
 -- `clap` states which words the command takes.
-use Rattle.std.proofs.Common.{◌≡◌}
 use Rattle.clap.specs.Words.{app_of}
 use Rattle.llsc_words.proofs.Stated.{commands_are_stated}
 use Rattle.llsc_words.proofs.words.request_in.Goals as goal
