@@ -130,7 +130,7 @@ impl SharedMemory for HstMemory {
         take(cell, place)
     }
 
-    // It succeeds exactly where its thread is undisturbed.
+    // It succeeds exactly where its thread is undisturbed, and fails for want of a reservation or because that was lost.
     fn store_ex<R: Wait>(&self, rt: &R, pass: &mut HstPass, place: Place, value: u64) -> bool
         requires memory { pass_home pass.old ≡ memory_id self.now }
         requires single { (t : ℕ) × IsSingle t (pass_numbers pass.old) × (t < (memory_origin self.now).first) }
@@ -142,6 +142,9 @@ impl SharedMemory for HstMemory {
         ensures memory { pass_home pass.new ≡ pass_home pass.old }
         ensures numbers { pass_numbers pass.new ≡ pass_numbers pass.old }
         ensures exact { (t : ℕ) → IsSingle t (pass_numbers pass.old) → IsExact (memory_origin self.now).size t place value result (pass_seen pass.old) (pass_seen pass.new) }
+        ensures causes { OnFalse result ((t : ℕ) → IsSingle t (pass_numbers pass.old)
+            → Sees (memory_origin self.now) t (pass_seen pass.old) (entries_of_operation t (fail place value Cause.Absent)) (pass_seen pass.new)
+            ⊎ Sees (memory_origin self.now) t (pass_seen pass.old) (entries_of_operation t (fail place value Cause.Lost)) (pass_seen pass.new)) }
     {
         let target = self.target(place, value);
         let name = u64::from(pass.number) + 1;
