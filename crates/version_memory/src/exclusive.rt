@@ -64,12 +64,15 @@ fn try_watch<J: Asks>(shared: &VersionShared, seat: &mut VersionSeat, target: Ta
     shared.load::<TryWatch<J>>(seat, target.tag)
 }
 
-/// How often a load-exclusive looks at its class, at most, before it begins without a reservation.
-const LOOKS: u32 = 64;
-
-/// A load-exclusive begins, once no write of its class is in flight, or after so many looks without a reservation.
+/// A load-exclusive begins, once no write of its class is in flight; or after so many looks by one look more, without a
+/// reservation where one is in flight still.
 #[inline]
-fn watch_soon<J: Asks>(shared: &VersionShared, seat: &mut VersionSeat, target: Target) -> u64
+fn watch_within<J: Asks>(
+    shared: &VersionShared,
+    seat: &mut VersionSeat,
+    target: Target,
+    looks: u32,
+) -> u64
     requires asked { J.ask ≡ ask (origin_of shared.now.key) target.place target.value }
     requires ready { IsReady shared.now.key shared.now.table_id seat.old.table_id seat.old.me }
     requires rest { seat.old.me.0.doing.doing ≡ Rest }
@@ -82,7 +85,7 @@ fn watch_soon<J: Asks>(shared: &VersionShared, seat: &mut VersionSeat, target: T
     ensures home { seat.new.table_id ≡ seat.old.table_id }
 {
     let backoff = Backoff::new();
-    for _ in 0..LOOKS {
+    for _ in 0..looks {
         let tag = try_watch::<J>(shared, seat, target);
         if tag % 2 == 0 {
             return tag;
@@ -105,12 +108,13 @@ fn read_ex<J: Asks>(shared: &VersionShared, seat: &mut VersionSeat, target: Targ
     shared.load::<ReadEx<J>>(seat, target.word)
 }
 
-/// A load-exclusive, in the whole.
+/// A load-exclusive, in the whole, which waits for its class as long as so many looks take.
 #[inline]
 pub fn load_ex_cell<J: Asks>(
     shared: &VersionShared,
     seat: &mut VersionSeat,
     target: Target,
+    looks: u32,
 ) -> Linked
     requires asked { J.ask ≡ ask (origin_of shared.now.key) target.place target.value }
     requires ready { IsReady shared.now.key shared.now.table_id seat.old.table_id seat.old.me }
@@ -121,28 +125,7 @@ pub fn load_ex_cell<J: Asks>(
     ensures short { result.tag ≤ 2 ^ 63 }
     ensures home { seat.new.table_id ≡ seat.old.table_id }
 {
-    let tag = watch::<J>(shared, seat, target);
-    let cell = read_ex::<J>(shared, seat, target);
-    Linked { cell, tag }
-}
-
-/// The same, of one that waits a while for its class.
-#[inline]
-pub fn load_ex_soon<J: Asks>(
-    shared: &VersionShared,
-    seat: &mut VersionSeat,
-    target: Target,
-) -> Linked
-    requires asked { J.ask ≡ ask (origin_of shared.now.key) target.place target.value }
-    requires ready { IsReady shared.now.key shared.now.table_id seat.old.table_id seat.old.me }
-    requires rest { seat.old.me.0.doing.doing ≡ Rest }
-    requires target { IsTarget shared.now.key target }
-    ensures reserved { result.tag % 2 ≡ 0 → Goes (origin_of shared.now.key) seat.old.me (entries_of_operation seat.old.me.0.lead (load_watched target.place (value_in_cell result.cell target.place))) (hand Rest (Row (row_of shared.now.key.size.granule target.place) result.tag)) seat.new.me }
-    ensures missed { result.tag % 2 ≢ 0 → Goes (origin_of shared.now.key) seat.old.me (entries_of_operation seat.old.me.0.lead (load_missed target.place (value_in_cell result.cell target.place))) (hand Rest Nothing) seat.new.me }
-    ensures short { result.tag ≤ 2 ^ 63 }
-    ensures home { seat.new.table_id ≡ seat.old.table_id }
-{
-    let tag = watch_soon::<J>(shared, seat, target);
+    let tag = watch_within::<J>(shared, seat, target, looks);
     let cell = read_ex::<J>(shared, seat, target);
     Linked { cell, tag }
 }

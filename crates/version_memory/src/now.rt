@@ -19,6 +19,39 @@ use row_bytes::take;
 use std::marker::Brand;
 
 impl VersionMemory {
+    /// A load-exclusive, and whether the thread holds a reservation on the row from now on: it does unless a write of another
+    /// thread in the class of the row is in flight still after so many looks at the class.
+    #[inline]
+    pub(crate) fn load_ex_within(
+        &self,
+        pass: &mut VersionPass,
+        place: Place,
+        looks: u32,
+    ) -> (u64, bool)
+        requires memory { pass_home pass.old ≡ memory_id self.now }
+        requires single { (t : ℕ) × IsSingle t (pass_numbers pass.old) × (t < (memory_origin self.now).first) }
+        requires aligned { IsTrue (is_aligned place) }
+        requires inside { place.addr + size_bytes place.size ≤ (memory_origin self.now).size.mem }
+        ensures reserved { OnTrue result.1 ((t : ℕ) → IsSingle t (pass_numbers pass.old) → Sees (memory_origin self.now) t (pass_seen pass.old) (entries_of_operation t (load_watched place result.0)) (pass_seen pass.new)) }
+        ensures missed { OnFalse result.1 ((t : ℕ) → IsSingle t (pass_numbers pass.old) → Sees (memory_origin self.now) t (pass_seen pass.old) (entries_of_operation t (load_missed place result.0)) (pass_seen pass.new)) }
+        ensures fits { result.0 < 256 ^ size_bytes place.size }
+        ensures memory { pass_home pass.new ≡ pass_home pass.old }
+        ensures numbers { pass_numbers pass.new ≡ pass_numbers pass.old }
+    {
+        let target = self.target(place, 0);
+        let linked = load_ex_cell::<Brand>(&self.table.shared, &mut pass.seat, target, looks);
+        let value = take(linked.cell, place);
+        if linked.tag % 2 != 0 {
+            pass.reserved = None;
+            return (value, false);
+        }
+        pass.reserved = Some(Reserved {
+            row: place.row(self.size.granule()),
+            version: linked.tag,
+        });
+        (value, true)
+    }
+
     /// A load-exclusive that waits for nobody, and whether the thread holds a reservation on the row from now on: it does
     /// unless a write of another thread in the class of the row is in flight.
     pub fn load_ex_now(&self, pass: &mut VersionPass, place: Place) -> (u64, bool)
@@ -32,18 +65,7 @@ impl VersionMemory {
         ensures memory { pass_home pass.new ≡ pass_home pass.old }
         ensures numbers { pass_numbers pass.new ≡ pass_numbers pass.old }
     {
-        let target = self.target(place, 0);
-        let linked = load_ex_cell::<Brand>(&self.table.shared, &mut pass.seat, target);
-        let value = take(linked.cell, place);
-        if linked.tag % 2 != 0 {
-            pass.reserved = None;
-            return (value, false);
-        }
-        pass.reserved = Some(Reserved {
-            row: place.row(self.size.granule()),
-            version: linked.tag,
-        });
-        (value, true)
+        self.load_ex_within(pass, place, 0)
     }
 
     /// A store-exclusive of a value below 2 to the 8, 16, 32 or 64 by the place's size, which waits for nobody, and whether it

@@ -14,7 +14,7 @@ ghost use Rattle.shared_memory.specs.Targets.{IsPlace, IsTarget};
 ghost use Rattle.version_memory.specs.Passes.{reserved_after};
 ghost use Rattle.version_memory.specs.Memory.{memory_id, memory_origin, pass_home, pass_numbers, pass_seen, story_history};
 
-use crate::exclusive::{clear_reservation, load_ex_soon};
+use crate::exclusive::clear_reservation;
 use crate::memory::VersionMemory;
 use crate::passes::{Reserved, VersionPass, VersionStory};
 use crate::pauses::{pause, pauses_after};
@@ -29,6 +29,9 @@ use shared_memory::{
 use std::marker::Brand;
 use std::snapshot::Snapshot;
 use std::sync::Wait;
+
+/// How often a load-exclusive looks at its class while a write there is in flight, before it goes on by one look more.
+const LOOKS: u32 = 64;
 
 impl VersionMemory {
     /// The class of a place.
@@ -128,22 +131,10 @@ impl SharedMemory for VersionMemory {
         Ok(())
     }
 
-    // It pauses where store-exclusives of its thread failed of late, waits a while for its class, and then goes on without a
-    // reservation.
+    // It pauses where store-exclusives of its thread failed of late, and waits a while for its class.
     fn load_ex<R: Wait>(&self, rt: &R, pass: &mut VersionPass, place: Place) -> u64 {
         pause(pass.pauses);
-        let target = self.target(place, 0);
-        let linked = load_ex_soon::<Brand>(&self.table.shared, &mut pass.seat, target);
-        let value = take(linked.cell, place);
-        if linked.tag % 2 != 0 {
-            pass.reserved = None;
-            return value;
-        }
-        pass.reserved = Some(Reserved {
-            row: place.row(self.size.granule()),
-            version: linked.tag,
-        });
-        value
+        self.load_ex_within(pass, place, LOOKS).0
     }
 
     // It succeeds exactly where its thread is undisturbed.

@@ -1,6 +1,6 @@
 use Rattle.version_rule.specs.Kept.{origin_of}
 use Rattle.shared_memory.specs.Told.{ask}
-use Rattle.version_memory.proofs.memory.VersionMemory.load_ex_now.Given as goal
+use Rattle.version_memory.proofs.memory.VersionMemory.load_ex_within.Given as goal
 
 abbrev pub ghosts-load_ex_cell : goal.ghosts-load_ex_cell
 ghosts-load_ex_cell a = record { ask = ask (origin_of a.shared.now.key) a.target.place a.target.value }

@@ -1,7 +1,7 @@
 use Rattle.std.proofs.Common.{◌≡◌}
 use Rattle.shared_memory.proofs.Waits.{Waits}
 use Rattle.version_memory.specs.Passes.{IsReady}
-use Rattle.version_memory.proofs.exclusive.watch_soon.Given as goal
+use Rattle.version_memory.proofs.exclusive.watch_within.Given as goal
 
 abbrev pub invariant-loop : goal.invariant-loop
 invariant-loop g l = record {
