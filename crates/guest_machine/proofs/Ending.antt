@@ -15,7 +15,7 @@ use Rattle.guest_thread.specs.Counting.{AreCounts, counts_in}
 use Rattle.guest_thread.specs.End.{IsEndIn}
 use Rattle.guest_thread.specs.Start.{thread_start}
 use Rattle.guest_thread.specs.declared.ends.GuestEnd.{GuestEnd}
-use Rattle.guest_machine.specs.Seats.{first_seat, is_one_of, StandsBy, IsSeated, HaveTurned, IsEndOf, AreEndsOf, HaveStopped}
+use Rattle.guest_machine.specs.Seats.{first_seat, is_one_of, StandsBy, IsSeated, HaveTurned, IsEndOfSeat, AreEndsOfSeats, HaveStopped}
 use Rattle.guest_thread.specs.Ends.{AreEnds}
 use Rattle.guest_machine.specs.declared.seats.Seat.{Seat}
 
@@ -57,18 +57,18 @@ taken all left rest seat front parts =
 
 -- one more, of the thread before them
 pub one_more : (accesses : List Access) (n m : ℕ) (seats : List Seat) (seat : Seat) (end : GuestEnd) (ends : List GuestEnd)
-    → n ≡ m + 1 → n ≤ length seats → seat ≡ get_or seats m seat → IsEndOf accesses m seat end
-    → AreEndsOf accesses n (drop n seats) ends → AreEndsOf accesses m (drop m seats) (end ∷ ends)
+    → n ≡ m + 1 → n ≤ length seats → seat ≡ get_or seats m seat → IsEndOfSeat accesses m seat end
+    → AreEndsOfSeats accesses n (drop n seats) ends → AreEndsOfSeats accesses m (drop m seats) (end ∷ ends)
 one_more accesses n m seats seat end ends next inside read here before =
     let less : m < length seats = omega (arith, next, inside) in
     let split : drop m seats ≡ seat ∷ drop (m + 1) seats = drop_more seats m seat less ∙ ap (λ s. s ∷ drop (m + 1) seats) (sym read) in
-    subst (λ l. AreEndsOf accesses m l (end ∷ ends)) (sym split)
-    (here, subst (λ k. AreEndsOf accesses k (drop k seats) ends) next before)
+    subst (λ l. AreEndsOfSeats accesses m l (end ∷ ends)) (sym split)
+    (here, subst (λ k. AreEndsOfSeats accesses k (drop k seats) ends) next before)
 
 -- ---- the ends of all
 
 -- there are as many as threads
-as_many : (accesses : List Access) (n : ℕ) (seats : List Seat) (ends : List GuestEnd) → AreEndsOf accesses n seats ends → length ends ≡ length seats
+as_many : (accesses : List Access) (n : ℕ) (seats : List Seat) (ends : List GuestEnd) → AreEndsOfSeats accesses n seats ends → length ends ≡ length seats
 as_many accesses n [] [] are = refl
 as_many accesses n [] (end ∷ ends) are = absurd are
 as_many accesses n (seat ∷ seats) [] are = absurd are
@@ -76,22 +76,22 @@ as_many accesses n (seat ∷ seats) (end ∷ ends) are = ap suc (as_many accesse
 
 -- each is that of its thread
 end_at : (accesses : List Access) (n t : ℕ) (seats : List Seat) (ends : List GuestEnd) (other : Seat) (end : GuestEnd)
-    → AreEndsOf accesses n seats ends → slice_get ends t ≡ Some end → (t < length seats) × IsEndOf accesses (n + t) (slice_index_or seats t other) end
+    → AreEndsOfSeats accesses n seats ends → slice_get ends t ≡ Some end → (t < length seats) × IsEndOfSeat accesses (n + t) (slice_index_or seats t other) end
 end_at accesses n t [] [] other end are got = cc
 end_at accesses n t [] (first ∷ ends) other end are got = absurd are
 end_at accesses n t (seat ∷ seats) [] other end are got = absurd are
 end_at accesses n zero (seat ∷ seats) (first ∷ ends) other end are got =
     let same : first ≡ end = cc in
     let number : n ≡ n + 0 = omega arith in
-    (omega arith, subst (λ k. IsEndOf accesses k seat end) number (subst (IsEndOf accesses n seat) same are.0))
+    (omega arith, subst (λ k. IsEndOfSeat accesses k seat end) number (subst (IsEndOfSeat accesses n seat) same are.0))
 end_at accesses n (suc t) (seat ∷ seats) (first ∷ ends) other end are got =
     let rest = end_at accesses (n + 1) t seats ends other end are.1 got in
     let number : n + 1 + t ≡ n + suc t = omega arith in
-    (omega (arith, rest.0), subst (λ k. IsEndOf accesses k (slice_index_or seats t other) end) number rest.1)
+    (omega (arith, rest.0), subst (λ k. IsEndOfSeat accesses k (slice_index_or seats t other) end) number rest.1)
 
 -- a stopped thread's end is its end in the history
 end_in : (program : Program) (size : Numbers) (budget : ℕ) (accesses : List Access) (live : List ℕ) (t : ℕ) (seat : Seat) (end : GuestEnd)
-    → IsSeated program size budget accesses live t seat → IsEndOf accesses t seat end
+    → IsSeated program size budget accesses live t seat → IsEndOfSeat accesses t seat end
     → IsEndIn program budget (thread_start program size size.threads t) (history_of accesses) end
 end_in program size budget accesses live t seat end seated is =
     let start : Machine = thread_start program size size.threads t in
@@ -106,7 +106,7 @@ end_in program size budget accesses live t seat end seated is =
     }
 
 pub are_ends : (program : Program) (size : Numbers) (seed budget x : ℕ) (live : List ℕ) (seats : List Seat) (memory : Monitor) (accesses : List Access) (ends : List GuestEnd)
-    → HaveTurned program size seed budget x live seats memory accesses → AreEndsOf accesses 0 seats ends → AreEnds program size budget (history_of accesses) ends
+    → HaveTurned program size seed budget x live seats memory accesses → AreEndsOfSeats accesses 0 seats ends → AreEnds program size budget (history_of accesses) ends
 are_ends program size seed budget x live seats memory accesses ends turned are = record {
   many = as_many accesses 0 seats ends are ∙ turned.many;
   numbers = λ t end got. (at t end got).1.thread;
@@ -117,8 +117,8 @@ are_ends program size seed budget x live seats memory accesses ends turned are =
 }
   where
     at : (t : ℕ) (end : GuestEnd) → slice_get ends t ≡ Some end
-        → (t < length seats) × IsEndOf accesses t (slice_index_or seats t (first_seat program size 0)) end
+        → (t < length seats) × IsEndOfSeat accesses t (slice_index_or seats t (first_seat program size 0)) end
     at t end got =
         let here = end_at accesses 0 t seats ends (first_seat program size 0) end are got in
         let number : 0 + t ≡ t = omega arith in
-        (here.0, subst (λ k. IsEndOf accesses k (slice_index_or seats t (first_seat program size 0)) end) number here.1)
+        (here.0, subst (λ k. IsEndOfSeat accesses k (slice_index_or seats t (first_seat program size 0)) end) number here.1)

@@ -68,7 +68,7 @@ abbrev pub left_of : Turns → ℕ
 left_of turns = most_accesses - length turns.accesses.items + length turns.live.items
 
 -- the end of a thread that has stopped: its stop, its steps, its output, and the counts of its accesses
-pub record IsEndOf (accesses : List Access) (t : ℕ) (seat : Seat) (end : GuestEnd) : Type 0 where
+pub record IsEndOfSeat (accesses : List Access) (t : ℕ) (seat : Seat) (end : GuestEnd) : Type 0 where
   pub thread : end.thread ≡ t
   pub stopped : seat.stop ≡ Some end.stop
   pub steps : end.steps ≡ seat.guest.steps
@@ -76,11 +76,11 @@ pub record IsEndOf (accesses : List Access) (t : ℕ) (seat : Seat) (end : Guest
   pub counts : AreCounts t (history_of accesses) (counts_in end)
 
 -- the ends of threads from one on, each of which has stopped
-abbrev pub AreEndsOf : List Access → ℕ → List Seat → List GuestEnd → Type 0
-AreEndsOf accesses t [] [] = Unit {0}
-AreEndsOf accesses t [] (end ∷ ends) = ⊥
-AreEndsOf accesses t (seat ∷ seats) [] = ⊥
-AreEndsOf accesses t (seat ∷ seats) (end ∷ ends) = IsEndOf accesses t seat end × AreEndsOf accesses (t + 1) seats ends
+abbrev pub AreEndsOfSeats : List Access → ℕ → List Seat → List GuestEnd → Type 0
+AreEndsOfSeats accesses t [] [] = Unit {0}
+AreEndsOfSeats accesses t [] (end ∷ ends) = ⊥
+AreEndsOfSeats accesses t (seat ∷ seats) [] = ⊥
+AreEndsOfSeats accesses t (seat ∷ seats) (end ∷ ends) = IsEndOfSeat accesses t seat end × AreEndsOfSeats accesses (t + 1) seats ends
 
 -- all of some threads have stopped
 abbrev pub HaveStopped : List Seat → Type 0

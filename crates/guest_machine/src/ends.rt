@@ -1,6 +1,6 @@
 //! How the threads of a trace ended.
 ghost use Rattle.std.specs.Prelude.{◌≤◌, IfOk, IsSome, length};
-ghost use Rattle.guest_machine.specs.Seats.{AreEndsOf, HaveStopped, IsEndOf};
+ghost use Rattle.guest_machine.specs.Seats.{AreEndsOfSeats, HaveStopped, IsEndOfSeat};
 
 use crate::seats::Seat;
 use guest_thread::{GuestEnd, counts_of};
@@ -15,7 +15,7 @@ pub(crate) fn ends_of(
 ) -> Result<Vec<GuestEnd>, AllocError>
     requires stopped { HaveStopped seats.items }
     requires few { length seats.items ≤ 16 }
-    ensures { IfOk result (λ ends. AreEndsOf accesses.now 0 seats.items ends.items) }
+    ensures { IfOk result (λ ends. AreEndsOfSeats accesses.now 0 seats.items ends.items) }
 {
     let mut ends = Vec::with_capacity(alloc, seats.len())?;
     while let Some(seat) = seats.pop() {
@@ -27,7 +27,7 @@ pub(crate) fn ends_of(
 /// The end of a thread that has stopped.
 fn end_of(seat: Seat, thread: u32, accesses: &[Access]) -> GuestEnd
     requires { IsSome seat.stop }
-    ensures { IsEndOf accesses.now thread seat result }
+    ensures { IsEndOfSeat accesses.now thread seat result }
 {
     let counts = counts_of(accesses, thread);
     let stop = seat.stop.unwrap();

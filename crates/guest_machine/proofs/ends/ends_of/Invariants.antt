@@ -1,13 +1,13 @@
 -- The last threads' ends, whose seats are no longer there.
 use Rattle.std.proofs.Common.{◌≡◌, ◌≤◌, take, drop, length}
-use Rattle.guest_machine.specs.Seats.{AreEndsOf}
+use Rattle.guest_machine.specs.Seats.{AreEndsOfSeats}
 use Rattle.guest_machine.proofs.ends.ends_of.Given as goal
 
 abbrev pub invariant-loop-seat : goal.invariant-loop-seat
 invariant-loop-seat l = record {
   front : l.seats.items ≡ take (length l.seats.items) l.fn.seats.items;
   inside : length l.seats.items ≤ length l.fn.seats.items;
-  ends : AreEndsOf l.accesses (length l.seats.items) (drop (length l.seats.items) l.fn.seats.items) l.ends.items;
+  ends : AreEndsOfSeats l.accesses (length l.seats.items) (drop (length l.seats.items) l.fn.seats.items) l.ends.items;
 }
 
 abbrev pub decreases-loop-seat : goal.decreases-loop-seat
