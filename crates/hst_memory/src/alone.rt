@@ -171,7 +171,7 @@ fn test_tag<J: Asks>(shared: &HstShared, seat: &mut HstSeat, target: Target, nam
     shared.load::<Test<J>>(seat, target.tag)
 }
 
-/// The cell after one try of a store-exclusive that has begun to change it: where it is what was expected, it was changed.
+/// The cell as a store-exclusive that has begun found it; where that is what was expected, the cell was changed.
 #[inline]
 fn try_change_alone<J: Asks>(
     shared: &HstShared,

@@ -123,7 +123,7 @@ fn set_tag<J: Asks>(
     shared.store::<Tag<J>>(seat, tag, name);
 }
 
-/// Whether a store was written, where its cell still was what was expected. Otherwise the cell is another.
+/// The cell as a store that has begun found it; where that is what was expected, the store was written.
 #[inline]
 fn try_change<J: Asks>(
     shared: &HstShared,

@@ -6,7 +6,8 @@ use atomic_table::Closed;
 use std::alloc::Global;
 use std::marker::Model;
 
-/// The cells of a memory that was closed, eight bytes each, from address 0 up. A contract sees them as a list.
+/// The cells of a memory that was closed, from address 0 up. A contract sees them as a list; its elements are cells of eight
+/// bytes, whatever the granule.
 pub struct Rows {
     closed: Closed<(), Global>,
     first: usize,
@@ -46,7 +47,7 @@ impl Rows {
         self.count
     }
 
-    /// The cell of this index, from 0 up to the count.
+    /// The cell of this index, from 0 up and below the count.
     pub fn row(&self, i: u32) -> u64
         requires { i < length self.now }
         ensures { result ≡ slice_index self.now i }

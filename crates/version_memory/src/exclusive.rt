@@ -64,8 +64,8 @@ fn try_watch<J: Asks>(shared: &VersionShared, seat: &mut VersionSeat, target: Ta
     shared.load::<TryWatch<J>>(seat, target.tag)
 }
 
-/// A load-exclusive begins, once no write of its class is in flight; or after so many looks by one look more, without a
-/// reservation where one is in flight still.
+/// A load-exclusive begins once it finds no write of its class in flight, and after so many looks at the next one in any case,
+/// without a reservation where a write is in flight then too.
 #[inline]
 fn watch_within<J: Asks>(
     shared: &VersionShared,

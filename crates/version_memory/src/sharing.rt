@@ -30,7 +30,7 @@ use std::marker::Brand;
 use std::snapshot::Snapshot;
 use std::sync::Wait;
 
-/// How often a load-exclusive looks at its class while a write there is in flight, before it goes on by one look more.
+/// How often a load-exclusive looks at its class before the look at which it begins in any case.
 const LOOKS: u32 = 64;
 
 impl VersionMemory {
@@ -131,7 +131,8 @@ impl SharedMemory for VersionMemory {
         Ok(())
     }
 
-    // It pauses where store-exclusives of its thread failed of late, and waits a while for its class.
+    // It pauses where store-exclusives of its thread failed of late, waits a while for its class, and then goes on, without a
+    // reservation where a write of the class is in flight still.
     fn load_ex<R: Wait>(&self, rt: &R, pass: &mut VersionPass, place: Place) -> u64 {
         pause(pass.pauses);
         self.load_ex_within(pass, place, LOOKS).0
