@@ -1,12 +1,10 @@
 -- The ends of threads that have all stopped.
-use Rattle.std.proofs.Common.{◌≡◌, ℕ, zero, suc, ◌+◌, ◌<◌, ◌≤◌, false, List, [], ◌∷◌, ◌++◌, drop, take, get_or, length, Option, Some, None, IsSome, slice_index_or, slice_get, refl, sym, ◌∙◌, ap, subst, arith}
-use Rattle.std.specs.Option.{is_none}
+use Rattle.std.proofs.Common.{◌≡◌, ℕ, zero, suc, ◌+◌, ◌<◌, ◌≤◌, List, [], ◌∷◌, ◌++◌, drop, take, get_or, length, Some, slice_index_or, slice_get, refl, sym, ◌∙◌, ap, subst, arith}
 use Rattle.std.proofs.lemmas.List.{drop_more, length_push, get_or_push, get_or-take, take_at, take-take}
 use Rattle.llsc_base.specs.Images.{Program}
 use Rattle.llsc_base.specs.Sizes.{Numbers}
 use Rattle.history.specs.Monitor.{Monitor}
 use Rattle.history.specs.declared.entry.Access.{Access}
-use Rattle.a32_instr.specs.declared.outside.Stop.{Stop}
 use Rattle.a32_step.specs.Machine.{Machine}
 use Rattle.guest_calls.specs.Run.{Ends}
 use Rattle.history.specs.Accesses.{history_of}
@@ -15,22 +13,9 @@ use Rattle.guest_thread.specs.Counting.{AreCounts, counts_in}
 use Rattle.guest_thread.specs.End.{IsEndIn}
 use Rattle.guest_thread.specs.Start.{thread_start}
 use Rattle.guest_thread.specs.declared.ends.GuestEnd.{GuestEnd}
-use Rattle.guest_machine.specs.Seats.{first_seat, is_one_of, StandsBy, IsSeated, HaveTurned, IsEndOfSeat, AreEndsOfSeats, HaveStopped}
+use Rattle.guest_machine.specs.Seats.{first_seat, StandsBy, IsSeated, HaveTurned, IsEndOfSeat, AreEndsOfSeats}
 use Rattle.guest_thread.specs.Ends.{AreEnds}
 use Rattle.guest_machine.specs.declared.seats.Seat.{Seat}
-
--- ---- all have stopped
-
-some_is : (stop : Option Stop) → is_none stop ≡ false → IsSome stop
-some_is None is = cc
-some_is (Some stop) is = refl
-
-pub have_stopped : (program : Program) (size : Numbers) (seed budget x : ℕ) (live : List ℕ) (seats : List Seat) (memory : Monitor) (accesses : List Access)
-    → HaveTurned program size seed budget x live seats memory accesses → live ≡ [] → HaveStopped seats
-have_stopped program size seed budget x live seats memory accesses turned over t other inside =
-    let known : t < size.threads = omega (arith, inside, turned.many) in
-    some_is (slice_index_or seats t other).stop
-    (sym (turned.seats t other known).tells ∙ ap (λ l. is_one_of l t) over)
 
 -- ---- the ends so far, from the last thread down
 

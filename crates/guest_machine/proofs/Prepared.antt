@@ -1,13 +1,13 @@
 -- The jobs of all threads are made one after another.
-use Rattle.std.proofs.Common.{◌≡◌, ◌≢◌, ◌⊎◌, inl, inr, ℕ, zero, suc, ◌+◌, ◌<◌, ◌≤◌, ◌==◌, ◌&&◌, not, nat_lt, arith, Bool, true, false, List, [], ◌∷◌, ◌++◌, refl, sym, subst, ap, ◌∙◌}
+use Rattle.std.proofs.Common.{◌≡◌, ◌≢◌, ◌⊎◌, inl, inr, ℕ, zero, suc, ◌+◌, ◌<◌, ◌≤◌, ◌==◌, ◌&&◌, not, arith, Bool, true, false, List, [], ◌∷◌, ◌++◌, refl, sym, subst, ap, ◌∙◌}
 use Rattle.std.specs.List.{range_with_len}
-use Rattle.std.proofs.lemmas.Bool.{eq-eqb, lt-ltb, ltb-true, ne_eqb}
+use Rattle.std.proofs.lemmas.Bool.{eq-eqb, ne_eqb}
 use Rattle.std.proofs.lemmas.List.{map-append}
 use Rattle.llsc_base.specs.Images.{Program}
 use Rattle.history.specs.declared.entry.Entry.{Entry}
 use Rattle.atomic_table.specs.Seated.{TableId}
 use Rattle.shared_memory.specs.Origin.{Origin}
-use Rattle.shared_memory.specs.Seen.{IsOneOf, IsSingle, all_but}
+use Rattle.shared_memory.specs.Seen.{IsOneOf, all_but}
 use Rattle.guest_machine.specs.Crews.{AreFresh, IsFresh, threads_of}
 use Rattle.guest_machine.specs.declared.crews.Job.{Job}
 
@@ -17,17 +17,6 @@ pub record AreLeft (count t : ℕ) (numbers : ℕ → Bool) : Type 0 where
   pub zeroth : IsOneOf 0 numbers
   pub later : (u : ℕ) → t ≤ u → u < count → IsOneOf u numbers
   pub only : (u : ℕ) → IsOneOf u numbers → (u < count) × ((u ≡ 0) ⊎ (t ≤ u))
-
-pub all_left : (count : ℕ) (numbers : ℕ → Bool) → 0 < count → ((t : ℕ) → numbers t ≡ nat_lt t count) → AreLeft count 1 numbers
-all_left count numbers some are = record {
-  zeroth = are 0 ∙ lt-ltb 0 count some;
-  later = λ u above below. are u ∙ lt-ltb u count below;
-  only = λ u is. (ltb-true u count (sym (are u) ∙ is), zero_or u);
-}
-  where
-    zero_or : (u : ℕ) → (u ≡ 0) ⊎ (1 ≤ u)
-    zero_or zero = inl refl
-    zero_or (suc u) = inr (omega arith)
 
 and_both : (a b : Bool) → a ≡ true → b ≡ false → (a && not b) ≡ true
 and_both true false is isnt = refl
@@ -64,13 +53,6 @@ one_less count t old new above is left = record {
       where
         true_false : true ≡ false → ⊥
         true_false same = cc
-
-pub single_left : (count : ℕ) (numbers : ℕ → Bool) → AreLeft count count numbers → IsSingle 0 numbers
-single_left count numbers left = record { has = left.zeroth; only = λ u has. zero_is u (left.only u has) }
-  where
-    zero_is : (u : ℕ) → (u < count) × ((u ≡ 0) ⊎ (count ≤ u)) → u ≡ 0
-    zero_is u (below, inl is) = is
-    zero_is u (below, inr above) = absurd (omega (arith, below, above))
 
 module _ {P : Type 0} (home : P → TableId) (numbers : P → ℕ → Bool) (seen : P → List Entry) (mem : TableId) (origin : Origin) (program : Program) where
   fresh_more : (jobs : List (Job P)) (job : Job P) → AreFresh home numbers seen mem origin program jobs → IsFresh home numbers seen mem origin program job

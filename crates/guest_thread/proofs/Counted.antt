@@ -1,6 +1,5 @@
 -- The counts of a thread after one more access.
-use Rattle.std.proofs.Common.{◌≡◌, ◌≢◌, ℕ, ◌+◌, ◌==◌, true, false, List, [], ◌∷◌, ◌++◌, sum_by, refl, sym, ap, ◌∙◌, zero-add, eq-eqb, append-nil}
-use Rattle.std.proofs.lemmas.Bool.{ne_eqb}
+use Rattle.std.proofs.Common.{◌≡◌, ℕ, ◌+◌, ◌==◌, true, List, [], ◌∷◌, ◌++◌, sum_by, refl, sym, ap, ◌∙◌, zero-add, eq-eqb}
 use Rattle.std.proofs.lemmas.List.Sums.{sum_by-append}
 use Rattle.history.specs.Entry.{thread_of}
 use Rattle.history.specs.Parts.{entries_of}
@@ -29,20 +28,3 @@ own_counted t history entry old new own were reads writes fails = record {
   writes = writes ∙ ap (λ n. n + writes_in entry) were.writes ∙ sym (own_more writes_in t history entry own);
   fails = fails ∙ ap (λ n. n + fails_in entry) were.fails ∙ sym (own_more fails_in t history entry own);
 }
-
--- another's doesn't
-other_same : (t : ℕ) (history : List Entry) (entry : Entry) → thread_of entry ≢ t → entries_of t (history ++ entry ∷ []) ≡ entries_of t history
-other_same t history entry another =
-    let not_mine : (thread_of entry == t) ≡ false = ne_eqb (thread_of entry) t another in
-    let last : entries_of t (entry ∷ []) ≡ [] = rw not_mine refl in
-    entries_of-append t history (entry ∷ []) ∙ ap (λ l. entries_of t history ++ l) last ∙ append-nil (entries_of t history)
-
-pub other_counted : (t : ℕ) (history : List Entry) (entry : Entry) (counts : Counts) → thread_of entry ≢ t → AreCounts t history counts
-    → AreCounts t (history ++ entry ∷ []) counts
-other_counted t history entry counts another were =
-    let same = sym (other_same t history entry another) in
-    record {
-      reads = were.reads ∙ ap (sum_by reads_in) same;
-      writes = were.writes ∙ ap (sum_by writes_in) same;
-      fails = were.fails ∙ ap (sum_by fails_in) same;
-    }

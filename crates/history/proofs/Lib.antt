@@ -12,6 +12,5 @@ pub mod Legality
 pub mod SmallMemory
 pub mod SmallHistories
 pub mod Classes
-pub mod Pushes
 pub mod Exclusives
 pub mod Unmarked

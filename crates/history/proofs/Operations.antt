@@ -250,7 +250,3 @@ AreStaged-AreOperations t es h = (rejoin t rests es [] h.finished.operations h.m
 
 pub last_stage-AreFinished : (t : ℕ) (es : List Entry) → AreFinished t es → last_stage rests es ≡ rests
 last_stage-AreFinished t es h = (rejoin t rests es [] h.operations [] refl (append-nil es ∙ h.are)).ends refl
-
--- finished entries are operations
-pub AreOperations-AreFinished : (t : ℕ) (es : List Entry) → AreFinished t es → AreOperations t es
-AreOperations-AreFinished t es h = record { missing = []; finished = record { operations = h.operations; are = append-nil es ∙ h.are } }

@@ -2,16 +2,10 @@
 use Rattle.std.proofs.Common.{◌≡◌, ◌==◌, ℕ, ◌<◌, false, true, Option, Some, None, refl, sym, ◌∙◌, arith, lit<, lit≤}
 use Rattle.std.proofs.lemmas.Bool.{eq-eqb}
 use Rattle.history.specs.ArmLegal.{IsSound}
-use Rattle.history.specs.Worked.{beside, last_byte, next_row, word}
+use Rattle.history.specs.Worked.{next_row, word}
 
 pub sound_word : (t value : ℕ) → t < 2 → value < 10 → IsSound 2 32 t word value
 sound_word t value known small = record { known = known; aligned = refl; inside = lit≤ tt; fits = omega arith }
-
-pub sound_beside : (t : ℕ) → t < 2 → IsSound 2 32 t beside 1
-sound_beside t known = record { known = known; aligned = refl; inside = lit≤ tt; fits = lit< tt }
-
-pub sound_last_byte : (t : ℕ) → t < 2 → IsSound 2 32 t last_byte 1
-sound_last_byte t known = record { known = known; aligned = refl; inside = lit≤ tt; fits = lit< tt }
 
 pub sound_next_row : (t : ℕ) → t < 2 → IsSound 2 32 t next_row 1
 sound_next_row t known = record { known = known; aligned = refl; inside = lit≤ tt; fits = lit< tt }

@@ -1,13 +1,12 @@
 -- Memory as the cells that it is made of: its values, and what a store does to them.
-use Rattle.std.proofs.Common.{◌≡◌, ◌≢◌, ℕ, zero, suc, ◌+◌, ◌-◌, ◌*◌, ◌/◌, ◌%◌, ◌^◌, ◌<◌, ◌≤◌, true, List, [], ◌∷◌, ◌++◌, length, take, drop, slice_index, slice_set, refl, sym, ap, ◌∙◌, arith, length-append, length-take, length-drop, length-set, inl, inr}
+use Rattle.std.proofs.Common.{◌≡◌, ◌≢◌, ℕ, zero, suc, ◌+◌, ◌-◌, ◌*◌, ◌/◌, ◌%◌, ◌<◌, ◌≤◌, true, List, [], ◌∷◌, ◌++◌, length, take, drop, slice_index, slice_set, refl, sym, ap, ◌∙◌, arith, length-append, length-take, length-drop, length-set, inl, inr}
 use Rattle.std.proofs.lemmas.List.{get_or-take, get_or-drop, get_or_past, get_or-set_same, get_or-set_other, ext_get_or, append-nil, drop_at, drop-drop, take_at}
 use Rattle.std.proofs.lemmas.Grind.{flat_map-append}
 use Rattle.std.proofs.lemmas.Bool.{cases_eq, cases_lt}
-use Rattle.std.proofs.Math.Nat.{mod-eq_of_lt}
 use Rattle.llsc_base.specs.Memory.{bytes_of, cell_of, is_aligned, number_of, size_bytes, stored, value_at}
 use Rattle.llsc_base.specs.declared.access.Place.{Place}
-use Rattle.llsc_base.proofs.Bytes.{length-bytes_of, number_of-bytes_of, length-stored}
-use Rattle.llsc_base.proofs.Stores.{bytes_of-byte, stored-before, stored-within, stored-past}
+use Rattle.llsc_base.proofs.Bytes.{length-bytes_of, length-stored}
+use Rattle.llsc_base.proofs.Stores.{stored-before, stored-within, stored-past}
 use Rattle.llsc_base.proofs.Cells.{addr-cell_of, is_aligned-in_cell, cell_of-lt}
 use Rattle.row_bytes.specs.Cell.{place_in_cell, value_in_cell, cell_with, cell_at, bytes_of_cells}
 use Rattle.row_bytes.proofs.Numbers.{bytes_of-number_of}
@@ -146,12 +145,6 @@ bytes_of_cells-part (cell ∷ cells) (suc index) h =
     ∙ ap (drop (8 * index)) (drop_at (bytes_of 8 cell) (bytes_of_cells cells) 8 (length-bytes_of 8 cell)) in
     rw (more, past) (bytes_of_cells-part cells index (omega arith))
 
--- a cell of the memory that cells make is the one in the list
-pub cell_at-bytes_of_cells : (cells : List ℕ) (index : ℕ) → index < length cells → slice_index cells index < 2 ^ 64
-    → cell_at (bytes_of_cells cells) index ≡ slice_index cells index
-cell_at-bytes_of_cells cells index h small =
-    rw (bytes_of_cells-part cells index h) (number_of-bytes_of 8 (slice_index cells index) ∙ mod-eq_of_lt small)
-
 bytes_of_cells-at : (cells : List ℕ) (k : ℕ) → k < 8 * length cells
     → slice_index (bytes_of_cells cells) k ≡ slice_index (bytes_of 8 (slice_index cells (k / 8))) (k % 8)
 bytes_of_cells-at cells k h =
@@ -159,13 +152,6 @@ bytes_of_cells-at cells k h =
     ap (slice_index (bytes_of_cells cells)) (sym here)
     ∙ sym (cell_bytes-at (bytes_of_cells cells) (k / 8) (k % 8) (omega arith))
     ∙ ap (λ (xs : List ℕ). slice_index xs (k % 8)) (bytes_of_cells-part cells (k / 8) (omega arith))
-
--- every byte of it is one
-pub bytes_of_cells-byte : (cells : List ℕ) (k : ℕ) → slice_index (bytes_of_cells cells) k < 256
-bytes_of_cells-byte cells k = elim (cases_lt k (8 * length cells)) [
-  | inl below ↦ rw (bytes_of_cells-at cells k below) (bytes_of-byte 8 (slice_index cells (k / 8)) (k % 8))
-  | inr past ↦ rw (get_or_past (bytes_of_cells cells) k 0 (omega (arith, length-bytes_of_cells cells))) (omega arith)
-]
 
 -- the value of a place is that of its cell in the list
 pub value_at-bytes_of_cells : (cells : List ℕ) (place : Place) → is_aligned place ≡ true

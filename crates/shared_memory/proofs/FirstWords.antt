@@ -1,19 +1,9 @@
 -- The words and the marks of a memory that is made, one after another.
-use Rattle.std.proofs.Common.{◌≡◌, ◌+◌, ◌<◌, ◌≤◌, ℕ, zero, suc, Bool, true, false, List, [], ◌∷◌, ◌++◌, length, get_or, nat_lt, replicate, set, arith, inl, inr, ap, refl, sym, ◌∙◌, get_or-set_same, get_or-set_other}
+use Rattle.std.proofs.Common.{◌≡◌, ◌+◌, ◌<◌, ℕ, zero, suc, Bool, true, false, List, [], ◌∷◌, ◌++◌, length, get_or, nat_lt, replicate, set, arith, inl, inr, ap, refl, sym, ◌∙◌, get_or-set_same, get_or-set_other}
 use Rattle.std.proofs.lemmas.Bool.{cases_eq, cases_lt, le-ltb, lt-ltb}
 use Rattle.std.proofs.Math.ListN.{get_or-append}
 use Rattle.std.proofs.Math.Seq.{get_or-append_seam}
 use Rattle.shared_memory.specs.Passes.{marked}
-
--- one more word, of which so many are known
-pub word-more : (xs : List ℕ) (y : ℕ) (f : ℕ → ℕ) (n : ℕ) → length xs ≡ n → ((k : ℕ) → k < n → get_or xs k 0 ≡ f k) → y ≡ f n
-    → (k : ℕ) → k < n + 1 → get_or (xs ++ y ∷ []) k 0 ≡ f k
-word-more xs y f n long before new k h = elim (cases_lt k n) [
-  | inl below ↦ get_or-append xs (y ∷ []) 0 k (omega arith) ∙ before k below
-  | inr last ↦
-      let is : k ≡ n = omega arith in
-      ap (λ (j : ℕ). get_or (xs ++ y ∷ []) j 0) (is ∙ sym long) ∙ get_or-append_seam xs y [] 0 ∙ new ∙ ap f (sym is)
-]
 
 pub word-kept : (xs : List ℕ) (y k : ℕ) → k < length xs → get_or (xs ++ y ∷ []) k 0 ≡ get_or xs k 0
 word-kept xs y k h = get_or-append xs (y ∷ []) 0 k h
@@ -42,21 +32,4 @@ mark-more has t h before k = elim (cases_eq k t) [
     | inl below ↦ lt-ltb k t below ∙ sym (lt-ltb k (t + 1) (omega arith))
     | inr above ↦ le-ltb k t above ∙ sym (le-ltb k (t + 1) (omega arith))
   ])
-]
-
-marked-here : (n t : ℕ) → t < n → marked (replicate n true) t ≡ true
-marked-here zero t h = absurd (omega arith)
-marked-here (suc n) zero h = refl
-marked-here (suc n) (suc t) h = marked-here n t (omega arith)
-
-marked-past : (n t : ℕ) → n ≤ t → marked (replicate n true) t ≡ false
-marked-past zero t h = refl
-marked-past (suc n) zero h = absurd (omega arith)
-marked-past (suc n) (suc t) h = marked-past n t (omega arith)
-
--- the numbers of the first pass
-pub marked-first : (n t : ℕ) → marked (replicate n true) t ≡ nat_lt t n
-marked-first n t = elim (cases_lt t n) [
-  | inl below ↦ marked-here n t below ∙ sym (lt-ltb t n below)
-  | inr above ↦ marked-past n t above ∙ sym (le-ltb t n above)
 ]

@@ -1,8 +1,8 @@
 -- A store-exclusive succeeds exactly where its thread was undisturbed before the entry that decided it.
-use Rattle.std.proofs.Common.{◌≡◌, ℕ, ◌/◌, ◌*◌, ◌<◌, true, [], ◌∷◌, subst, arith}
+use Rattle.std.proofs.Common.{◌≡◌, ℕ, ◌/◌, true, [], ◌∷◌, subst}
 use Rattle.llsc_base.specs.declared.access.Place.{Place}
 use Rattle.history.specs.declared.entry.Cause.{Cause}
-use Rattle.history.specs.declared.entry.Cause.TheVariants.{Absent, Lost, Limit}
+use Rattle.history.specs.declared.entry.Cause.TheVariants.{Absent, Lost}
 use Rattle.history.specs.declared.entry.Entry.TheVariants.{Write, Fail, Begin, End}
 use Rattle.shared_memory.specs.Origin.{Origin}
 use Rattle.shared_memory.proofs.Fronts.{front-all}
@@ -12,7 +12,7 @@ use Rattle.version_rule.specs.declared.hands.Hand.{Hand}
 use Rattle.version_rule.specs.Exact.{IsUndisturbed}
 use Rattle.version_rule.specs.Hands.{hand}
 use Rattle.shared_memory.specs.Told.{Goes, ask}
-use Rattle.version_rule.specs.Told.{Decides, HasLost, IsDisturbed, IsUndisturbedAt, Mine}
+use Rattle.version_rule.specs.Told.{Decides, IsDisturbed, IsUndisturbedAt, Mine}
 use Rattle.shared_memory.proofs.Sequences.{goes-then_by}
 use Rattle.version_memory.specs.Exact.{HasFailedAt}
 use Rattle.version_memory.specs.Stands.{IsStamped}
@@ -31,24 +31,9 @@ module _ (origin : Origin) (p : Place) (value : ℕ) (a b : Mine) where
   pub failed-absent : Decides origin a (Fail a.0.lead p value Absent ∷ []) (IsDisturbed (ask origin p value) a.0.lead) (hand Rest Nothing) b → HasFailed origin p value a b
   failed-absent d = failed-by Absent (λ h. let f : ⊥ = cc in f) d
 
-  pub failed-limit : Decides origin a (Fail a.0.lead p value Limit ∷ []) (IsDisturbed (ask origin p value) a.0.lead) (hand Rest Nothing) b → HasFailed origin p value a b
-  failed-limit d = failed-by Limit (λ h. let f : ⊥ = cc in f) d
-
-  pub failed-lost : Decides origin a (Fail a.0.lead p value Lost ∷ []) (HasLost (ask origin p value) a.0.lead) (hand Rest Nothing) b → HasFailed origin p value a b
-  failed-lost d = record {
-    cause = Lost;
-    goes = d.goes;
-    exact = stands-decides origin a b (Fail a.0.lead p value Lost) (HasLost (ask origin p value) a.0.lead) _ _ d (λ l h. h.disturbed);
-    steady = λ _. stands-decides origin a b (Fail a.0.lead p value Lost) (HasLost (ask origin p value) a.0.lead) _ _ d (λ l h. h.overtaken);
-  }
-
   -- the same, of the thread by its number
   pub failed-at : (t : ℕ) → a.0.lead ≡ t → HasFailed origin p value a b → HasFailedAt origin.size t p value a.0.seen b.0.seen
   failed-at t same f = subst (λ (u : ℕ). HasFailedAt origin.size u p value a.0.seen b.0.seen) same (record { cause = f.cause; exact = f.exact; steady = f.steady })
-
-  -- one that has begun takes the class below twice its limit
-  pub room-won : (version : ℕ) (h : Hand) → Decides origin a (Begin a.0.lead p ∷ []) (IsUndisturbedAt (ask origin p value) a.0.lead version) h b → version < 2 * origin.size.limit
-  room-won version h d = let is = d.fact.version_is in let room = d.fact.undisturbed.room in omega arith
 
   module _ (c : Mine) where
     pub stored-ex : (version : ℕ) → Decides origin a (Begin a.0.lead p ∷ []) (IsUndisturbedAt (ask origin p value) a.0.lead version) (hand (Claimed p version true) Nothing) b

@@ -23,7 +23,7 @@ use Rattle.version_rule.specs.Hands.{class_at, hand, reserve_after}
 use Rattle.version_rule.specs.Knowledge.{IsAt, Knows}
 use Rattle.shared_memory.specs.Layout.{cell_word, tag_word}
 use Rattle.version_rule.specs.Kept.{IsLaid, Kept, KeptBy, origin_of}
-use Rattle.shared_memory.specs.Told.{Goes, ask, loaded, looked_at}
+use Rattle.shared_memory.specs.Told.{Goes, ask, loaded}
 use Rattle.version_rule.specs.Told.{Decides, Mine, changed, claimed, released, tag_found, taken}
 use Rattle.version_rule.proofs.Classes.{IsOrderly}
 use Rattle.version_rule.proofs.Facts.{as-found, cell-below, cell-is, known, sound, spent, tag-is, writes-is}
@@ -55,19 +55,6 @@ module _ (plan : Plan) where
             (moves-one plan s.words s.views k seat v at single e refl may tt s.words v.doing after
             (laid-same plan.size s.words k.standing (joined plan.size k.standing e) refl refl k.laid)),
         told-one plan s.words s.views k seat v at single e refl may tt v.doing me.1 after,
-      )
-
-  -- a load that is no access
-  pub looks : (slots seat : ℕ) (me : Mine) (i : ℕ) (p : Place) (value : ℕ) → IsSingle me.0.lead (marked me.0.numbers)
-      → Allows (KeptBy plan) slots seat me i (λ n. n) (looked_at (ask (origin_of plan) p value) (step slots i 0 0 none) me)
-  looks slots seat me i p value single s k long at small =
-      let v = me.0 in
-      let knows = known plan s.words s.views k seat v at single in (
-        moved v k.history [] v.doing,
-        keeps,
-        tt,
-        as-found plan s.words i (set s.views seat (moved v k.history [] v.doing)) (moves-none plan s.words s.views k seat v at single s.words v.doing knows k.laid),
-        told-none plan s.words s.views k seat v at single v.doing me.1 knows,
       )
 
   -- a load of a tag
