@@ -3,7 +3,7 @@
 //! How it goes is told at [`VersionMemory`]; its steps, and what they keep, are those of `version_rule`. Each step is a function
 //! with one atomic operation. `plain` has those of loads and stores: `load_cell`; `look_at_tag`, `claim`, `take_cell`,
 //! `change_cell` and `release`, of which `store_cell` is made. `exclusive` has those of exclusive accesses: `try_watch`, `watch`
-//! and `read_ex`, of which `load_ex_cell` and `load_ex_soon` are made; `claim_ex`, with which `store_ex_cell` begins, and
+//! and `read_ex`, of which `load_ex_cell` is made; `claim_ex`, with which `store_ex_cell` begins, and
 //! `fail_limited`; `fail_absent`, and CLREX as `clear_reservation`. `stamped` has the three looks of a stamped load. `seats`
 //! splits and joins, `making` makes a memory, and `pauses` says how long a thread waits whose store-exclusives failed.
 //!
