@@ -1,6 +1,7 @@
 pub mod FirstLine
 pub mod CutTexts
 pub mod LineLabels
+pub mod SharedFronts
 pub mod FirstPlaces
 pub mod SortedPlaces
 pub mod FoundPlaces

@@ -1,5 +1,5 @@
 //! Where the labels of a text stand.
-ghost use Rattle.std.specs.Prelude.{◌≡◌, ◌∷◌, [], None, drop, length};
+ghost use Rattle.std.specs.Prelude.{◌≡◌, ◌≤◌, ◌∷◌, [], None, drop, length};
 ghost use Rattle.std.specs.Cmp.Lexicographic.{slice_cmp};
 ghost use Rattle.std.specs.Ordering.{nat_cmp};
 ghost use Rattle.a32_forms.specs.Cuts.{before_code};
@@ -37,12 +37,31 @@ fn name_byte(text: &[u8]) -> Option<(u8, &[u8])>
     Some((*byte, rest))
 }
 
+/// How many bytes the names at the fronts of two texts have in common before they differ.
+#[tactic(auto, using(crate::proofs::SharedFronts::shared_more))]
+fn shared_front(first: &[u8], second: &[u8]) -> usize
+    ensures first { result ≤ length first.now }
+    ensures second { result ≤ length second.now }
+    ensures same { slice_cmp nat_cmp (before_code 58 (drop result first.now)) (before_code 58 (drop result second.now)) ≡ slice_cmp nat_cmp (before_code 58 first.now) (before_code 58 second.now) }
+{
+    let mut count = 0;
+    while count < first.len() && count < second.len() {
+        let byte = first[count];
+        if byte == b':' || byte != second[count] {
+            return count;
+        }
+        count += 1;
+    }
+    count
+}
+
 /// The order of the names at the fronts of two texts, each of which ends before a colon.
 pub fn compare_names(first: &[u8], second: &[u8]) -> Ordering
     ensures { result ≡ slice_cmp nat_cmp (before_code 58 first.now) (before_code 58 second.now) }
 {
-    let mut left = first;
-    let mut right = second;
+    let shared = shared_front(first, second);
+    let mut left = &first[shared..];
+    let mut right = &second[shared..];
     while let Some((byte, left_rest)) = name_byte(left) {
         let Some((other, right_rest)) = name_byte(right) else {
             return Ordering::Greater;
