@@ -63,12 +63,12 @@ next_spot spot line =
 abbrev pub offset_of : Spot → ℕ
 offset_of spot = (if spot.in_data then spot.bytes + spot.space else 4 * spot.words) % 2 ^ 32
 
--- A label names a place: that of its line's spot, and of its name in the text.
+-- A label has a name, and a place: its line's spot in the program, and where its name begins in the text.
 pub record Label : Type 0 where
   pub name : List ℕ
   pub place : LabelPlace
 
--- the place at a spot, of a name that so many bytes of text are before
+-- the place at a spot, and behind so many bytes of text
 abbrev pub place : Spot → ℕ → LabelPlace
 place spot at = record { at = at; in_data = spot.in_data; offset = offset_of spot }
 
@@ -80,7 +80,7 @@ abbrev pub labels_here : LabelPlace → Option (List ℕ) → List Label
 labels_here place None = []
 labels_here place (Some name) = record { name = name; place = place } ∷ []
 
--- the label of a line at its spot, if it has one, behind so many bytes of text
+-- the label of a line at its spot, if it has one, where so many bytes of text are before the line
 abbrev pub labels_of : Spot → ℕ → List ℕ → List Label
 labels_of spot read line = labels_here (place spot (read + indent_of line)) (label_of line)
 
