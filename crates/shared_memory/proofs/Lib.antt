@@ -12,3 +12,4 @@ pub mod Sequences
 pub mod Waits
 pub mod Closing
 pub mod Stepped
+pub mod SmallHistories

@@ -5,3 +5,4 @@ pub mod Rule
 pub mod Told
 pub mod Layout
 pub mod Targets
+pub mod Worked

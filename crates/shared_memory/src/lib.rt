@@ -11,6 +11,8 @@
 //! [`Settle`] is what a seat learns that has taken in another; `specs/Told` says what each tells its caller. [`Marks`] are the
 //! numbers of a pass, and by [`Gives`] a call picks the one that a seat gives away. How histories grow, and how seats are split,
 //! joined and closed, is proved in `proofs/`, once for all of them.
+//!
+//! [`worked`] has small cases of the words of the promise, what holds and what doesn't.
 #![tactic(auto)]
 
 mod asks;
@@ -22,6 +24,7 @@ mod seats;
 mod targets;
 mod views;
 mod words;
+pub mod worked;
 
 pub use asks::{Asks, Load, Look, Settle};
 pub use memory::{SharedMemory, Spent};
