@@ -10,7 +10,7 @@
 //! What a step tells its caller is named in `plays` and said in `specs/Told`. What a seat is doing is `hands`, what its thread
 //! knows by that `specs/Knowledge`, and what is kept between any two steps `specs/Kept`; that each step keeps it is proved in
 //! `proofs/PlainSteps`, `AloneSteps` and `SeatSteps`, of a memory that is made in `Opening` and of one that is closed in
-//! `Closing`. `specs/Exact` says when a store-exclusive succeeds.
+//! `Closing`. `specs/Exact` says when a store-exclusive succeeds; [`worked`] has small cases, what holds and what doesn't.
 #![tactic(auto)]
 
 mod alone;
@@ -23,6 +23,7 @@ mod plans;
 mod plays;
 mod seats;
 mod sharing;
+pub mod worked;
 
 pub use memory::HstMemory;
 pub use passes::{HstPass, HstStory};
