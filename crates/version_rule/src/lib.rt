@@ -10,12 +10,13 @@
 //! What a seat is doing is a [`Hand`], what its thread knows by that `specs/Knowledge`, and what is kept between any two steps
 //! `specs/Kept`; that each step keeps it is proved in `proofs/PlainSteps`, `ExclusiveSteps`, `StampedSteps` and `SeatSteps`, of a
 //! memory that is made in `Opening` and of one that is closed in `Closing`. `specs/Exact` says when a store-exclusive succeeds,
-//! when one has lost, and when a store is refused.
+//! when one has lost, and when a store is refused; [`worked`] has small cases, what holds and what doesn't.
 #![tactic(auto)]
 
 mod hands;
 mod plans;
 mod plays;
+pub mod worked;
 
 pub use hands::{Doing, Hand, Reserve, VersionView};
 pub use plans::{VersionRule, VersionSeat, VersionShared, VersionTable};

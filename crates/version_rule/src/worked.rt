@@ -1,0 +1,74 @@
+//! Worked cases of when a store-exclusive succeeds, when one has lost, when a store is refused, and of versions.
+//!
+//! Where there is one class, the next row falls into it, and where there are 4096 it doesn't.
+ghost use Rattle.std.specs.Prelude.{◌∷◌, [], false, true};
+ghost use Rattle.history.specs.Worked.{beside, cell_before, next_row, wide_machine, word};
+ghost use Rattle.version_rule.specs.Exact.{IsOvertaken, IsSpent, IsUndisturbed, IsVersion};
+ghost use Rattle.shared_memory.specs.Worked.{limited_machine};
+
+use history::Entry;
+
+/// A thread that holds a reservation on the row is undisturbed by load-exclusives of others, by what they write in another class,
+/// and by what becomes of a write that has begun before, as long as the class may take another write.
+#[tactic(auto, unfolding(llsc_base::specs::Memory::row_of, llsc_base::specs::Memory::class_of))]
+pub fn undisturbed_threads()
+    ensures reserved { IsUndisturbed (limited_machine 1 1) 0 word (Entry.Watch 0 word ∷ Entry.Read 0 word 0 true ∷ []) }
+    ensures on_the_row { IsUndisturbed (limited_machine 4096 1) 0 beside (Entry.Watch 0 word ∷ []) }
+    ensures on_a_wide_row { IsUndisturbed (wide_machine 4096) 0 word (Entry.Watch 0 cell_before ∷ []) }
+    ensures reserved_by_another { IsUndisturbed (limited_machine 1 1) 0 word (Entry.Watch 0 word ∷ Entry.Watch 1 word ∷ Entry.Read 1 word 0 true ∷ []) }
+    ensures begun_elsewhere { IsUndisturbed (limited_machine 4096 1) 0 word (Entry.Watch 0 word ∷ Entry.Begin 1 next_row ∷ []) }
+    ensures own_store_elsewhere { IsUndisturbed (limited_machine 4096 1) 0 word (Entry.Watch 0 word ∷ Entry.Begin 0 next_row ∷ []) }
+    ensures begun_before { IsUndisturbed (limited_machine 1 2) 0 word (Entry.Begin 1 word ∷ Entry.Watch 0 word ∷ Entry.Write 1 word 5 false ∷ Entry.End 1 word ∷ []) }
+    ensures room_for_one { IsUndisturbed (limited_machine 1 2) 0 word (Entry.Write 1 word 5 false ∷ Entry.Watch 0 word ∷ []) }
+    ensures full_elsewhere { IsUndisturbed (limited_machine 4096 1) 0 word (Entry.Write 1 next_row 5 false ∷ Entry.Watch 0 word ∷ []) }
+{}
+
+/// A thread isn't undisturbed that holds no reservation on the row, after a write of anybody has begun in the class, or where the
+/// class has had all of its writes.
+#[tactic(auto, unfolding(llsc_base::specs::Memory::row_of, llsc_base::specs::Memory::class_of))]
+pub fn disturbed_threads()
+    ensures none { ¬ IsUndisturbed (limited_machine 1 1) 0 word [] }
+    ensures of_another { ¬ IsUndisturbed (limited_machine 1 1) 0 word (Entry.Watch 1 word ∷ []) }
+    ensures on_another_row { ¬ IsUndisturbed (limited_machine 1 1) 0 word (Entry.Watch 0 next_row ∷ []) }
+    ensures begun { ¬ IsUndisturbed (limited_machine 1 1) 0 word (Entry.Watch 0 word ∷ Entry.Begin 1 next_row ∷ []) }
+    ensures own_store { ¬ IsUndisturbed (limited_machine 1 1) 0 word (Entry.Watch 0 word ∷ Entry.Begin 0 next_row ∷ []) }
+    ensures full { ¬ IsUndisturbed (limited_machine 1 1) 0 word (Entry.Write 1 next_row 5 false ∷ Entry.Watch 0 word ∷ []) }
+{}
+
+/// A thread is overtaken where it holds a reservation on the row and a write of another has begun in the class since.
+#[tactic(auto, unfolding(llsc_base::specs::Memory::row_of, llsc_base::specs::Memory::class_of))]
+pub fn overtaken_threads()
+    ensures begun { IsOvertaken (limited_machine 1 1) 0 word (Entry.Watch 0 word ∷ Entry.Begin 1 next_row ∷ []) }
+    ensures in_the_wide_row { IsOvertaken (wide_machine 4096) 0 word (Entry.Watch 0 word ∷ Entry.Begin 1 cell_before ∷ []) }
+    ensures begun_elsewhere { ¬ IsOvertaken (limited_machine 4096 1) 0 word (Entry.Watch 0 word ∷ Entry.Begin 1 next_row ∷ []) }
+    ensures begun_before { ¬ IsOvertaken (limited_machine 1 1) 0 word (Entry.Begin 1 next_row ∷ Entry.Watch 0 word ∷ Entry.Write 1 next_row 5 false ∷ []) }
+    ensures reserved_by_another { ¬ IsOvertaken (limited_machine 1 1) 0 word (Entry.Watch 0 word ∷ Entry.Watch 1 word ∷ []) }
+    ensures own_store { ¬ IsOvertaken (limited_machine 1 1) 0 word (Entry.Watch 0 word ∷ Entry.Begin 0 next_row ∷ []) }
+    ensures not_reserved { ¬ IsOvertaken (limited_machine 1 1) 0 word (Entry.Begin 1 next_row ∷ []) }
+    ensures on_another_row { ¬ IsOvertaken (limited_machine 1 1) 0 next_row (Entry.Watch 0 word ∷ Entry.Begin 1 next_row ∷ []) }
+{}
+
+/// A class is spent that has had just as many writes as it may have, in any of its rows, and has none in flight.
+#[tactic(auto, unfolding(llsc_base::specs::Memory::row_of, llsc_base::specs::Memory::class_of))]
+pub fn spent_classes()
+    ensures spent { IsSpent (limited_machine 1 1) word (Entry.Begin 1 next_row ∷ Entry.Write 1 next_row 5 false ∷ Entry.End 1 next_row ∷ []) }
+    ensures wide_row { IsSpent (wide_machine 4096) word (Entry.Write 1 cell_before 5 false ∷ []) }
+    ensures in_flight_elsewhere { IsSpent (limited_machine 4096 1) word (Entry.Write 1 word 5 false ∷ Entry.Begin 0 next_row ∷ []) }
+    ensures one_below { ¬ IsSpent (limited_machine 1 2) word (Entry.Write 1 word 5 false ∷ []) }
+    ensures one_above { ¬ IsSpent (limited_machine 1 1) word (Entry.Write 1 word 5 false ∷ Entry.Write 0 word 6 false ∷ []) }
+    ensures written_elsewhere { ¬ IsSpent (limited_machine 4096 1) word (Entry.Write 1 next_row 5 false ∷ []) }
+    ensures only_begun { ¬ IsSpent (limited_machine 1 1) word (Entry.Begin 1 word ∷ Entry.End 1 word ∷ []) }
+    ensures in_flight { ¬ IsSpent (limited_machine 1 1) word (Entry.Begin 1 next_row ∷ Entry.Write 1 next_row 5 false ∷ []) }
+{}
+
+/// A version is twice the writes that the class has had; one that has only begun doesn't count.
+#[tactic(auto, unfolding(llsc_base::specs::Memory::row_of, llsc_base::specs::Memory::class_of))]
+pub fn versions_of_classes()
+    ensures first { IsVersion (limited_machine 1 1) word 0 [] }
+    ensures written { IsVersion (limited_machine 1 1) word 2 (Entry.Begin 1 next_row ∷ Entry.Write 1 next_row 5 false ∷ Entry.End 1 next_row ∷ []) }
+    ensures begun { IsVersion (limited_machine 1 1) word 0 (Entry.Begin 1 word ∷ []) }
+    ensures written_elsewhere { IsVersion (limited_machine 4096 1) word 0 (Entry.Write 1 next_row 5 false ∷ []) }
+    ensures wide_row { IsVersion (wide_machine 4096) word 2 (Entry.Write 1 cell_before 5 false ∷ []) }
+    ensures odd { ¬ IsVersion (limited_machine 1 1) word 1 (Entry.Write 1 word 5 false ∷ []) }
+    ensures not_gone_on { ¬ IsVersion (limited_machine 1 1) word 0 (Entry.Write 1 word 5 false ∷ []) }
+{}
