@@ -9,7 +9,7 @@
 //!
 //! Its calls are in `sharing`, those of exclusive accesses that wait for nobody in `now`, and those of accesses that give their
 //! stamps in `stamps`. `specs/Stands` says where an entry stands in what a pass has seen, and what was so before it;
-//! `specs/Exact` says when a store-exclusive has failed.
+//! `specs/Exact` says when a store-exclusive has failed; [`worked`] has small cases, what holds and what doesn't.
 #![tactic(auto)]
 
 mod exclusive;
@@ -23,6 +23,7 @@ mod seats;
 mod sharing;
 mod stamped;
 mod stamps;
+pub mod worked;
 
 pub use memory::VersionMemory;
 pub use passes::{VersionPass, VersionStory};
