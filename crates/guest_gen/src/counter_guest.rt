@@ -10,8 +10,14 @@ use std::alloc::{AllocError, Global};
 /// The most rounds of a thread.
 const MOST_ROUNDS: u64 = 50_000;
 
-/// The bytes of the counters: sixteen, of eight bytes each.
-const COUNTERS_SIZE: u32 = 16 * 8;
+/// How many counters there are.
+pub const COUNTER_COUNT: u32 = 16;
+
+/// Where the first counter begins.
+pub const FIRST_COUNTER: u32 = 0x2000;
+
+/// The bytes of the counters, of eight bytes each.
+const COUNTERS_SIZE: u32 = 8 * COUNTER_COUNT;
 
 /// The program whose threads each add 1 to a counter in so many rounds.
 ///

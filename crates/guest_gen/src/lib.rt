@@ -10,5 +10,5 @@ mod counter_guest;
 mod faults;
 pub mod laws;
 
-pub use counter_guest::counters;
+pub use counter_guest::{COUNTER_COUNT, FIRST_COUNTER, counters};
 pub use faults::GenFault;

@@ -1,4 +1,5 @@
 pub mod Answering
+pub mod Machines
 pub mod AsmAnswers
 pub mod CodeBytes
 pub mod CheckAnswers

@@ -3,7 +3,7 @@ ghost use Rattle.std.specs.Prelude.{◌≡◌, ◌≢◌, codes, ◌<◌, ◌≤
 ghost use Rattle.llsc_base.specs.Sizes.{size_fault};
 ghost use Rattle.llsc_cli.specs.Host.{Adds, AddsFront, AreBytes, KeepsReads, KeepsWrites, Rose};
 ghost use Rattle.llsc_words.specs.Request.{machine_by};
-ghost use Rattle.llsc_cli.specs.Refusals.{read_text, refusal_text, too_long, most_program, size_refusal, Refusal, Refuses};
+ghost use Rattle.llsc_cli.specs.Refusals.{machine_of, read_text, refusal_text, too_long, most_program, size_refusal, Refusal, Refuses};
 ghost use Rattle.llsc_cli.specs.Programs.{program_fault_name, image_of, is_wanting, program_refusal, refusal_on};
 ghost use Rattle.llsc_cli.specs.Reads.{Answered, CutAfter, CallEnds};
 
@@ -11,7 +11,7 @@ use crate::host::{Host, ReadFault};
 use crate::programs::{ProgramFault, image_of};
 use crate::said::{Said, out_of_memory, refuse, say};
 use llsc_base::{Image, MachineSize, SizeFault};
-use llsc_words::{Format, MachineNumbers};
+use llsc_words::{Format, MachineNumbers, RUN_CLASSES, RUN_LIMIT};
 use std::alloc::Global;
 
 /// The most bytes of a program file.
@@ -20,11 +20,19 @@ pub const MOST_BYTES: usize = 33_554_432;
 /// The number of the least granule, by which a row has eight bytes.
 pub const LEAST_GRANULE: u64 = 0;
 
-/// The classes of rows of a machine.
-pub const CLASSES: u64 = 4096;
-
-/// The most writes of a class.
-pub const MOST_WRITES: u64 = 1 << 62;
+/// The numbers of a machine of so many threads, with so much memory and rows of this granule; its classes and their writes
+/// are those of a run where none are given.
+pub fn numbers_of(threads: u64, mem: u64, granule: u64) -> MachineNumbers
+    ensures { machine_by result ≡ machine_of threads mem granule }
+{
+    MachineNumbers {
+        threads,
+        mem,
+        granule,
+        classes: RUN_CLASSES,
+        limit: RUN_LIMIT,
+    }
+}
 
 /// Answers for a file that was not had.
 fn refuse_read<H: Host>(host: &mut H, fault: ReadFault) -> Said

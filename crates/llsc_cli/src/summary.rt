@@ -7,14 +7,12 @@ ghost use Rattle.llsc_cli.specs.Load.{counter_line, counter_lines, counter_of, c
 
 use crate::host::{Failed, Host};
 use crate::report::write_count;
+use guest_gen::{COUNTER_COUNT, FIRST_COUNTER};
 use llsc_base::{Line, Place, Size};
 use llsc_words::LoadNumbers;
 use number_text::{write_decimal, write_text};
 use row_bytes::take;
 use shared_memory::Rows;
-
-/// How many counters the guest has.
-const COUNTERS: u32 = 16;
 
 /// Where a counter of the guest is.
 fn counter_place(index: u32) -> Place
@@ -22,7 +20,7 @@ fn counter_place(index: u32) -> Place
     ensures { result ≡ counter_place index }
 {
     Place {
-        addr: 0x2000 + 8 * index,
+        addr: FIRST_COUNTER + 8 * index,
         size: Size::B4,
     }
 }
@@ -45,7 +43,7 @@ pub fn total(rows: &Rows) -> u64
     ensures value { result ≡ total_of (counter_of rows.now) 16 }
 {
     let mut total = 0;
-    for i in 0..COUNTERS {
+    for i in 0..COUNTER_COUNT {
         total += counter(rows, i);
     }
     total
@@ -93,7 +91,7 @@ fn write_counters<H: Host>(host: &mut H, rows: &Rows) -> Result<(), Failed>
     ensures other { OnOk result (H.write_faults host.new ≡ H.write_faults host.old) }
     ensures reads { KeepsReads (H.file host.old) (H.file host.new) (H.read_faults host.old) (H.read_faults host.new) (H.lost host.old) (H.lost host.new) }
 {
-    for index in 0..COUNTERS {
+    for index in 0..COUNTER_COUNT {
         let line = counter_line(index, counter(rows, index));
         host.write(line.bytes())?;
     }

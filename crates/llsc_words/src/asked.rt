@@ -4,47 +4,15 @@ ghost use Rattle.std.specs.Option.{option_map};
 ghost use Rattle.llsc_words.specs.Given.{seen};
 ghost use Rattle.llsc_words.specs.Request.{asked, assemble_for, check_for, disassemble_for, format_of, load_for, request_by, run_for, solo_for, trace_for, HasBudget};
 
+use crate::defaults::{
+    DEFAULT_BUDGET, DEFAULT_MEM, LOAD_ROUNDS, LOAD_THREADS, RUN_CLASSES, RUN_GRANULE, RUN_LIMIT,
+    RUN_THREADS, TRACE_BUDGET, TRACE_GRANULE, TRACE_SEED, TRACE_THREADS,
+};
 use crate::formats::Format;
 use crate::given::Given;
 use crate::names::CommandName;
 use crate::numbers::{budget_or, number_in, number_or};
 use crate::requests::{LoadNumbers, MachineNumbers, Request, RunNumbers, TraceNumbers};
-
-/// The bytes of memory where none are given.
-const MEM: u64 = 1_048_576;
-
-/// The steps of a thread where no budget is given.
-const BUDGET: u64 = 100_000_000;
-
-/// The threads of a run where none are given.
-const RUN_THREADS: u64 = 2;
-
-/// The number of the granule of a run where none is given.
-const RUN_GRANULE: u64 = 0;
-
-/// The classes that rows are dealt out to where none are given.
-const RUN_CLASSES: u64 = 4096;
-
-/// The most writes of a class where none are given.
-const RUN_LIMIT: u64 = 1 << 62;
-
-/// The threads of a trace where none are given.
-const TRACE_THREADS: u64 = 2;
-
-/// The number of the granule of a trace where none is given.
-const TRACE_GRANULE: u64 = 0;
-
-/// The seed of a trace where none is given.
-const TRACE_SEED: u64 = 0;
-
-/// The steps of a thread of a trace where no budget is given.
-const TRACE_BUDGET: u64 = 10_000;
-
-/// The threads of a load where none are given.
-const LOAD_THREADS: u64 = 2;
-
-/// The rounds of each thread of a load where none are given.
-const LOAD_ROUNDS: u64 = 1000;
 
 impl Given<'_> {
     /// The format of the file.
@@ -66,8 +34,8 @@ fn solo(given: Given<'_>) -> Option<Request<'_>>
     Some(Request::Solo {
         file: given.file?,
         format: given.format(),
-        mem: number_or(MEM, given.mem)?,
-        budget: budget_or(BUDGET, given.budget)?,
+        mem: number_or(DEFAULT_MEM, given.mem)?,
+        budget: budget_or(DEFAULT_BUDGET, given.budget)?,
     })
 }
 
@@ -82,12 +50,12 @@ fn run(given: Given<'_>) -> Option<Request<'_>>
         numbers: RunNumbers {
             machine: MachineNumbers {
                 threads: number_or(RUN_THREADS, given.threads)?,
-                mem: number_or(MEM, given.mem)?,
+                mem: number_or(DEFAULT_MEM, given.mem)?,
                 granule: number_or(RUN_GRANULE, given.granule)?,
                 classes: number_or(RUN_CLASSES, given.classes)?,
                 limit: number_or(RUN_LIMIT, given.limit)?,
             },
-            budget: budget_or(BUDGET, given.budget)?,
+            budget: budget_or(DEFAULT_BUDGET, given.budget)?,
         },
     })
 }
@@ -111,7 +79,7 @@ fn disassemble(given: Given<'_>) -> Option<Request<'_>>
     Some(Request::Disassemble {
         file: given.file?,
         format: given.format(),
-        mem: number_or(MEM, given.mem)?,
+        mem: number_or(DEFAULT_MEM, given.mem)?,
     })
 }
 
@@ -125,7 +93,7 @@ fn trace(given: Given<'_>) -> Option<Request<'_>>
         format: given.format(),
         numbers: TraceNumbers {
             threads: number_or(TRACE_THREADS, given.threads)?,
-            mem: number_or(MEM, given.mem)?,
+            mem: number_or(DEFAULT_MEM, given.mem)?,
             granule: number_or(TRACE_GRANULE, given.granule)?,
             seed: number_or(TRACE_SEED, given.seed)?,
             budget: budget_or(TRACE_BUDGET, given.budget)?,
@@ -142,7 +110,7 @@ fn check(given: Given<'_>) -> Option<Request<'_>>
         file: given.file?,
         recorded: given.recorded?,
         format: given.format(),
-        mem: number_or(MEM, given.mem)?,
+        mem: number_or(DEFAULT_MEM, given.mem)?,
     })
 }
 
@@ -156,7 +124,7 @@ fn load(given: Given<'_>) -> Option<Request<'_>>
             seed: number_in(given.number)?,
             threads: number_or(LOAD_THREADS, given.threads)?,
             rounds: number_or(LOAD_ROUNDS, given.rounds)?,
-            budget: budget_or(BUDGET, given.budget)?,
+            budget: budget_or(DEFAULT_BUDGET, given.budget)?,
         },
     })
 }

@@ -8,6 +8,7 @@
 mod arguments;
 mod asked;
 mod commands;
+mod defaults;
 mod formats;
 mod given;
 mod names;
@@ -19,6 +20,7 @@ pub mod worked_numbers;
 pub mod worked_options;
 pub mod worked_refusals;
 
+pub use defaults::{DEFAULT_MEM, RUN_CLASSES, RUN_LIMIT};
 pub use formats::Format;
 pub use requests::{LoadNumbers, MachineNumbers, Request, RunNumbers, TraceNumbers};
 pub use words::parse;

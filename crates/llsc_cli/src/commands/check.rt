@@ -10,11 +10,11 @@ ghost use Rattle.llsc_cli.specs.Check.{files_refusal, most_record, record_fault_
 ghost use Rattle.llsc_cli.specs.Answer.{IsDue};
 ghost use Rattle.llsc_cli.specs.Reads.{Answered, EndsAsked};
 
-use crate::files::{CLASSES, MOST_BYTES, MOST_WRITES, image_on, machine, read};
+use crate::files::{MOST_BYTES, image_on, machine, numbers_of, read};
 use crate::host::Host;
 use crate::said::{Said, out_of_memory, refuse, say};
 use llsc_base::{Image, MachineSize};
-use llsc_words::{Format, MachineNumbers};
+use llsc_words::Format;
 use run_checker::{Verdict, check_record};
 use run_record::{RecordFault, RunRecord, read_record};
 use std::alloc::{AllocError, Global};
@@ -97,13 +97,7 @@ fn judge_file<H: Host>(
     ensures write_answered { result.status ≢ 5 → H.write_faults host.new ≡ H.write_faults host.old }
     ensures reads { KeepsReads (H.file host.old) (H.file host.new) (H.read_faults host.old) (H.read_faults host.new) (H.lost host.old) (H.lost host.new) }
 {
-    let numbers = MachineNumbers {
-        threads: u64::from(run.threads),
-        mem,
-        granule: u64::from(run.granule),
-        classes: CLASSES,
-        limit: MOST_WRITES,
-    };
+    let numbers = numbers_of(u64::from(run.threads), mem, u64::from(run.granule));
     let size = match machine(alloc, host, numbers) {
         Ok(size) => size,
         Err(ended) => return ended,

@@ -7,13 +7,13 @@ ghost use Rattle.llsc_cli.specs.Disassembly.{disassembly, head_text, line_at, wo
 ghost use Rattle.llsc_cli.specs.Answer.{AnswersDis};
 ghost use Rattle.llsc_cli.specs.Reads.{CallEnds, Gives};
 
-use crate::files::{CLASSES, LEAST_GRANULE, MOST_WRITES, load};
+use crate::files::{LEAST_GRANULE, load, numbers_of};
 use crate::host::{Failed, Host};
 use crate::pages::Page;
 use crate::said::{Said, out_of_memory};
 use a32_asm::disassemble;
 use llsc_base::{Image, Line};
-use llsc_words::{Format, MachineNumbers};
+use llsc_words::Format;
 use number_text::write_word;
 use std::alloc::Global;
 
@@ -158,13 +158,7 @@ pub fn answer<H: Host>(alloc: Global, host: &mut H, file: &str, format: Format, 
     ensures write_answered { result.status ≢ 5 → H.write_faults host.new ≡ H.write_faults host.old }
     ensures read_answered { result.status ≢ 3 → result.status ≢ 5 → H.read_faults host.new ≡ H.read_faults host.old }
 {
-    let numbers = MachineNumbers {
-        threads: 1,
-        mem,
-        granule: LEAST_GRANULE,
-        classes: CLASSES,
-        limit: MOST_WRITES,
-    };
+    let numbers = numbers_of(1, mem, LEAST_GRANULE);
     match load(alloc, host, numbers, file, format) {
         Ok(loaded) => show(alloc, host, &loaded.image, loaded.size.mem()),
         Err(ended) => ended,

@@ -15,7 +15,7 @@ ghost use Rattle.llsc_cli.specs.Trace.{status_of_all};
 
 use crate::beside::{Finished, run_beside};
 use crate::ended::Ended;
-use crate::files::{CLASSES, LEAST_GRANULE, Loaded, MOST_WRITES, machine};
+use crate::files::{LEAST_GRANULE, Loaded, machine, numbers_of};
 use crate::host::Host;
 use crate::report::say_report;
 use crate::said::{Said, out_of_memory, refuse, status_of_all};
@@ -23,14 +23,11 @@ use crate::summary::write_summary;
 use elf32::{Unit, write};
 use guest_gen::{GenFault, counters};
 use llsc_base::{Image, MachineSize};
-use llsc_words::{LoadNumbers, MachineNumbers};
+use llsc_words::{DEFAULT_MEM, LoadNumbers};
 use std::alloc::{AllocError, Global};
 use std::sync::Wait;
 use std::thread::Threads;
 use version_memory::VersionStory;
-
-/// The bytes of memory of a load.
-const MEM: u64 = 1_048_576;
 
 /// The image of a program that has a word and ends within a machine's room.
 ///
@@ -96,13 +93,7 @@ fn prepare<H: Host>(alloc: Global, host: &mut H, numbers: &LoadNumbers) -> Resul
     ensures write_answered { IfErr result (λ ended. ended.status ≢ 5 → H.write_faults host.new ≡ H.write_faults host.old) }
     ensures reads { KeepsReads (H.file host.old) (H.file host.new) (H.read_faults host.old) (H.read_faults host.new) (H.lost host.old) (H.lost host.new) }
 {
-    let machine_numbers = MachineNumbers {
-        threads: numbers.threads,
-        mem: MEM,
-        granule: LEAST_GRANULE,
-        classes: CLASSES,
-        limit: MOST_WRITES,
-    };
+    let machine_numbers = numbers_of(numbers.threads, DEFAULT_MEM, LEAST_GRANULE);
     let size = machine(alloc, host, machine_numbers)?;
     let unit = unit(alloc, host, numbers)?;
     let Ok(image) = image_of(alloc, &unit, &size) else {

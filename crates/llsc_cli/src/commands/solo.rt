@@ -10,13 +10,13 @@ ghost use Rattle.llsc_cli.specs.Trace.{status_of};
 ghost use Rattle.llsc_cli.specs.Answer.{AnswersSolo};
 ghost use Rattle.llsc_cli.specs.Reads.{CallEnds};
 
-use crate::files::{CLASSES, LEAST_GRANULE, MOST_WRITES, load};
+use crate::files::{LEAST_GRANULE, load, numbers_of};
 use crate::host::Host;
 use crate::report::write_report;
 use crate::said::{Said, out_of_memory, status};
 use guest_machine::solo;
 use llsc_base::{Image, MachineSize};
-use llsc_words::{Format, MachineNumbers};
+use llsc_words::Format;
 use std::alloc::Global;
 
 /// Runs an image and writes the report.
@@ -60,13 +60,7 @@ pub fn answer<H: Host>(
     ensures write_answered { result.status ≢ 5 → H.write_faults host.new ≡ H.write_faults host.old }
     ensures read_answered { result.status ≢ 3 → result.status ≢ 5 → H.read_faults host.new ≡ H.read_faults host.old }
 {
-    let numbers = MachineNumbers {
-        threads: 1,
-        mem,
-        granule: LEAST_GRANULE,
-        classes: CLASSES,
-        limit: MOST_WRITES,
-    };
+    let numbers = numbers_of(1, mem, LEAST_GRANULE);
     match load(alloc, host, numbers, file, format) {
         Ok(loaded) => run(alloc, host, &loaded.size, budget, &loaded.image),
         Err(ended) => ended,

@@ -10,12 +10,12 @@ ghost use Rattle.llsc_cli.specs.Refusals.{machine_of, refusal_text, size_refusal
 ghost use Rattle.llsc_cli.specs.Trace.{status_of_all, AnswersTrace, Traces};
 ghost use Rattle.llsc_cli.specs.Reads.{Answered, CallEnds};
 
-use crate::files::{CLASSES, MOST_WRITES, load};
+use crate::files::{load, numbers_of};
 use crate::host::Host;
 use crate::said::{Said, out_of_memory, say, status_of_all};
 use guest_machine::{TraceFault, Traced, trace};
 use llsc_base::{Image, MachineSize};
-use llsc_words::{Format, MachineNumbers, TraceNumbers};
+use llsc_words::{Format, TraceNumbers};
 use run_record::print_record;
 use std::alloc::Global;
 
@@ -92,13 +92,7 @@ pub fn answer<H: Host>(
     ensures write_answered { result.status ≢ 5 → H.write_faults host.new ≡ H.write_faults host.old }
     ensures read_answered { result.status ≢ 3 → result.status ≢ 5 → H.read_faults host.new ≡ H.read_faults host.old }
 {
-    let machine = MachineNumbers {
-        threads: numbers.threads,
-        mem: numbers.mem,
-        granule: numbers.granule,
-        classes: CLASSES,
-        limit: MOST_WRITES,
-    };
+    let machine = numbers_of(numbers.threads, numbers.mem, numbers.granule);
     match load(alloc, host, machine, file, format) {
         Ok(loaded) => run(
             alloc,

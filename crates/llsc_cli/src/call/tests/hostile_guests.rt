@@ -3,13 +3,12 @@ ghost use Rattle.std.specs.Prelude.{◌≡◌, IfOk, length};
 
 use super::*;
 use crate::beside::run_beside;
-use crate::files::MOST_WRITES;
 use crate::programs::image_of;
 use crate::summary::total;
 use elf32::write;
 use guest_gen::counters;
 use llsc_base::{Image, MachineSize};
-use llsc_words::Format;
+use llsc_words::{Format, RUN_LIMIT};
 
 /// Guests whose access lies outside of memory, and one that branches to itself.
 const BOUNDS: &[Case] = &[
@@ -97,7 +96,7 @@ fn counted<R: Threads + Wait + Sync + AllocGlobal + Abort>(
 #[test]
 fn counts_with_all_rows_in_one_class(rt: HostRuntime) -> Result<(), Fail> {
     let file = counting(rt.alloc())?;
-    let size = MachineSize::new(1_048_576, 4, 1, MOST_WRITES)?;
+    let size = MachineSize::new(1_048_576, 4, 1, RUN_LIMIT)?;
     let image = loaded(rt.alloc(), &size, file.as_slice())?;
     same(&rt, counted(&rt, &size, &image)?, 400);
     done(&rt, "run --threads 4 --classes 1 p", file, SPACE)?;
