@@ -22,6 +22,8 @@ mod steady;
 mod steady_host;
 mod summary;
 pub mod worked;
+pub mod worked_limits;
+pub mod worked_statuses;
 
 use crate::call::llsc;
 use crate::real_host::RealHost;
