@@ -8,6 +8,14 @@ const OWN_STORE: &[u32] = &[
     0xe3a01a02, 0xe3a03a0a, 0xe1910f9f, 0xe5830000, 0xe1812f90, 0xe1a00002, 0xe3a07001, 0xef000000,
 ];
 
+/// The same with 16,384 bytes between the two places: their rows are of one class where there are 2048 classes at most.
+const OWN_STORE_NEARBY: &[u32] = &[
+    0xe3a01a02, 0xe3a03a06, 0xe1910f9f, 0xe5830000, 0xe1812f90, 0xe1a00002, 0xe3a07001, 0xef000000,
+];
+
+/// Each thread leaves with its number.
+pub const LEAVE_BY_NUMBER: &[u32] = &[0xe3a07001, 0xef000000];
+
 /// Three stores to one word.
 const STORES: &[u32] = &[
     0xe3a01a02, 0xe5810000, 0xe5810000, 0xe5810000, 0xe3a00000, 0xe3a07001, 0xef000000,
@@ -59,6 +67,32 @@ const RUNS: &[Case] = &[
         Content::Words(OWN_STORE),
         1,
         "thread 0 stop exit 1 steps 8 out 0\n\nreads 1 writes 1 fails 1\n",
+    ),
+    (
+        "run --flat --threads 1 p",
+        Content::Words(OWN_STORE_NEARBY),
+        0,
+        "thread 0 stop exit 0 steps 8 out 0\n\nreads 1 writes 2 fails 0\n",
+    ),
+    (
+        "run --flat --threads 1 --classes 2048 p",
+        Content::Words(OWN_STORE_NEARBY),
+        1,
+        "thread 0 stop exit 1 steps 8 out 0\n\nreads 1 writes 1 fails 1\n",
+    ),
+    // one thread leaves with code 0, and another doesn't
+    (
+        "run --flat p",
+        Content::Words(LEAVE_BY_NUMBER),
+        1,
+        "thread 0 stop exit 0 steps 2 out 0\n\nthread 1 stop exit 1 steps 2 out 0\n\nreads 0 writes 0 fails 0\n",
+    ),
+    // the least budget
+    (
+        "run --flat --threads 1 --budget 1 p",
+        Content::Words(LEAVE),
+        1,
+        "thread 0 stop budget 1 steps 1 out 0\n\nreads 0 writes 0 fails 0\n",
     ),
     // a class that takes as many writes as the guest makes, and one that takes fewer
     (

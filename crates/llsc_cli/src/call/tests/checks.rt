@@ -225,7 +225,7 @@ fn reads_the_program_first(rt: HostRuntime) -> Result<(), Fail> {
     Ok(())
 }
 
-/// A program of a byte more than the most, which is refused before the record is read, and such a record.
+/// A program of a byte more than the most, which is refused before the record is read, such a record, and one of the most.
 const LONG: &[Checked] = &[
     (
         "check p q",
@@ -241,9 +241,16 @@ const LONG: &[Checked] = &[
         4,
         "llsc: FileTooLong\n",
     ),
+    (
+        "check r p",
+        Content::Filled(b' ', 67_108_864),
+        "none",
+        4,
+        "llsc: Header\n",
+    ),
 ];
 
 #[test]
-fn refuses_long_files(rt: HostRuntime) -> Result<(), Fail> {
+fn answers_long_files(rt: HostRuntime) -> Result<(), Fail> {
     check_all(&rt, LONG)
 }

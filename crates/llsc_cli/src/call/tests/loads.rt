@@ -73,6 +73,7 @@ total 4000
 /// Loads of threads that all leave with code 0, the last of them twice.
 const SUMMARIES: &[Answer] = &[
     ("load 0 --threads 2 --rounds 1", 0, ROUND),
+    ("load 0 --rounds 1", 0, ROUND),
     ("load --rounds=3 0 --threads 1", 0, ROUNDS),
     ("load 7 --threads 4", 0, THOUSAND),
     ("load 7 --threads 4", 0, THOUSAND),
@@ -105,14 +106,19 @@ counter 15 0
 total 1
 ";
 
-/// A load whose budget is just what its thread makes, which has 10 steps before its rounds, 12 in each, and 5 behind them, and one
-/// whose budget is a step less.
+/// A load whose budget is just what its thread makes, which has 10 steps before its rounds, 12 in each, and 5 behind them, one
+/// whose budget is a step less, and one of the least budget.
 const BUDGETS: &[Answer] = &[
     ("load 0 --threads 1 --rounds 1 --budget 27", 0, ONE),
     (
         "load 0 --threads 1 --rounds 1 --budget 26",
         1,
         "thread 0 stop budget 26 steps 26 out 0\n\nreads 1 writes 1 fails 0\n",
+    ),
+    (
+        "load 0 --threads 1 --budget 1",
+        1,
+        "thread 0 stop budget 1 steps 1 out 0\n\nreads 0 writes 0 fails 0\n",
     ),
 ];
 

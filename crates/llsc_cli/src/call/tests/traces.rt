@@ -1,4 +1,5 @@
 //! Runs of all threads on one, as records.
+use super::beside::LEAVE_BY_NUMBER;
 use super::runs::{EXCLUSIVES, UNMARKED};
 use super::*;
 
@@ -63,6 +64,19 @@ const RECORDED: &[Case] = &[
         1,
         "llsc-run 1 threads 1 budget 9 accesses 1\n\
          0 fail 4 00002000 0000000000000000\n",
+    ),
+    (
+        "trace --flat --budget 1 --threads 1 p",
+        Content::Words(UNMARKED),
+        1,
+        "llsc-run 1 threads 1 budget 1 accesses 0\n",
+    ),
+    // one thread leaves with code 0, and another doesn't
+    (
+        "trace --flat p",
+        Content::Words(LEAVE_BY_NUMBER),
+        1,
+        "llsc-run 1 threads 2 budget 10000 accesses 0\n",
     ),
 ];
 

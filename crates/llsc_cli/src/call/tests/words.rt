@@ -6,6 +6,11 @@ const SHORT: &str = "thread 0 stop budget 2 steps 2 out 0\n\nreads 0 writes 0 fa
 
 /// Options of each kind, before the file and behind it.
 const OPTIONS: &[Answer] = &[
+    (
+        "solo --flat --budget 1 p",
+        1,
+        "thread 0 stop budget 1 steps 1 out 0\n\nreads 0 writes 0 fails 0\n",
+    ),
     ("solo --flat --budget 2 p", 1, SHORT),
     ("solo --budget 3 --flat p", 0, LEFT),
     ("solo --mem 65536 --budget 1000000000000 --flat p", 0, LEFT),
