@@ -1,11 +1,11 @@
 -- What a load is answered with.
-use Rattle.std.proofs.Common.{◌≡◌, ◌⊎◌, inl, inr, ℕ, ◌≤◌, ◌&&◌, Bool, true, false, if◌then◌else◌, List, Option, Some, None, codes, length, arith, refl, sym, ◌∙◌, ap, subst}
+use Rattle.std.proofs.Common.{◌≡◌, ◌⊎◌, inl, inr, ℕ, ◌&&◌, Bool, true, false, if◌then◌else◌, List, Option, Some, None, codes, length, arith, refl, sym, ◌∙◌, ap, subst}
 use Rattle.llsc_base.specs.Images.{Program}
-use Rattle.llsc_base.specs.Sizes.{Numbers, is_threads, room_of}
+use Rattle.llsc_base.specs.Sizes.{Numbers, is_threads}
 use Rattle.llsc_base.proofs.Values.{length-values_below}
-use Rattle.elf32.specs.Units.{end_of, unit_byte, unit_image}
+use Rattle.elf32.specs.Units.{unit_byte, unit_image}
 use Rattle.elf32.specs.declared.units.Unit.{Unit}
-use Rattle.guest_gen.specs.Counters.{counter_unit, fault_of, is_rounds}
+use Rattle.guest_gen.specs.Counters.{fault_of, is_rounds}
 use Rattle.guest_gen.specs.declared.faults.GenFault.{GenFault}
 use Rattle.guest_gen.specs.declared.faults.GenFault.TheVariants as gen
 use Rattle.history.specs.declared.entry.Entry.{Entry}
@@ -15,24 +15,19 @@ use Rattle.llsc_cli.specs.Beside.{Ran, left_by}
 use Rattle.llsc_cli.specs.Load.{AnswersLoad, TellsLoad, counter_in, counter_of, guest_refusal, load_program, load_refusal, load_size, load_text, summary_by, summary_of}
 use Rattle.llsc_cli.specs.Host.{Adds, AddsFront}
 use Rattle.llsc_cli.specs.Reads.{Answered}
-use Rattle.llsc_cli.specs.Refusals.{Refusal, refusal_text, size_refusal}
+use Rattle.llsc_cli.specs.Refusals.{Refusal, refusal_text}
 use Rattle.llsc_cli.specs.Report.{report_of}
 use Rattle.llsc_cli.specs.Run.{UnlessRun}
 use Rattle.llsc_cli.specs.Trace.{have_left, status_of_all}
 use Rattle.llsc_cli.proofs.Answering.{answered_refused, answered_wanting}
 use Rattle.llsc_cli.proofs.Counted.{summary_same}
 use Rattle.llsc_cli.proofs.Left.{counters_left}
-use Rattle.llsc_cli.proofs.RunAnswers.{run_refused_by}
 
 -- ---- what is printed
 
 left-all : (b : Bool) → ◌≡◌ {A = ℕ} (if b then 0 else 1) 0 → b ≡ true
 left-all true is = refl
 left-all false is = absurd (omega (arith, is))
-
-left-some : (b : Bool) → (◌≡◌ {A = ℕ} (if b then 0 else 1) 0 → ⊥) → b ≡ false
-left-some true other = absurd (other refl)
-left-some false other = refl
 
 -- the summary, where all threads left with code 0
 pub loaded_all : (seed threads rounds budget : ℕ) (history : List Entry) (ends : List GuestEnd) (cells : List ℕ)
@@ -45,20 +40,7 @@ loaded_all seed threads rounds budget history ends cells ran none =
     summary_same seed threads rounds (counter_of cells) (counter_in memory) (counters_left seed threads rounds history cells ran.outcome.legal ran.left) in
     (ends, (ran.outcome, (sym none, same ∙ ap (λ b. if b then summary_of seed threads rounds memory else report_of budget ends) (sym left))))
 
--- the report, where some didn't
-pub loaded_some : (seed threads rounds budget : ℕ) (history : List Entry) (ends : List GuestEnd) (cells : List ℕ)
-    → Ran (load_program seed threads rounds) (load_size threads) budget history ends cells → (status_of_all ends ≡ 0 → ⊥)
-    → TellsLoad (Some history) seed threads rounds budget (status_of_all ends) (report_of budget ends)
-loaded_some seed threads rounds budget history ends cells ran some =
-    let memory = left_by (load_program seed threads rounds) (load_size threads) history in
-    let left : have_left ends ≡ false = left-some (have_left ends) some in
-    (ends, (ran.outcome, (refl, ap (λ b. if b then summary_of seed threads rounds memory else report_of budget ends) (sym left))))
-
 -- ---- the answer
-
--- the guest ends within the room of each machine
-pub guest_fits : (seed threads rounds : ℕ) → threads ≤ 16 → end_of (counter_unit seed rounds) ≤ room_of (load_size threads)
-guest_fits seed threads rounds few = omega (arith, few)
 
 -- the image of a program is as long as the machine's memory
 pub unit_sized : (unit : Unit) (size : Numbers) (image : Program) → image ≡ unit_image unit size → length image.bytes ≡ size.mem
@@ -76,23 +58,6 @@ guest_unmade threads rounds fault old new status is alone ended said cut memory 
     by_range true same wanting = answered_wanting old new status (alone wanting) (memory (alone wanting))
     by_range false same range = answered_refused (guest_refusal threads rounds) (codes "Range") old new status
         (ap (λ b. if b then None else Some (codes "Range")) same) ended said cut memory
-
--- a refusal
-pub load_refused : (seed threads rounds budget : ℕ) (story : Option (List Entry)) → story ≡ None → (status : ℕ) (text : List ℕ)
-    → Refusal (load_refusal threads rounds) status text → AnswersLoad seed threads rounds budget story status text
-load_refused seed threads rounds budget story none status text refused =
-    run_refused_by (load_refusal threads rounds) story (TellsLoad story seed threads rounds budget) refused.0 status text refused.1.0 (none, refused.1.1)
-
-pub load_unsized : (threads rounds : ℕ) (status : ℕ) (text : List ℕ) → Refusal (size_refusal (load_size threads)) status text
-    → Refusal (load_refusal threads rounds) status text
-load_unsized threads rounds status text refused = (refused.0, (rw refused.1.0 refl, refused.1.1))
-
-pub load_unmade : (threads rounds : ℕ) → size_refusal (load_size threads) ≡ None → (status : ℕ) (text : List ℕ)
-    → Refusal (guest_refusal threads rounds) status text → Refusal (load_refusal threads rounds) status text
-load_unmade threads rounds none status text refused = (refused.0, (rw (none, refused.1.0) refl, refused.1.1))
-
-pub load_clean : (threads rounds : ℕ) → size_refusal (load_size threads) ≡ None → guest_refusal threads rounds ≡ None → load_refusal threads rounds ≡ None
-load_clean threads rounds size guest = rw (size, guest) refl
 
 -- a run of the guest
 pub load_ran : (seed threads rounds budget : ℕ) (story : Option (List Entry)) → load_refusal threads rounds ≡ None

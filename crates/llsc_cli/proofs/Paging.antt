@@ -7,13 +7,10 @@ use Rattle.llsc_cli.specs.Host.{Adds, AddsFront}
 use Rattle.llsc_cli.specs.Disassembly.{line_at, lines_of, Holds}
 use Rattle.llsc_cli.proofs.Fronts.{adds_both, front_less, front_more}
 
--- nothing is written, and the page is empty
+-- nothing is written
 pub adds_nothing : (old : Option (List ℕ)) → Adds old old []
 adds_nothing (Some old) = sym (append-nil old)
 adds_nothing None = tt
-
-pub holds_nothing : (old : Option (List ℕ)) → Holds old old [] []
-holds_nothing old = ([], (adds_nothing old, refl))
 
 -- more of the text
 pub holds_more : (old mid new : Option (List ℕ)) (page next text more : List ℕ) → Holds old mid page text → Holds mid new next (page ++ more) → Holds old new next (text ++ more)
@@ -25,10 +22,7 @@ holds_more old mid new page next text more first second = (
   ),
 )
 
--- the page is written, or a front of it
-pub holds_whole : (old mid new : Option (List ℕ)) (page text : List ℕ) → Holds old mid page text → Adds mid new page → Adds old new text
-holds_whole old mid new page text held whole = subst (λ t. Adds old new t) held.1.1 (adds_both old mid new held.0 page held.1.0 whole)
-
+-- a front of the page is written
 pub holds_front : (old mid new : Option (List ℕ)) (page text : List ℕ) → Holds old mid page text → AddsFront mid new page → AddsFront old new text
 holds_front old mid new page text held front = subst (λ t. AddsFront old new t) held.1.1 (front_more old mid new held.0 page held.1.0 front)
 
