@@ -96,6 +96,10 @@ fn failure_at(failing: &[(u64, u32)], call: u64) -> Option<u32>
 }
 
 /// A copy of a file's bytes, where there are `most` at most.
+///
+/// # Errors
+///
+/// `FileTooLong` where there are more, and `Memory` for want of memory.
 pub fn copy_within(alloc: Global, bytes: &[u8], most: usize) -> Result<Vec<u8>, ReadFault>
     ensures { IsReadAnswer (bytes_within most (Some bytes.now)) result }
 {

@@ -169,6 +169,10 @@ fn write_threads<H: Host>(host: &mut H, budget: u64, ends: &[GuestEnd]) -> Resul
 
 /// Writes the report of the threads' ends with this budget: of each thread its line, its output if there is any, and the end of
 /// the output's line, and then the counts, one write each. No memory is taken.
+///
+/// # Errors
+///
+/// `Failed` where a write failed: a front of the report is written.
 #[tactic(auto, using(crate::proofs::Fronts::adds_both, crate::proofs::Fronts::front_less, crate::proofs::Fronts::front_more))]
 pub fn write_report<H: Host>(host: &mut H, budget: u64, ends: &[GuestEnd]) -> Result<(), Failed>
     requires { HasSums ends.now }

@@ -100,6 +100,10 @@ fn write_counters<H: Host>(host: &mut H, rows: &Rows) -> Result<(), Failed>
 
 /// Writes the summary of a load by the cells of memory as it was left: a line of its numbers, one of each counter, and one of
 /// their sum, each by a write of its own. No memory is taken.
+///
+/// # Errors
+///
+/// `Failed` where a write failed: a front of the summary is written.
 #[tactic(auto, using(crate::proofs::Fronts::adds_both, crate::proofs::Fronts::front_less, crate::proofs::Fronts::front_more))]
 pub fn write_summary<H: Host>(
     host: &mut H,

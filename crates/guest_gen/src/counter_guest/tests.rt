@@ -1,3 +1,4 @@
+//! That the program is what its text assembles to, and which numbers have none.
 use super::*;
 use a32_asm::assemble;
 use std::test::Fail;
