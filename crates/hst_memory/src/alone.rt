@@ -216,13 +216,12 @@ fn change_alone<R: Wait, J: Asks>(rt: &R, shared: &HstShared, seat: &mut HstSeat
     ensures home { seat.new.table_id ≡ seat.old.table_id }
 {
     let backoff = Backoff::new();
-    let mut cell = look_at_cell::<J>(shared, seat, target);
     for _ in rt.forever() {
+        let cell = look_at_cell::<J>(shared, seat, target);
         let found = try_change_alone::<J>(shared, seat, target, cell);
         if found == cell {
             return;
         }
-        cell = found;
         backoff.spin();
     }
     unreachable!()

@@ -206,13 +206,12 @@ fn change<R: Wait, J: Asks>(
     ensures home { seat.new.table_id ≡ seat.old.table_id }
 {
     let backoff = Backoff::new();
-    let mut cell = look::<J>(shared, seat, place, value, word);
     for _ in rt.forever() {
+        let cell = look::<J>(shared, seat, place, value, word);
         let found = try_change::<J>(shared, seat, place, value, word, cell);
         if found == cell {
             return;
         }
-        cell = found;
         backoff.spin();
     }
     unreachable!()

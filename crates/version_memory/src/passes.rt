@@ -1,4 +1,5 @@
 //! A pass, and the story of a memory that was closed.
+ghost use Rattle.std.specs.Prelude.{◌≤◌};
 ghost use Rattle.version_memory.specs.Passes.{IsBetween};
 
 use std::snapshot::Snapshot;
@@ -26,6 +27,7 @@ pub struct VersionPass {
     /// How often the next load-exclusive of its thread pauses first.
     pub(crate) pauses: u32,
     ghost between: { IsBetween seat.me has number reserved },
+    ghost few: { pauses ≤ 8 },
 }
 
 /// The whole history of a memory that was closed.

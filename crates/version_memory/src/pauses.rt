@@ -22,7 +22,9 @@ pub fn pauses_after(pauses: u32, done: bool) -> u32
 
 /// Pauses so often, each time about twice as long.
 #[inline]
-pub fn pause(pauses: u32) {
+pub fn pause(pauses: u32)
+    requires { pauses ≤ 8 }
+{
     let backoff = Backoff::new();
     for _ in 0..pauses {
         backoff.spin();

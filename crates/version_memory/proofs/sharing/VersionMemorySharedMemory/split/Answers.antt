@@ -1,4 +1,4 @@
-use Rattle.std.proofs.Common.{ap, sym, ◌∙◌, subst}
+use Rattle.std.proofs.Common.{ap, sym, ◌∙◌, subst, arith}
 use Rattle.shared_memory.specs.Passes.{marked}
 use Rattle.shared_memory.specs.Seen.{IsSingle}
 use Rattle.shared_memory.proofs.Marks.{marked-taken, single-one}
@@ -9,10 +9,16 @@ use Rattle.version_memory.proofs.sharing.VersionMemorySharedMemory.split.Goals a
 pub invariant_of-pass : goal.invariant_of-pass
 invariant_of-pass c =
     let lead = c.other_number-lead in
-    rw c.split_number-seat.ensures.rest (record { between = between-left c.args.pass.now.seat.me c.args.pass.now.has c.args.pass.now.number c.args.pass.now.reserved c.args.t lead.result c.args.pass.now.between lead.ensures.one lead.ensures.other })
+    record {
+      between = rw c.split_number-seat.ensures.rest (between-left c.args.pass.now.seat.me c.args.pass.now.has c.args.pass.now.number c.args.pass.now.reserved c.args.t lead.result c.args.pass.now.between lead.ensures.one lead.ensures.other);
+      few = c.args.pass.now.few;
+    }
 
 pub invariant_of-result : goal.invariant_of-result
-invariant_of-result c = rw c.split_number-seat.ensures.given (record { between = between-given c.args.pass.now.seat.me c.only_mark.result c.args.pass.now.number c.args.pass.now.has c.args.pass.now.reserved c.args.t c.args.pass.now.between c.only_mark.ensures })
+invariant_of-result c = record {
+  between = rw c.split_number-seat.ensures.given (between-given c.args.pass.now.seat.me c.only_mark.result c.args.pass.now.number c.args.pass.now.has c.args.pass.now.reserved c.args.t c.args.pass.now.between c.only_mark.ensures);
+  few = omega arith;
+}
 
 pub returns-clause-rest : goal.returns-clause-rest
 returns-clause-rest c i u = (ap (λ (m : Mine). marked m.0.numbers u) c.split_number-seat.ensures.rest ∙ marked-taken c.args.pass.now.seat.me.0.numbers c.args.t u) i
