@@ -17,7 +17,7 @@ pub fn fronts_of_a_history()
     ensures more { ¬ IsFront (Entry.Clear 0 ∷ Entry.Clear 1 ∷ []) (Entry.Clear 0 ∷ []) }
 {}
 
-/// Of two histories the longer one is kept, and the first where they are as long.
+/// Of two histories the longer one is kept, and the first where neither is longer.
 pub fn longer_histories()
     ensures first { longer (Entry.Clear 0 ∷ Entry.Clear 1 ∷ []) (Entry.Clear 0 ∷ []) ≡ Entry.Clear 0 ∷ Entry.Clear 1 ∷ [] }
     ensures second { longer (Entry.Clear 0 ∷ []) (Entry.Clear 0 ∷ Entry.Clear 1 ∷ []) ≡ Entry.Clear 0 ∷ Entry.Clear 1 ∷ [] }
