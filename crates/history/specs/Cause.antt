@@ -47,6 +47,10 @@ is_write size row _ = false
 abbrev pub writes_in_class : Numbers → ℕ → List Entry → ℕ
 writes_in_class size row history = count_by (is_write size row) history
 
+-- no class has had more Writes than it may have
+abbrev pub KeepsLimit : Numbers → List Entry → Type 0
+KeepsLimit size history = (row : ℕ) → writes_in_class size row history ≤ size.limit
+
 -- the place of a write that is in flight since a Begin: until its thread has an End
 abbrev pub flight_since : ℕ → Option Since → Option Place
 flight_since thread None = None

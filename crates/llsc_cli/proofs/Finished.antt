@@ -6,6 +6,7 @@ use Rattle.std.proofs.lemmas.List.Sums.{sum_by-le}
 use Rattle.llsc_base.specs.Images.{Program}
 use Rattle.llsc_base.specs.Sizes.{Numbers}
 use Rattle.row_bytes.specs.Cell.{cell_at}
+use Rattle.history.specs.Cause.{KeepsLimit}
 use Rattle.history.specs.Legal.{IsComplete, IsLegal}
 use Rattle.history.specs.Monitor.{at_rest_by, monitor_after}
 use Rattle.history.specs.Parts.{accesses_of}
@@ -42,12 +43,13 @@ closed_cells program size bytes history seen cells same begins count each =
 
 -- the threads of a closed memory
 pub ran : (program : Program) (size : Numbers) (budget : ℕ) (bytes : List ℕ) (history seen : List Entry) (ends : List GuestEnd) (cells : List ℕ)
-    → history ≡ seen → bytes ≡ program.bytes → IsLegal size bytes seen → IsComplete seen → AreEndsOn program size budget seen ends
+    → history ≡ seen → bytes ≡ program.bytes → IsLegal size bytes seen → IsComplete seen → AreEndsOn program size budget seen ends → KeepsLimit size seen
     → HasSums ends → AreCells size (left_by program size history) cells
     → Ran program size budget history ends cells
-ran program size budget bytes history seen ends cells same begins legal complete are sums cells_are = record {
+ran program size budget bytes history seen ends cells same begins legal complete are few sums cells_are = record {
   outcome = subst (λ h. IsOutcome program size budget h ends) (sym same)
       (record { legal = subst (λ b. IsLegal size b seen) begins legal; complete = complete; ends = are });
+  few = subst (λ h. KeepsLimit size h) (sym same) few;
   sums = sums;
   left = cells_are;
 }

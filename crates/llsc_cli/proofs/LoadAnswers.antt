@@ -8,6 +8,7 @@ use Rattle.elf32.specs.declared.units.Unit.{Unit}
 use Rattle.guest_gen.specs.Counters.{fault_of, is_rounds}
 use Rattle.guest_gen.specs.declared.faults.GenFault.{GenFault}
 use Rattle.guest_gen.specs.declared.faults.GenFault.TheVariants as gen
+use Rattle.history.specs.Cause.{KeepsLimit}
 use Rattle.history.specs.declared.entry.Entry.{Entry}
 use Rattle.guest_thread.specs.Outcome.{IsOutcome}
 use Rattle.guest_thread.specs.declared.ends.GuestEnd.{GuestEnd}
@@ -38,7 +39,7 @@ loaded_all seed threads rounds budget history ends cells ran none =
     let left : have_left ends ≡ true = left-all (have_left ends) none in
     let same : summary_by seed threads rounds (counter_of cells) ≡ summary_of seed threads rounds memory =
     summary_same seed threads rounds (counter_of cells) (counter_in memory) (counters_left seed threads rounds history cells ran.outcome.legal ran.left) in
-    (ends, (ran.outcome, (sym none, same ∙ ap (λ b. if b then summary_of seed threads rounds memory else report_of budget ends) (sym left))))
+    (ends, (ran.outcome, (ran.few, (sym none, same ∙ ap (λ b. if b then summary_of seed threads rounds memory else report_of budget ends) (sym left)))))
 
 -- ---- the answer
 
@@ -70,17 +71,17 @@ load_ran seed threads rounds budget story clean status text tells =
 outcome_by : (against : Option (List ℕ)) (story : Option (List Entry)) (seed threads rounds budget status : ℕ) (text : List ℕ)
     → UnlessRun against story (TellsLoad story seed threads rounds budget) status text → (status ≡ 0) ⊎ (status ≡ 1)
     → (history : List Entry) × (ends : List GuestEnd) × ((story ≡ Some history)
-    × (IsOutcome (load_program seed threads rounds) (load_size threads) budget history ends
-    × (text ≡ load_text seed threads rounds budget (left_by (load_program seed threads rounds) (load_size threads) history) ends)))
+    × (IsOutcome (load_program seed threads rounds) (load_size threads) budget history ends × (KeepsLimit (load_size threads) history
+    × (text ≡ load_text seed threads rounds budget (left_by (load_program seed threads rounds) (load_size threads) history) ends))))
 outcome_by (Some name) story seed threads rounds budget status text stands (inl is) = cc (stands.1.0, is)
 outcome_by (Some name) story seed threads rounds budget status text stands (inr is) = cc (stands.1.0, is)
 outcome_by None None seed threads rounds budget status text tells ran = absurd tells
-outcome_by None (Some history) seed threads rounds budget status text tells ran = (history, tells.0, (refl, (tells.1.0, tells.1.1.1)))
+outcome_by None (Some history) seed threads rounds budget status text tells ran = (history, tells.0, (refl, (tells.1.0, (tells.1.1.0, tells.1.1.1.1))))
 
 pub load_outcome : (seed threads rounds budget : ℕ) (story : Option (List Entry)) (status : ℕ) (text : List ℕ)
     → AnswersLoad seed threads rounds budget story status text → (status ≡ 0) ⊎ (status ≡ 1)
     → (history : List Entry) × (ends : List GuestEnd) × ((story ≡ Some history)
-    × (IsOutcome (load_program seed threads rounds) (load_size threads) budget history ends
-    × (text ≡ load_text seed threads rounds budget (left_by (load_program seed threads rounds) (load_size threads) history) ends)))
+    × (IsOutcome (load_program seed threads rounds) (load_size threads) budget history ends × (KeepsLimit (load_size threads) history
+    × (text ≡ load_text seed threads rounds budget (left_by (load_program seed threads rounds) (load_size threads) history) ends))))
 load_outcome seed threads rounds budget story status text answers ran =
     outcome_by (load_refusal threads rounds) story seed threads rounds budget status text answers ran

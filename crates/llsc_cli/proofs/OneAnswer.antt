@@ -96,7 +96,7 @@ run_one : (program : Program) (size : Numbers) (budget : ℕ) (story : Option (L
 run_one program size budget None status other text more a b = absurd a
 run_one program size budget (Some history) status other text more a b =
     let ends : a.0 ≡ b.0 = one_list_on program size budget history a.0 b.0 a.1.0.ends b.1.0.ends in
-    (a.1.1.0 ∙ ap status_of_all ends ∙ sym b.1.1.0, a.1.1.1 ∙ ap (report_of budget) ends ∙ sym b.1.1.1)
+    (a.1.1.1.0 ∙ ap status_of_all ends ∙ sym b.1.1.1.0, a.1.1.1.1 ∙ ap (report_of budget) ends ∙ sym b.1.1.1.1)
 
 -- a load, by its history
 load_one : (seed threads rounds budget : ℕ) (story : Option (List Entry)) → AreOne (TellsLoad story seed threads rounds budget)
@@ -105,8 +105,8 @@ load_one seed threads rounds budget (Some history) status other text more a b =
     let program = load_program seed threads rounds in
     let size = load_size threads in
     let ends : a.0 ≡ b.0 = one_list_on program size budget history a.0 b.0 a.1.0.ends b.1.0.ends in (
-      a.1.1.0 ∙ ap status_of_all ends ∙ sym b.1.1.0,
-      a.1.1.1 ∙ ap (load_text seed threads rounds budget (left_by program size history)) ends ∙ sym b.1.1.1,
+      a.1.1.1.0 ∙ ap status_of_all ends ∙ sym b.1.1.1.0,
+      a.1.1.1.1 ∙ ap (load_text seed threads rounds budget (left_by program size history)) ends ∙ sym b.1.1.1.1,
     )
 
 unless_run_one : (against : Option (List ℕ)) (story : Option (List Entry)) (answers : ℕ → List ℕ → Type 0) → AreOne answers → AreOne (UnlessRun against story answers)

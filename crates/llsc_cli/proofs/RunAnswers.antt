@@ -2,6 +2,7 @@
 use Rattle.std.proofs.Common.{◌≡◌, ◌⊎◌, inl, inr, ℕ, List, Option, Some, None, refl, sym, subst}
 use Rattle.llsc_base.specs.Images.{Program}
 use Rattle.llsc_base.specs.Sizes.{Numbers}
+use Rattle.history.specs.Cause.{KeepsLimit}
 use Rattle.history.specs.declared.entry.Entry.{Entry}
 use Rattle.guest_thread.specs.Outcome.{IsOutcome}
 use Rattle.guest_thread.specs.declared.ends.GuestEnd.{GuestEnd}
@@ -17,7 +18,7 @@ use Rattle.llsc_cli.specs.Trace.{status_of_all}
 
 pub reported : (program : Program) (size : Numbers) (budget : ℕ) (history : List Entry) (ends : List GuestEnd) (cells : List ℕ)
     → Ran program size budget history ends cells → IsReportOf history program size budget (status_of_all ends) (report_of budget ends)
-reported program size budget history ends cells ran = (ends, (ran.outcome, (refl, refl)))
+reported program size budget history ends cells ran = (ends, (ran.outcome, (ran.few, (refl, refl))))
 
 -- ---- the answer
 
@@ -43,14 +44,15 @@ run_ran format size budget story file made image clean same whole status text re
 
 outcome_by : (against : Option (List ℕ)) (story : Option (List Entry)) (program : Program) (size : Numbers) (budget status : ℕ) (text : List ℕ)
     → UnlessRun against story (ReportsRun story program size budget) status text → (status ≡ 0) ⊎ (status ≡ 1)
-    → (history : List Entry) × (ends : List GuestEnd) × ((story ≡ Some history) × (IsOutcome program size budget history ends × (text ≡ report_of budget ends)))
+    → (history : List Entry) × (ends : List GuestEnd) × ((story ≡ Some history) × (IsOutcome program size budget history ends × (KeepsLimit size history × (text ≡ report_of budget ends))))
 outcome_by (Some name) story program size budget status text stands (inl is) = cc (stands.1.0, is)
 outcome_by (Some name) story program size budget status text stands (inr is) = cc (stands.1.0, is)
 outcome_by None None program size budget status text reports ran = absurd reports
-outcome_by None (Some history) program size budget status text reports ran = (history, reports.0, (refl, (reports.1.0, reports.1.1.1)))
+outcome_by None (Some history) program size budget status text reports ran = (history, reports.0, (refl, (reports.1.0, (reports.1.1.0, reports.1.1.1.1))))
 
 pub outcome_of : (format : Format) (size : Numbers) (budget : ℕ) (file : List ℕ) (story : Option (List Entry)) (status : ℕ) (text : List ℕ)
     → AnswersRun format size budget file story status text → (status ≡ 0) ⊎ (status ≡ 1)
-    → (history : List Entry) × (ends : List GuestEnd) × ((story ≡ Some history) × (IsOutcome (image_of format file size) size budget history ends × (text ≡ report_of budget ends)))
+    → (history : List Entry) × (ends : List GuestEnd) × ((story ≡ Some history) × (IsOutcome (image_of format file size) size budget history ends
+    × (KeepsLimit size history × (text ≡ report_of budget ends))))
 outcome_of format size budget file story status text answers ran =
     outcome_by (program_refusal format size file) story (image_of format file size) size budget status text answers ran

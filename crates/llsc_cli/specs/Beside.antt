@@ -3,6 +3,7 @@ use Rattle.std.specs.Prelude.{◌≡◌, ℕ, ◌<◌, ◌*◌, List, length, sl
 use Rattle.llsc_base.specs.Images.{Program}
 use Rattle.llsc_base.specs.Sizes.{Numbers}
 use Rattle.row_bytes.specs.Cell.{cell_at}
+use Rattle.history.specs.Cause.{KeepsLimit}
 use Rattle.history.specs.Monitor.{at_rest_by, monitor_after}
 use Rattle.history.specs.Parts.{accesses_of}
 use Rattle.history.specs.declared.entry.Entry.{Entry}
@@ -19,8 +20,9 @@ pub record AreCells (size : Numbers) (memory cells : List ℕ) : Type 0 where
   pub count : 8 * length cells ≡ size.mem
   pub each : (i : ℕ) → i < length cells → slice_index cells i ≡ cell_at memory i
 
--- the threads ended so by a history, and it left these cells
+-- the threads ended so by a history in which no class had more writes than it takes, and it left these cells
 pub record Ran (program : Program) (size : Numbers) (budget : ℕ) (history : List Entry) (ends : List GuestEnd) (cells : List ℕ) : Type 0 where
   pub outcome : IsOutcome program size budget history ends
+  pub few : KeepsLimit size history
   pub sums : HasSums ends
   pub left : AreCells size (left_by program size history) cells

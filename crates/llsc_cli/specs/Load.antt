@@ -11,6 +11,7 @@ use Rattle.llsc_base.specs.declared.access.Size.TheVariants.{B4}
 use Rattle.row_bytes.specs.Cell.{value_in_cell}
 use Rattle.elf32.specs.Units.{unit_image}
 use Rattle.guest_gen.specs.Counters.{counter_at, counter_unit, counters, is_rounds}
+use Rattle.history.specs.Cause.{KeepsLimit}
 use Rattle.history.specs.declared.entry.Entry.{Entry}
 use Rattle.guest_thread.specs.Outcome.{IsOutcome}
 use Rattle.guest_thread.specs.declared.ends.GuestEnd.{GuestEnd}
@@ -83,13 +84,14 @@ abbrev pub load_text : (seed threads rounds budget : ℕ) (memory : List ℕ) �
 load_text seed threads rounds budget memory ends =
     if have_left ends then summary_of seed threads rounds memory else report_of budget ends
 
--- the text of a load by a history, which is legal, complete and of the guest's threads, and the status by their stops
+-- the text of a load by a history, which is legal, complete, of the guest's threads and within the limit of writes, and the
+-- status by their stops
 abbrev pub IsLoadOf : List Entry → (seed threads rounds budget : ℕ) → ℕ → List ℕ → Type 0
 IsLoadOf history seed threads rounds budget status text =
     let program = load_program seed threads rounds in
     let size = load_size threads in
-    (ends : List GuestEnd) × (IsOutcome program size budget history ends
-    × ((status ≡ status_of_all ends) × (text ≡ load_text seed threads rounds budget (left_by program size history) ends)))
+    (ends : List GuestEnd) × (IsOutcome program size budget history ends × (KeepsLimit size history
+    × ((status ≡ status_of_all ends) × (text ≡ load_text seed threads rounds budget (left_by program size history) ends))))
 
 -- threads that ran have a history, and what is printed is by it
 abbrev pub TellsLoad : Option (List Entry) → (seed threads rounds budget : ℕ) → ℕ → List ℕ → Type 0

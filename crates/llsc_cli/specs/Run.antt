@@ -3,6 +3,7 @@ use Rattle.std.specs.Prelude.{◌≡◌, ℕ, List, Option, Some, None}
 use Rattle.std.specs.Option.{option_map}
 use Rattle.llsc_base.specs.Images.{Program}
 use Rattle.llsc_base.specs.Sizes.{Numbers}
+use Rattle.history.specs.Cause.{KeepsLimit}
 use Rattle.history.specs.declared.entry.Entry.{Entry}
 use Rattle.version_memory.specs.declared.passes.VersionStory.{VersionStory}
 use Rattle.version_memory.specs.Memory.{story_history}
@@ -18,10 +19,12 @@ use Rattle.llsc_cli.specs.Trace.{status_of_all}
 abbrev pub told : Option VersionStory → Option (List Entry)
 told story = option_map story_history story
 
--- the report of the threads' ends in a history, which is legal, complete and their own, and the status by their stops
+-- the report of the threads' ends in a history, which is legal, complete, their own and within the limit of writes, and the
+-- status by their stops
 abbrev pub IsReportOf : List Entry → Program → Numbers → ℕ → ℕ → List ℕ → Type 0
 IsReportOf history program size budget status text =
-    (ends : List GuestEnd) × (IsOutcome program size budget history ends × ((status ≡ status_of_all ends) × (text ≡ report_of budget ends)))
+    (ends : List GuestEnd) × (IsOutcome program size budget history ends × (KeepsLimit size history
+    × ((status ≡ status_of_all ends) × (text ≡ report_of budget ends))))
 
 -- threads that ran have a history, and are reported by it
 abbrev pub ReportsRun : Option (List Entry) → Program → Numbers → ℕ → ℕ → List ℕ → Type 0

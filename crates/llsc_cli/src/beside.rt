@@ -1,5 +1,5 @@
 //! Threads that run beside each other, on a memory of their own.
-ghost use Rattle.std.specs.Prelude.{◌≡◌, ◌≤◌, ℕ, [], false, length, nat_lt, IfOk};
+ghost use Rattle.std.specs.Prelude.{◌≡◌, ◌≤◌, ℕ, [], false, length, nat_lt, true, IfOk};
 ghost use Rattle.llsc_base.specs.Limits.{most_budget};
 ghost use Rattle.version_memory.specs.Memory.{story_history};
 ghost use Rattle.llsc_cli.specs.Beside.{Ran as HasRun};
@@ -24,7 +24,7 @@ pub struct Finished<S> {
     pub story: S,
 }
 
-/// Runs an image's threads on a memory, with the pass of all of them, and closes it.
+/// Runs an image's threads on a memory that counts the writes of a class, with the pass of all of them, and closes it.
 fn run_over<M: SharedMemory, R: Threads + Wait + Sync>(
     rt: &R,
     alloc: Global,
@@ -38,6 +38,7 @@ fn run_over<M: SharedMemory, R: Threads + Wait + Sync>(
     requires none { M.seen pass ≡ [] }
     requires first { (M.origin memory).first ≡ (M.origin memory).size.threads }
     requires bytes { (M.origin memory).bytes ≡ image.now.bytes }
+    requires spends { (M.origin memory).spends ≡ true }
     requires whole { length image.now.bytes ≡ (M.origin memory).size.mem }
     requires budget { budget ≤ most_budget }
     ensures { IfOk result (λ done. HasRun image.now (M.origin memory).size budget (M.history done.story) done.ends.items done.rows) }

@@ -19,7 +19,8 @@ use Rattle.shared_memory.proofs.Grown.{legal-tells}
 
 module _ {D : Type 0} (knows : Standing → ℕ → D → Type 0) (plan : Plan) (views : List (View D)) (history : List Entry) (s : Standing) (seat : ℕ) (v : View D)
     (tells : Tells knows plan.size plan.image.value.bytes views history s) (at : get_elem? views seat ≡ some v) (all : (t : ℕ) → t < plan.size.threads → IsOneOf t (marked v.numbers)) where
-  all-seen : v.seen ≡ history
+  -- it has seen the whole history
+  pub all-seen : v.seen ≡ history
   all-seen = whole knows plan.size plan.image.value.bytes views history s seat v tells at all
 
   pub legal-seen : (spends : Bool) → IsLegalFrom (record { size = plan.size; first = plan.size.threads; bytes = plan.image.value.bytes; spends = spends }) v.seen

@@ -5,6 +5,7 @@ ghost use Rattle.std.specs.Result.{OnOk};
 ghost use Rattle.llsc_base.specs.Memory.{is_aligned, size_bytes};
 ghost use Rattle.row_bytes.specs.Cell.{cell_at};
 ghost use Rattle.atomic_table.specs.Seated.{TableId};
+ghost use Rattle.history.specs.Cause.{KeepsLimit};
 ghost use Rattle.history.specs.Legal.{IsComplete};
 ghost use Rattle.history.specs.Monitor.{at_rest_by, monitor_after};
 ghost use Rattle.history.specs.Parts.{accesses_of, entries_of};
@@ -166,13 +167,15 @@ pub trait SharedMemory: Sync + Drop {
         ensures yours { SaysAllOf (numbers other) (seen other) (seen pass.new) }
         ensures memory { home pass.new ≡ home pass.old };
 
-    /// Memory as it is left, cell by cell, and its history, once a pass holds the numbers of all threads.
+    /// Memory as it is left, cell by cell, and its history, once a pass holds the numbers of all threads. Where the memory counts
+    /// the writes of a class, no class has had more of them than it takes.
     fn close(self, pass: Self::Pass) -> (Rows, Self::Story)
         requires memory { home pass ≡ id self }
         requires all { (t : ℕ) → t < (origin self).size.threads → IsOneOf t (numbers pass) }
         ensures story { history result.1 ≡ seen pass }
         ensures legal { IsLegalFrom (origin self) (seen pass) }
         ensures complete { IsComplete (seen pass) }
+        ensures few { (origin self).spends ≡ true → KeepsLimit (origin self).size (seen pass) }
         ensures count { 8 * length result.0 ≡ (origin self).size.mem }
         ensures rows { (i : ℕ) → i < length result.0 → slice_index result.0 i ≡ cell_at (monitor_after (at_rest_by (origin self).size.granule (origin self).bytes (origin self).size.threads) (accesses_of (seen pass))).memory i };
 }
