@@ -23,3 +23,4 @@ mod places;
 pub use a32_syntax::AsmKind;
 pub use assembler::{AsmFault, assemble};
 pub use disassembler::disassemble;
+pub use outcomes::MOST_TEXT;

@@ -12,7 +12,7 @@ use crate::pieces::{Added, piece_of};
 use a32_syntax::AsmKind;
 
 /// The most bytes of a text.
-const MOST_TEXT: usize = 4_194_304;
+pub const MOST_TEXT: usize = 4_194_304;
 
 /// The most words of the code.
 const MOST_WORDS: u64 = 65_536;

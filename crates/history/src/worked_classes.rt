@@ -1,10 +1,10 @@
 //! Worked cases of reservations, of what ends them, and of what a history says of a class of rows.
 ghost use Rattle.std.specs.Prelude.{◌≡◌, ◌∷◌, [], false, true, None, Some};
-ghost use Rattle.history.specs.Cause.{MayFail, writes_in_class};
+ghost use Rattle.history.specs.Cause.{KeepsLimit, MayFail, writes_in_class};
 ghost use Rattle.history.specs.Class.{comer_in, edges_of, last_of, name_of, writer_in};
 ghost use Rattle.history.specs.Entry.{is_in_class};
 ghost use Rattle.history.specs.Reservation.{reservation_of};
-ghost use Rattle.history.specs.Worked.{far_word, next_row, small_machine, word};
+ghost use Rattle.history.specs.Worked.{cell_before, far_word, next_row, small_machine, word};
 
 use crate::entry::{Cause, Entry};
 
@@ -63,4 +63,13 @@ pub fn words_of_a_class()
     ensures no_comer { last_of (comer_in (small_machine 4096) 1) (Entry.Begin 0 next_row ∷ Entry.End 0 word ∷ []) ≡ None }
     ensures names { name_of (Some 0) ≡ 1 }
     ensures no_name { name_of None ≡ 0 }
+{}
+
+/// A history keeps to the limit where no class has had more Writes than it may have, in all of its rows together. A write that has
+/// only begun isn't one yet.
+pub fn limits_that_are_kept()
+    ensures only_begun { KeepsLimit (small_machine 2) (Entry.Begin 0 word ∷ Entry.Begin 1 word ∷ []) }
+    ensures as_many { KeepsLimit (small_machine 2) (Entry.Write 0 word 5 false ∷ Entry.End 0 word ∷ Entry.Begin 1 word ∷ []) }
+    ensures one_more { ¬ KeepsLimit (small_machine 2) (Entry.Write 0 word 5 false ∷ Entry.Write 1 word 9 true ∷ []) }
+    ensures in_two_rows { ¬ KeepsLimit (small_machine 2) (Entry.Write 1 cell_before 5 false ∷ Entry.Write 0 next_row 9 true ∷ []) }
 {}

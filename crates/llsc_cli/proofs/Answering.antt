@@ -2,15 +2,16 @@
 use Rattle.std.proofs.Common.{◌≡◌, ℕ, ◌<◌, ◌⊎◌, inl, inr, List, [], length, Option, Some, None, refl, sym, ◌∙◌, ap, subst, arith, codes, nat_lt, true, IsTrue}
 use Rattle.std.proofs.lemmas.Bool.Decides.{nat_tests}
 use Rattle.llsc_base.specs.Sizes.{Numbers}
-use Rattle.llsc_cli.specs.Host.{AreBytes, Adds, AddsFront}
-use Rattle.llsc_cli.specs.Refusals.{Answer, refused, read_text, refusal_text, most_program, too_long, size_refusal, Refusal, Refuses, Unless}
+use Rattle.llsc_host.specs.Host.{AreBytes, Adds, AddsFront}
+use Rattle.llsc_report.specs.Said.{read_text, refusal_text}
+use Rattle.llsc_cli.specs.Refusals.{Answer, refused, most_program, too_long, size_refusal, Refusal, Refuses, Unless}
 use Rattle.llsc_cli.specs.Programs.{program_fault_name, is_wanting, program_refusal, refusal_on, IsFaultBy}
 use Rattle.llsc_cli.specs.Answer.{Is, IsDone}
 use Rattle.llsc_cli.specs.Reads.{Answered, CutAfter, IsCutFile, CallEnds, EndsFor, Gives}
 use Rattle.llsc_words.specs.declared.formats.Format.{Format}
 use Rattle.llsc_cli.specs.declared.programs.ProgramFault.{ProgramFault}
-use Rattle.llsc_cli.specs.declared.host.ReadFault.{ReadFault}
-use Rattle.llsc_cli.specs.declared.host.ReadFault.TheVariants as read
+use Rattle.llsc_host.specs.declared.host.ReadFault.{ReadFault}
+use Rattle.llsc_host.specs.declared.host.ReadFault.TheVariants as read
 
 -- a status of an answer that was given whole, where it is one of these
 pub done_four : (status : ℕ) → (status ≡ 3) ⊎ ((status ≡ 4) ⊎ ((status ≡ 5) ⊎ (status ≡ 6))) → IsDone status → status ≡ 4

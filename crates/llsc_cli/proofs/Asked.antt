@@ -3,7 +3,7 @@ use Rattle.std.proofs.Common.{◌≡◌, ◌≢◌, ℕ, ◌⊎◌, inl, inr, Li
 use Rattle.std.proofs.lemmas.List.Elements.{recursion_from_All}
 use Rattle.history.specs.declared.entry.Entry.{Entry}
 use Rattle.version_memory.specs.declared.passes.VersionStory.{VersionStory}
-use Rattle.llsc_cli.specs.Host.{AreBytes, Adds}
+use Rattle.llsc_host.specs.Host.{AreBytes, Adds}
 use Rattle.llsc_words.specs.Request.{Request, Solo, Run, Assemble, Disassemble, Trace, Check, Load, files_of}
 use Rattle.llsc_cli.specs.Answer.{Answers, AreFiles, AreTold, IsDue, IsNoneOf}
 use Rattle.llsc_cli.specs.Reads.{CallEnds, EndsAsked}

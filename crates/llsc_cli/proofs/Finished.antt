@@ -15,7 +15,7 @@ use Rattle.guest_thread.specs.Counting.{accesses_counted, counts_in}
 use Rattle.guest_thread.specs.Outcome.{AreEndsOn, IsOutcome}
 use Rattle.guest_thread.specs.declared.ends.GuestEnd.{GuestEnd}
 use Rattle.llsc_cli.specs.Beside.{AreCells, Ran, left_by}
-use Rattle.llsc_cli.specs.Report.{HasSums}
+use Rattle.llsc_report.specs.Report.{HasSums}
 
 -- the counts of 16 threads are small
 few_of : (end : GuestEnd) → accesses_counted (counts_in end) < 2 ^ 45 → (end.reads ≤ 2 ^ 45) × (end.writes ≤ 2 ^ 45) × (end.fails ≤ 2 ^ 45)

@@ -18,7 +18,8 @@ use Rattle.history.specs.declared.entry.Entry.{Entry}
 use Rattle.history.proofs.CellLaws.{CellsAre-standing}
 use Rattle.history.proofs.Marks.{IsAsLarge-monitor_after}
 use Rattle.llsc_cli.specs.Beside.{AreCells, left_by}
-use Rattle.llsc_cli.specs.Load.{counter_in, counter_of, counter_place, load_program, load_size}
+use Rattle.llsc_report.specs.Summary.{counter_in, counter_of, counter_place}
+use Rattle.llsc_cli.specs.Load.{load_program, load_size}
 
 -- ---- the program's bytes
 

@@ -13,15 +13,17 @@ use Rattle.history.specs.declared.entry.Entry.{Entry}
 use Rattle.guest_thread.specs.Outcome.{IsOutcome}
 use Rattle.guest_thread.specs.declared.ends.GuestEnd.{GuestEnd}
 use Rattle.llsc_cli.specs.Beside.{Ran, left_by}
-use Rattle.llsc_cli.specs.Load.{AnswersLoad, TellsLoad, counter_in, counter_of, guest_refusal, load_program, load_refusal, load_size, load_text, summary_by, summary_of}
-use Rattle.llsc_cli.specs.Host.{Adds, AddsFront}
+use Rattle.llsc_report.specs.Summary.{counter_in, counter_of, summary_by, summary_of}
+use Rattle.llsc_cli.specs.Load.{AnswersLoad, TellsLoad, guest_refusal, load_program, load_refusal, load_size, load_text}
+use Rattle.llsc_host.specs.Host.{Adds, AddsFront}
 use Rattle.llsc_cli.specs.Reads.{Answered}
-use Rattle.llsc_cli.specs.Refusals.{Refusal, refusal_text}
-use Rattle.llsc_cli.specs.Report.{report_of}
+use Rattle.llsc_report.specs.Said.{refusal_text}
+use Rattle.llsc_cli.specs.Refusals.{Refusal}
+use Rattle.llsc_report.specs.Report.{report_of}
 use Rattle.llsc_cli.specs.Run.{UnlessRun}
-use Rattle.llsc_cli.specs.Trace.{have_left, status_of_all}
+use Rattle.llsc_report.specs.Status.{have_left, status_of_all}
 use Rattle.llsc_cli.proofs.Answering.{answered_refused, answered_wanting}
-use Rattle.llsc_cli.proofs.Counted.{summary_same}
+use Rattle.llsc_report.proofs.Counted.{summary_same}
 use Rattle.llsc_cli.proofs.Left.{counters_left}
 
 -- ---- what is printed

@@ -3,7 +3,7 @@ use Rattle.std.proofs.Common.{◌≡◌, ℕ, List, Option, None, subst}
 use Rattle.llsc_base.specs.Images.{Program}
 use Rattle.llsc_base.specs.Sizes.{Numbers}
 use Rattle.llsc_words.specs.declared.formats.Format.{Format}
-use Rattle.llsc_cli.specs.Host.{AreBytes}
+use Rattle.llsc_host.specs.Host.{AreBytes}
 use Rattle.llsc_cli.specs.Programs.{image_of, program_refusal}
 use Rattle.llsc_cli.specs.Reads.{Answered, CallEnds}
 use Rattle.llsc_cli.specs.Refusals.{Refusal, Refuses, size_refusal}

@@ -18,13 +18,14 @@ use Rattle.run_checker.proofs.Right.{one_verdict}
 use Rattle.llsc_words.specs.declared.formats.Format.{Format}
 use Rattle.llsc_cli.specs.Programs.{image_of, program_refusal}
 use Rattle.llsc_cli.specs.Refusals.{Answer, machine_of, solo_size, Unless}
-use Rattle.llsc_cli.specs.Report.{report_of}
+use Rattle.llsc_report.specs.Report.{report_of}
 use Rattle.llsc_cli.specs.Run.{ReportsRun, UnlessRun}
 use Rattle.llsc_cli.specs.Beside.{left_by}
 use Rattle.llsc_cli.specs.Load.{TellsLoad, load_program, load_refusal, load_size, load_text}
 use Rattle.llsc_cli.specs.Assembly.{asm_answer}
 use Rattle.llsc_cli.specs.Disassembly.{dis_answer}
-use Rattle.llsc_cli.specs.Trace.{status_of, status_of_all, IsRecorded, Traces}
+use Rattle.llsc_report.specs.Status.{status_of, status_of_all}
+use Rattle.llsc_cli.specs.Trace.{IsRecorded, Traces}
 use Rattle.llsc_cli.specs.Check.{files_refusal, verdict_status, verdict_text, IsJudged, JudgesRead}
 use Rattle.llsc_words.specs.Request.{Request, Solo, Run, Assemble, Disassemble, Trace, Check, Load}
 use Rattle.llsc_cli.specs.Answer.{Answers, Is, IsReported}

@@ -10,9 +10,9 @@ use Rattle.llsc_words.specs.declared.formats.Format.{Format}
 use Rattle.llsc_cli.specs.Beside.{Ran}
 use Rattle.llsc_cli.specs.Programs.{image_of, program_refusal}
 use Rattle.llsc_cli.specs.Refusals.{Refuses}
-use Rattle.llsc_cli.specs.Report.{report_of}
+use Rattle.llsc_report.specs.Report.{report_of}
 use Rattle.llsc_cli.specs.Run.{AnswersRun, IsReportOf, ReportsRun, UnlessRun}
-use Rattle.llsc_cli.specs.Trace.{status_of_all}
+use Rattle.llsc_report.specs.Status.{status_of_all}
 
 -- ---- the report
 

@@ -4,12 +4,12 @@ use Rattle.llsc_base.specs.Sizes.{Numbers}
 use Rattle.llsc_base.specs.Images.{Program}
 use Rattle.guest_thread.specs.declared.ends.GuestEnd.{GuestEnd}
 use Rattle.guest_machine.specs.Alone.{IsSoloEnd}
-use Rattle.llsc_cli.specs.Host.{AreBytes, Adds, AddsFront}
-use Rattle.llsc_cli.specs.Report.{report_of}
+use Rattle.llsc_host.specs.Host.{AreBytes, Adds, AddsFront}
+use Rattle.llsc_report.specs.Report.{report_of}
 use Rattle.llsc_words.specs.declared.formats.Format.{Format}
 use Rattle.llsc_cli.specs.Programs.{image_of, program_refusal}
 use Rattle.llsc_cli.specs.Refusals.{solo_size, Refuses}
-use Rattle.llsc_cli.specs.Trace.{status_of}
+use Rattle.llsc_report.specs.Status.{status_of}
 use Rattle.llsc_cli.specs.Answer.{AnswersSolo, IsDone, IsReported}
 use Rattle.llsc_cli.specs.Reads.{CallEnds}
 use Rattle.llsc_cli.proofs.Answering.{ends_done, unless_none, unless_refused}

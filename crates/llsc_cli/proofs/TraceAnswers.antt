@@ -6,7 +6,8 @@ use Rattle.guest_thread.specs.declared.ends.GuestEnd.{GuestEnd}
 use Rattle.llsc_words.specs.declared.formats.Format.{Format}
 use Rattle.llsc_cli.specs.Programs.{image_of, program_refusal}
 use Rattle.llsc_cli.specs.Refusals.{machine_of, Refuses}
-use Rattle.llsc_cli.specs.Trace.{have_left, status_of_all, AnswersTrace, Traces}
+use Rattle.llsc_report.specs.Status.{have_left, status_of_all}
+use Rattle.llsc_cli.specs.Trace.{AnswersTrace, Traces}
 use Rattle.llsc_cli.specs.Answer.{IsDone}
 use Rattle.llsc_cli.proofs.Answering.{unless_none, unless_refused}
 

@@ -6,16 +6,18 @@ use Rattle.history.specs.declared.entry.Entry.{Entry}
 use Rattle.guest_thread.specs.declared.ends.GuestEnd.{GuestEnd}
 use Rattle.guest_machine.specs.Alone.{IsSoloEnd}
 use Rattle.llsc_words.specs.declared.formats.Format.{Format}
-use Rattle.llsc_cli.specs.Report.{report_of}
-use Rattle.llsc_cli.specs.Host.{Rose, AreBytes, AddsFront}
+use Rattle.llsc_report.specs.Report.{report_of}
+use Rattle.llsc_host.specs.Host.{Rose, AreBytes, AddsFront}
 use Rattle.llsc_words.specs.Request.{Request, Solo, Run, Assemble, Disassemble, Trace, Check, Load, files_of}
 use Rattle.llsc_cli.specs.Assembly.{asm_answer}
 use Rattle.llsc_cli.specs.Disassembly.{dis_answer}
 use Rattle.llsc_cli.specs.Run.{AnswersRun}
-use Rattle.llsc_cli.specs.Trace.{status_of, AnswersTrace}
+use Rattle.llsc_report.specs.Status.{status_of}
+use Rattle.llsc_cli.specs.Trace.{AnswersTrace}
 use Rattle.llsc_cli.specs.Check.{AnswersCheck}
 use Rattle.llsc_cli.specs.Load.{AnswersLoad}
-use Rattle.llsc_cli.specs.Refusals.{Answer, words_text, read_text, machine_of, most_program, solo_size, size_refusal, too_long, Unless}
+use Rattle.llsc_report.specs.Said.{words_text, read_text}
+use Rattle.llsc_cli.specs.Refusals.{Answer, machine_of, most_program, solo_size, size_refusal, too_long, Unless}
 use Rattle.llsc_cli.specs.Programs.{image_of, program_refusal}
 
 -- a run of a program's one thread, with the report and the status by its stop

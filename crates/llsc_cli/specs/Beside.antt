@@ -9,7 +9,7 @@ use Rattle.history.specs.Parts.{accesses_of}
 use Rattle.history.specs.declared.entry.Entry.{Entry}
 use Rattle.guest_thread.specs.Outcome.{IsOutcome}
 use Rattle.guest_thread.specs.declared.ends.GuestEnd.{GuestEnd}
-use Rattle.llsc_cli.specs.Report.{HasSums}
+use Rattle.llsc_report.specs.Report.{HasSums}
 
 -- the memory that a history leaves, from a program's bytes on
 abbrev pub left_by : Program → Numbers → List Entry → List ℕ

@@ -14,7 +14,8 @@ use Rattle.run_checker.specs.declared.verdicts.Verdict.{Verdict}
 use Rattle.run_checker.specs.declared.verdicts.Verdict.TheVariants as verdict
 use Rattle.llsc_words.specs.declared.formats.Format.{Format}
 use Rattle.llsc_cli.specs.Programs.{image_of, program_refusal}
-use Rattle.llsc_cli.specs.Refusals.{machine_of, most_program, refusal_text, too_long, Unless}
+use Rattle.llsc_report.specs.Said.{refusal_text}
+use Rattle.llsc_cli.specs.Refusals.{machine_of, most_program, too_long, Unless}
 
 -- the most bytes of a record's file
 abbrev pub most_record : ℕ

@@ -4,7 +4,7 @@ use Rattle.std.specs.List.{flat_map, range_with_len}
 use Rattle.llsc_base.specs.Images.{Program, word_at}
 use Rattle.number_text.specs.Hexadecimal.{word_text}
 use Rattle.a32_asm.specs.Shown.{shown_word}
-use Rattle.llsc_cli.specs.Host.{Adds}
+use Rattle.llsc_host.specs.Host.{Adds}
 use Rattle.llsc_words.specs.declared.formats.Format.{Format}
 use Rattle.llsc_cli.specs.Programs.{image_of, program_refusal}
 use Rattle.llsc_cli.specs.Refusals.{Answer, solo_size, unless}

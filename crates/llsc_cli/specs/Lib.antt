@@ -1,9 +1,3 @@
-pub mod Host
-pub mod MemoryHost
-pub mod MemoryHostInside
-pub mod SteadyHost
-pub mod SteadyHostInside
-pub mod Report
 pub mod Refusals
 pub mod Programs
 pub mod Assembly

@@ -1,10 +1,11 @@
 -- How a call ended that had files to answer for.
 use Rattle.std.specs.Prelude.{◌≡◌, ℕ, ◌⊎◌, List, Option, None, codes}
 use Rattle.history.specs.declared.entry.Entry.{Entry}
-use Rattle.llsc_cli.specs.declared.host.ReadFault.{ReadFault}
-use Rattle.llsc_cli.specs.declared.host.ReadFault.TheVariants.{Failed, FileTooLong, Memory}
-use Rattle.llsc_cli.specs.Host.{AreBytes, Adds, AddsFront}
-use Rattle.llsc_cli.specs.Refusals.{Answer, read_text, refusal_text}
+use Rattle.llsc_host.specs.declared.host.ReadFault.{ReadFault}
+use Rattle.llsc_host.specs.declared.host.ReadFault.TheVariants.{Failed, FileTooLong, Memory}
+use Rattle.llsc_host.specs.Host.{AreBytes, Adds, AddsFront}
+use Rattle.llsc_report.specs.Said.{read_text, refusal_text}
+use Rattle.llsc_cli.specs.Refusals.{Answer}
 use Rattle.llsc_words.specs.Request.{Request, files_of}
 use Rattle.llsc_cli.specs.Answer.{AreFiles, Answers, IsDone}
 

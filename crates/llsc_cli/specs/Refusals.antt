@@ -1,19 +1,8 @@
--- What the program says of what it can't do, and what stands against a file.
-use Rattle.std.specs.Prelude.{◌≡◌, ℕ, ◌^◌, nat_lt, if◌then◌else◌, List, ◌++◌, length, Option, Some, None, codes}
+-- What stands against a file, and how it is refused.
+use Rattle.std.specs.Prelude.{◌≡◌, ℕ, ◌^◌, nat_lt, if◌then◌else◌, List, length, Option, Some, None, codes}
 use Rattle.std.specs.Option.{option_map}
+use Rattle.llsc_report.specs.Said.{refusal_text}
 use Rattle.llsc_base.specs.Sizes.{Numbers, numbers, size_fault, size_fault_name}
-
--- the text for words that ask for nothing that there is
-abbrev pub words_text : List ℕ
-words_text = codes "llsc: words\n"
-
--- the text for a file that could not be read
-abbrev pub read_text : List ℕ
-read_text = codes "llsc: read failed\n"
-
--- the text of a refusal by its name
-abbrev pub refusal_text : List ℕ → List ℕ
-refusal_text name = codes "llsc: " ++ (name ++ codes "\n")
 
 -- A status and a text.
 pub record Answer : Type 0 where

@@ -11,9 +11,9 @@ use Rattle.guest_thread.specs.Outcome.{IsOutcome}
 use Rattle.guest_thread.specs.declared.ends.GuestEnd.{GuestEnd}
 use Rattle.llsc_words.specs.declared.formats.Format.{Format}
 use Rattle.llsc_cli.specs.Programs.{image_of, program_refusal}
-use Rattle.llsc_cli.specs.Refusals.{refusal_text}
-use Rattle.llsc_cli.specs.Report.{report_of}
-use Rattle.llsc_cli.specs.Trace.{status_of_all}
+use Rattle.llsc_report.specs.Said.{refusal_text}
+use Rattle.llsc_report.specs.Report.{report_of}
+use Rattle.llsc_report.specs.Status.{status_of_all}
 
 -- the history that a story has, where there is one
 abbrev pub told : Option VersionStory → Option (List Entry)

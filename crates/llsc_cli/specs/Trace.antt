@@ -1,10 +1,7 @@
 -- What `trace` answers for the bytes of a file.
-use Rattle.std.specs.Prelude.{◌≡◌, ℕ, ◌==◌, ◌⊎◌, if◌then◌else◌, Bool, List, codes}
-use Rattle.std.specs.List.{list_all}
+use Rattle.std.specs.Prelude.{◌≡◌, ℕ, ◌⊎◌, List, codes}
 use Rattle.llsc_base.specs.Images.{Program}
 use Rattle.llsc_base.specs.Sizes.{Numbers}
-use Rattle.a32_instr.specs.declared.outside.Stop.{Stop}
-use Rattle.a32_instr.specs.declared.outside.Stop.TheVariants as stop
 use Rattle.guest_thread.specs.declared.ends.GuestEnd.{GuestEnd}
 use Rattle.guest_machine.specs.Traces.{IsTraceRecord}
 use Rattle.history.specs.Accesses.{history_of}
@@ -13,21 +10,10 @@ use Rattle.guest_machine.specs.Turns.{IsTooLong}
 use Rattle.run_record.specs.Text.{record_text}
 use Rattle.run_record.specs.declared.records.RunRecord.{RunRecord}
 use Rattle.llsc_words.specs.declared.formats.Format.{Format}
+use Rattle.llsc_report.specs.Status.{status_of_all}
 use Rattle.llsc_cli.specs.Programs.{image_of, program_refusal}
-use Rattle.llsc_cli.specs.Refusals.{machine_of, refusal_text, Unless}
-
--- 0 where a thread left by an exit call with code 0, else 1
-abbrev pub status_of : Stop → ℕ
-status_of (stop.Exit code) = if code == 0 then 0 else 1
-status_of _ = 1
-
--- each thread left by an exit call with code 0
-abbrev pub have_left : List GuestEnd → Bool
-have_left ends = list_all (λ end. status_of end.stop == 0) ends
-
--- 0 where each thread left so, else 1
-abbrev pub status_of_all : List GuestEnd → ℕ
-status_of_all ends = if have_left ends then 0 else 1
+use Rattle.llsc_report.specs.Said.{refusal_text}
+use Rattle.llsc_cli.specs.Refusals.{machine_of, Unless}
 
 -- the record of a program's trace with its status, which is by the ends of the threads; or that the trace has too many accesses
 abbrev pub IsRecorded : Program → Numbers → ℕ → ℕ → ℕ → List ℕ → Type 0

@@ -1,15 +1,15 @@
 //! The top call: words and files in, a status and a text out.
 ghost use Rattle.std.specs.Prelude.{◌≡◌, ◌≢◌, ◌⊎◌, ℕ, List, map, string_bytes, None, Some};
-ghost use Rattle.llsc_cli.specs.Host.{Adds, Rose};
+ghost use Rattle.llsc_host.specs.Host.{Adds, Rose};
 ghost use Rattle.llsc_words.specs.Request.{Request, request_of, files_of};
-ghost use Rattle.llsc_cli.specs.Refusals.{words_text, read_text};
+ghost use Rattle.llsc_report.specs.Said.{words_text, read_text};
 ghost use Rattle.llsc_cli.specs.Run.{told};
 ghost use Rattle.llsc_cli.specs.Answer.{Answers, AreTold, IsDone, IsNoneOf, IsAnswer, ReadFailed, IsCut};
 
 use crate::commands;
 use crate::ended::Ended;
-use crate::host::Host;
-use crate::said::{out_of_memory, say};
+use llsc_host::Host;
+use llsc_report::{out_of_memory, say};
 use llsc_words::parse;
 use std::alloc::Global;
 use std::sync::Wait;

@@ -1,6 +1,6 @@
 //! The commands.
 ghost use Rattle.std.specs.Prelude.{◌≡◌, ◌≢◌, None};
-ghost use Rattle.llsc_cli.specs.Host.{Rose};
+ghost use Rattle.llsc_host.specs.Host.{Rose};
 ghost use Rattle.llsc_words.specs.Request.{asked, HasBudget};
 ghost use Rattle.llsc_cli.specs.Answer.{IsAlone, IsDue};
 ghost use Rattle.llsc_cli.specs.Reads.{EndsAsked};
@@ -15,8 +15,8 @@ mod solo;
 mod trace;
 
 use crate::ended::Ended;
-use crate::host::Host;
-use crate::said::Said;
+use llsc_host::Host;
+use llsc_report::Said;
 use llsc_words::Request;
 use std::alloc::Global;
 use std::sync::Wait;

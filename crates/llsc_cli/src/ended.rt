@@ -1,7 +1,7 @@
 //! How a call ended.
 ghost use Rattle.std.specs.Prelude.{◌≡◌, None};
 
-use crate::said::Said;
+use llsc_report::Said;
 use version_memory::VersionStory;
 
 /// How a call ended.

@@ -1,16 +1,17 @@
 //! The files of a call: had, or refused.
 ghost use Rattle.std.specs.Prelude.{◌≡◌, ◌≢◌, codes, ◌<◌, ◌≤◌, ◌⊎◌, List, ℕ, None, Some, IfOk, OnOk, IfErr, OnErr, IsTrue, MatchResult, length};
 ghost use Rattle.llsc_base.specs.Sizes.{size_fault};
-ghost use Rattle.llsc_cli.specs.Host.{Adds, AddsFront, AreBytes, KeepsReads, KeepsWrites, Rose};
+ghost use Rattle.llsc_host.specs.Host.{Adds, AddsFront, AreBytes, KeepsReads, KeepsWrites, Rose};
 ghost use Rattle.llsc_words.specs.Request.{machine_by};
-ghost use Rattle.llsc_cli.specs.Refusals.{machine_of, read_text, refusal_text, too_long, most_program, size_refusal, Refusal, Refuses};
+ghost use Rattle.llsc_report.specs.Said.{read_text, refusal_text};
+ghost use Rattle.llsc_cli.specs.Refusals.{machine_of, too_long, most_program, size_refusal, Refusal, Refuses};
 ghost use Rattle.llsc_cli.specs.Programs.{program_fault_name, image_of, is_wanting, program_refusal, refusal_on};
 ghost use Rattle.llsc_cli.specs.Reads.{Answered, CutAfter, CallEnds};
 
-use crate::host::{Host, ReadFault};
 use crate::programs::{ProgramFault, image_of};
-use crate::said::{Said, out_of_memory, refuse, say};
 use llsc_base::{Image, MachineSize, SizeFault};
+use llsc_host::{Host, ReadFault};
+use llsc_report::{Said, out_of_memory, refuse, say};
 use llsc_words::{Format, MachineNumbers, RUN_CLASSES, RUN_LIMIT};
 use std::alloc::Global;
 

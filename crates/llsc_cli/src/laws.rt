@@ -20,7 +20,7 @@ ghost use Rattle.llsc_cli.specs.Beside.{left_by};
 ghost use Rattle.llsc_cli.specs.Exclusives.{AreStoresExact};
 ghost use Rattle.llsc_cli.specs.Load.{AnswersLoad, load_program, load_size, load_text};
 ghost use Rattle.llsc_cli.specs.Programs.{image_of};
-ghost use Rattle.llsc_cli.specs.Report.{report_of};
+ghost use Rattle.llsc_report.specs.Report.{report_of};
 ghost use Rattle.llsc_cli.specs.Run.{AnswersRun};
 ghost use Rattle.llsc_words.specs.declared.formats.Format.{Format};
 ghost use Rattle.llsc_words.specs.Request.{Request};

@@ -1,8 +1,8 @@
 //! Runs A32 guests: reads words and files, and writes a report and a status.
 //!
 //! The program is one call, [`call::llsc`], whose contract says what is answered to which words and files; `specs/Answer.antt`
-//! has the words of that contract. Each command is a file of `commands`; `host` is what is asked of the world outside, had by
-//! `real_host` as the program runs, and in tests by `memory_host` and by `steady_host`, which never fails.
+//! has the words of that contract. Each command is a file of `commands`. What is asked of the world outside is a `Host`
+//! (`llsc_host`); what is said of threads that ran is `llsc_report`'s.
 #![tactic(auto)]
 
 mod beside;
@@ -10,23 +10,14 @@ mod call;
 mod commands;
 mod ended;
 mod files;
-mod host;
 pub mod laws;
-mod memory_host;
 mod pages;
 mod programs;
-mod real_host;
-mod report;
-mod said;
 mod steady;
-mod steady_host;
-mod summary;
-pub mod worked;
 pub mod worked_limits;
-pub mod worked_statuses;
 
 use crate::call::llsc;
-use crate::real_host::RealHost;
+use llsc_host::RealHost;
 use std::env;
 use std::io::ErrorKind;
 use std::process::ExitCode;

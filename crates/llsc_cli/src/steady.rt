@@ -2,14 +2,14 @@
 ghost use Rattle.std.specs.Prelude.{◌≡◌, ◌⊎◌, ℕ, List, map, string_bytes, None, Some};
 ghost use Rattle.llsc_words.specs.Request.{Request, request_of, files_of};
 ghost use Rattle.llsc_cli.specs.Answer.{Answers, IsDone};
-ghost use Rattle.llsc_cli.specs.Host.{Adds};
-ghost use Rattle.llsc_cli.specs.Refusals.{words_text};
+ghost use Rattle.llsc_host.specs.Host.{Adds};
+ghost use Rattle.llsc_report.specs.Said.{words_text};
 ghost use Rattle.llsc_cli.specs.Run.{told};
-ghost use Rattle.llsc_cli.specs.SteadyHost.{written_of};
+ghost use Rattle.llsc_host.specs.SteadyHost.{written_of};
 
 use crate::call::llsc;
 use crate::ended::Ended;
-use crate::steady_host::SteadyHost;
+use llsc_host::SteadyHost;
 use std::alloc::Global;
 use std::sync::Wait;
 use std::thread::Threads;

@@ -1,11 +1,12 @@
 -- What holds of a memory that is tried, and of its passes.
-use Rattle.std.specs.Prelude.{◌≡◌, ◌+◌, ◌<◌, ◌≤◌, ℕ, Bool, IsTrue, length}
+use Rattle.std.specs.Prelude.{◌≡◌, ◌+◌, ◌<◌, ◌≤◌, ℕ, All, Bool, IsTrue, List, length}
+use Rattle.std.specs.List.{list_any}
 use Rattle.llsc_base.specs.Memory.{is_aligned, size_bytes}
 use Rattle.llsc_base.specs.declared.access.Place.{Place}
 use Rattle.atomic_table.specs.Seated.{TableId}
 use Rattle.history.specs.Monitor.{Monitor}
 use Rattle.shared_memory.specs.Origin.{Origin}
-use Rattle.shared_memory.specs.Seen.{IsSingle}
+use Rattle.shared_memory.specs.Seen.{IsOneOf, IsSingle, joint}
 
 -- a machine of 65,536 bytes and so many threads, which all begin by themselves
 pub record IsOf (threads : ℕ) (origin : Origin) : Type 0 where
@@ -27,26 +28,25 @@ module _ {P : Type 0} (home : P → TableId) (numbers : P → ℕ → Bool) wher
     pub home_is : home pass ≡ mem
     pub single : IsSingle thread (numbers pass)
 
-  -- a machine of four threads, and their passes
-  pub record AreFour (mem : TableId) (origin : Origin) (zero one two three : P) : Type 0 where
-    pub of_four : IsOf 4 origin
-    pub has_zero : IsPassOf mem 0 zero
-    pub has_one : IsPassOf mem 1 one
-    pub has_two : IsPassOf mem 2 two
-    pub has_three : IsPassOf mem 3 three
-
-  -- a pass of one thread of such a machine may make accesses
-  pub record MayLog (mem : TableId) (origin : Origin) (thread : ℕ) (pass : P) : Type 0 where
-    pub of_four : IsOf 4 origin
-    pub below : thread < 4
+  -- a pass of one of a memory's threads, which may make accesses there
+  pub record MayLog (mem : TableId) (origin : Origin) (pass : P) : Type 0 where
+    pub thread : ℕ
+    pub below : thread < origin.first
     pub has : IsPassOf mem thread pass
 
-  -- and two passes, of one thread and the next
-  pub record MayLogBoth (mem : TableId) (origin : Origin) (thread : ℕ) (first second : P) : Type 0 where
-    pub has_first : MayLog mem origin thread first
-    pub has_second : MayLog mem origin (thread + 1) second
+  -- each of these is, beside its log
+  abbrev pub MayAllLog : {L : Type 0} → TableId → Origin → List (L × P) → Type 0
+  MayAllLog mem origin logged = All (λ one. MayLog mem origin one.1) logged
 
--- Arm's memory and monitors for such a machine
-pub record IsOfFour (monitor : Monitor) : Type 0 where
+-- the numbers of all of these passes
+abbrev pub numbers_of : {L P : Type 0} → (P → ℕ → Bool) → List (L × P) → ℕ → Bool
+numbers_of numbers logged = λ thread. list_any (λ one. numbers one.1 thread) logged
+
+-- a pass has the numbers of one and of all of these
+abbrev pub HasAll : {L P : Type 0} → (P → ℕ → Bool) → P → List (L × P) → P → Type 0
+HasAll numbers first logged all = (thread : ℕ) → IsOneOf thread (joint (numbers first) (numbers_of numbers logged)) → IsOneOf thread (numbers all)
+
+-- Arm's memory and monitors for a machine of so many threads
+pub record IsFor (threads : ℕ) (monitor : Monitor) : Type 0 where
   pub bytes : length monitor.memory ≡ 65536
-  pub threads : length monitor.marks ≡ 4
+  pub threads_are : length monitor.marks ≡ threads

@@ -1,8 +1,8 @@
 //! What each memory that threads share answers.
 mod accesses;
 mod crossed;
-mod four_threads;
 mod logged;
+mod many_threads;
 mod names;
 mod order;
 mod trials;
@@ -10,7 +10,7 @@ mod tried;
 mod versions;
 
 use crate::tests::crossed::one_sees_the_other;
-use crate::tests::four_threads::have_one_order;
+use crate::tests::many_threads::have_one_order;
 use crate::tests::trials::{
     bytes_of_a_cell, exclusives_by_granule, handed_over, own_store, row_and_class,
     stores_by_granule, undone_change,
@@ -74,13 +74,23 @@ fn one_of_two_sees_the_other(rt: HostRuntime) -> Result<(), Fail> {
 }
 
 #[test]
-fn accesses_of_four_threads_have_one_order_by_names(rt: HostRuntime) -> Result<(), Fail> {
-    assert!(rt; have_one_order::<HstMemory, _>(&rt, rt.alloc())?);
+fn accesses_of_threads_have_one_order_by_names(rt: HostRuntime) -> Result<(), Fail> {
+    for threads in [2, 4, 8, 16] {
+        assert!(rt;
+            have_one_order::<HstMemory, _>(&rt, rt.alloc(), threads)?,
+            "of {threads} threads"
+        );
+    }
     Ok(())
 }
 
 #[test]
-fn accesses_of_four_threads_have_one_order_by_versions(rt: HostRuntime) -> Result<(), Fail> {
-    assert!(rt; have_one_order::<VersionMemory, _>(&rt, rt.alloc())?);
+fn accesses_of_threads_have_one_order_by_versions(rt: HostRuntime) -> Result<(), Fail> {
+    for threads in [2, 4, 8, 16] {
+        assert!(rt;
+            have_one_order::<VersionMemory, _>(&rt, rt.alloc(), threads)?,
+            "of {threads} threads"
+        );
+    }
     Ok(())
 }

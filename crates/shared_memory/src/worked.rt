@@ -1,6 +1,5 @@
-//! Worked cases of what passes have seen, of the numbers that they hold, and of classes that may take no write or have had too many.
+//! Worked cases of what passes have seen, of the numbers that they hold, and of classes that may take no write.
 ghost use Rattle.std.specs.Prelude.{◌≡◌, ◌∷◌, [], false, true};
-ghost use Rattle.history.specs.Cause.{KeepsLimit};
 ghost use Rattle.history.specs.Legal.{IsLegal};
 ghost use Rattle.history.specs.Worked.{beside, cell_before, next_row, small_machine, word};
 ghost use Rattle.shared_memory.specs.Origin.{IsLegalFrom};
@@ -91,13 +90,4 @@ pub fn classes_that_are_used_up()
     ensures in_another_class { ¬ IsUsedUp (made (limited_machine 2 2) true) next_row 0 2 (Entry.Write 1 word 5 false ∷ Entry.Write 0 beside 9 true ∷ []) }
     ensures only_begun { ¬ IsUsedUp (made (limited_machine 2 2) true) next_row 0 2 (Entry.Write 1 next_row 5 false ∷ Entry.End 1 next_row ∷ Entry.Begin 0 next_row ∷ []) }
     ensures not_counted { ¬ IsUsedUp (made (limited_machine 2 2) false) next_row 0 2 (Entry.Write 1 cell_before 5 false ∷ Entry.Write 0 next_row 9 true ∷ []) }
-{}
-
-/// A history keeps to the limit where no class has had more Writes than it may have, in all of its rows together. A write that has
-/// only begun isn't one yet.
-pub fn limits_that_are_kept()
-    ensures only_begun { KeepsLimit (limited_machine 2 0) (Entry.Begin 0 word ∷ []) }
-    ensures as_many { KeepsLimit (limited_machine 2 1) (Entry.Write 0 word 5 false ∷ Entry.End 0 word ∷ Entry.Begin 1 word ∷ []) }
-    ensures one_more { ¬ KeepsLimit (limited_machine 2 1) (Entry.Write 0 word 5 false ∷ Entry.Write 1 word 9 true ∷ []) }
-    ensures in_two_rows { ¬ KeepsLimit (limited_machine 2 1) (Entry.Write 1 cell_before 5 false ∷ Entry.Write 0 next_row 9 true ∷ []) }
 {}

@@ -1,6 +1,6 @@
 //! Whole calls over a host in memory.
 use super::*;
-use crate::memory_host::MemoryHost;
+use llsc_host::MemoryHost;
 use std::alloc::AllocError;
 use std::fmt::Debug;
 use std::process::Abort;

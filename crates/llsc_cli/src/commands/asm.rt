@@ -2,23 +2,20 @@
 ghost use Rattle.std.specs.Prelude.{◌≡◌, ◌≢◌, None, IfOk, string_bytes};
 ghost use Rattle.a32_asm.specs.Assembled.{most_text};
 ghost use Rattle.elf32.specs.Units.{code_bytes, IsWithin};
-ghost use Rattle.llsc_cli.specs.Host.{KeepsReads, Rose};
+ghost use Rattle.llsc_host.specs.Host.{KeepsReads, Rose};
 ghost use Rattle.llsc_cli.specs.Refusals.{refused, too_long};
 ghost use Rattle.llsc_cli.specs.Assembly.{asm_answer, asm_fault_text, has_data, unit_answer, unit_file};
 ghost use Rattle.llsc_cli.specs.Answer.{AnswersAsm};
 ghost use Rattle.llsc_cli.specs.Reads.{CallEnds, Gives};
 
 use crate::files::read;
-use crate::host::Host;
-use crate::said::{Said, out_of_memory, refuse, say};
-use a32_asm::{AsmFault, AsmKind, assemble};
+use a32_asm::{AsmFault, AsmKind, MOST_TEXT, assemble};
 use elf32::Unit;
+use llsc_host::Host;
+use llsc_report::{Said, out_of_memory, refuse, say};
 use llsc_words::Format;
 use std::alloc::{AllocError, Global};
 use std::str;
-
-/// The most bytes of a text.
-const MOST_TEXT: usize = 4_194_304;
 
 /// The words of the code, each from its low byte on.
 fn code_bytes(alloc: Global, words: &[u32]) -> Result<Vec<u8>, AllocError>

@@ -3,17 +3,18 @@ ghost use Rattle.std.specs.Prelude.{◌≡◌, ◌≢◌, ◌⊎◌, ◌∷◌, 
 ghost use Rattle.run_checker.specs.Verdict.{Judges};
 ghost use Rattle.run_record.specs.Limits.{IsRecord};
 ghost use Rattle.run_record.specs.Reading.{record_of};
-ghost use Rattle.llsc_cli.specs.Host.{Adds, AddsFront, KeepsReads, Rose};
-ghost use Rattle.llsc_cli.specs.Refusals.{machine_of, most_program, refusal_text, too_long};
+ghost use Rattle.llsc_host.specs.Host.{Adds, AddsFront, KeepsReads, Rose};
+ghost use Rattle.llsc_report.specs.Said.{refusal_text};
+ghost use Rattle.llsc_cli.specs.Refusals.{machine_of, most_program, too_long};
 ghost use Rattle.llsc_words.specs.Request.{Check};
 ghost use Rattle.llsc_cli.specs.Check.{files_refusal, most_record, record_fault_text, verdict_status, verdict_text, IsJudged, JudgesRead, JudgesRun};
 ghost use Rattle.llsc_cli.specs.Answer.{IsDue};
 ghost use Rattle.llsc_cli.specs.Reads.{Answered, EndsAsked};
 
 use crate::files::{MOST_BYTES, image_on, machine, numbers_of, read};
-use crate::host::Host;
-use crate::said::{Said, out_of_memory, refuse, say};
 use llsc_base::{Image, MachineSize};
+use llsc_host::Host;
+use llsc_report::{Said, out_of_memory, refuse, say};
 use llsc_words::Format;
 use run_checker::{Verdict, check_record};
 use run_record::{RecordFault, RunRecord, read_record};

@@ -1,18 +1,18 @@
 //! `dis`: an image, word by word.
 ghost use Rattle.std.specs.Prelude.{◌≡◌, ◌≢◌, ◌+◌, ◌%◌, ◌<◌, ◌≤◌, ◌++◌, [], length, codes, None, OnOk, OnErr};
 ghost use Rattle.number_text.specs.Hexadecimal.{word_text};
-ghost use Rattle.llsc_cli.specs.Host.{Adds, AddsFront, KeepsReads, Rose};
+ghost use Rattle.llsc_host.specs.Host.{Adds, AddsFront, KeepsReads, Rose};
 ghost use Rattle.llsc_cli.specs.Refusals.{size_refusal, solo_size};
 ghost use Rattle.llsc_cli.specs.Disassembly.{disassembly, head_text, line_at, word_line, Holds};
 ghost use Rattle.llsc_cli.specs.Answer.{AnswersDis};
 ghost use Rattle.llsc_cli.specs.Reads.{CallEnds, Gives};
 
 use crate::files::{LEAST_GRANULE, load, numbers_of};
-use crate::host::{Failed, Host};
 use crate::pages::Page;
-use crate::said::{Said, out_of_memory};
 use a32_asm::disassemble;
 use llsc_base::{Image, Line};
+use llsc_host::{Failed, Host};
+use llsc_report::{Said, out_of_memory};
 use llsc_words::Format;
 use number_text::write_word;
 use std::alloc::Global;

@@ -3,19 +3,18 @@ ghost use Rattle.std.specs.Prelude.{◌≡◌, ◌≢◌, ◌≤◌, ◌⊎◌, 
 ghost use Rattle.llsc_base.specs.Limits.{most_budget};
 ghost use Rattle.guest_machine.specs.Alone.{IsSoloEnd};
 ghost use Rattle.guest_thread.specs.declared.ends.GuestEnd.{GuestEnd};
-ghost use Rattle.llsc_cli.specs.Host.{Adds, AddsFront, KeepsReads, Rose};
-ghost use Rattle.llsc_cli.specs.Report.{report_of};
+ghost use Rattle.llsc_host.specs.Host.{Adds, AddsFront, KeepsReads, Rose};
+ghost use Rattle.llsc_report.specs.Report.{report_of};
 ghost use Rattle.llsc_cli.specs.Refusals.{size_refusal, solo_size};
-ghost use Rattle.llsc_cli.specs.Trace.{status_of};
+ghost use Rattle.llsc_report.specs.Status.{status_of};
 ghost use Rattle.llsc_cli.specs.Answer.{AnswersSolo};
 ghost use Rattle.llsc_cli.specs.Reads.{CallEnds};
 
 use crate::files::{LEAST_GRANULE, load, numbers_of};
-use crate::host::Host;
-use crate::report::write_report;
-use crate::said::{Said, out_of_memory, status};
 use guest_machine::solo;
 use llsc_base::{Image, MachineSize};
+use llsc_host::Host;
+use llsc_report::{Said, out_of_memory, status, write_report};
 use llsc_words::Format;
 use std::alloc::Global;
 

@@ -1,6 +1,7 @@
 //! Accesses of a thread, drawn by chance and logged with what memory answered.
 ghost use Rattle.std.specs.Prelude.{◌≡◌, ◌<◌, ℕ};
 ghost use Rattle.shared_memory.specs.Seen.{IsSingle};
+ghost use Rattle.memory_trials.specs.Tried.{MayLog};
 
 use super::accesses::may;
 use history::{Access, Deed};
@@ -8,35 +9,35 @@ use llsc_base::{Place, Size};
 use shared_memory::SharedMemory;
 use std::sync::Wait;
 
-/// A place by its number, of the eight that threads access. They lie in two rows of 32 bytes. In each row all threads write
-/// the first two, double words, and one thread alone writes each of the last two, words of one cell.
-pub fn place_of(k: u32) -> Place {
-    let (at, size) = match k % 4 {
+/// A place by its row, of the four of 32 bytes that threads access, and its number there, of six. All threads write the first
+/// two of a row, double words, and one thread alone writes each of the last four, words of two cells.
+pub fn place_of(row: u32, k: u32) -> Place {
+    let (at, size) = match k % 6 {
         0 => (0, Size::B8),
         1 => (8, Size::B8),
         2 => (16, Size::B4),
-        _ => (20, Size::B4),
+        3 => (20, Size::B4),
+        4 => (24, Size::B4),
+        _ => (28, Size::B4),
     };
     Place {
-        addr: 0x2000 + k / 4 % 2 * 32 + at,
+        addr: 0x2000 + row % 4 * 32 + at,
         size,
     }
 }
 
-/// The place that a thread alone writes.
+/// The place that a thread alone writes. Threads 0 and 1 have words of one cell, and so on two by two; those of four threads
+/// lie in two rows, and those of eight in four.
 pub fn own_place(thread: u32) -> Place {
-    place_of(thread / 2 % 2 * 4 + 2 + thread % 2)
-}
-
-/// One of the four places that all threads write.
-fn shared_place(number: u32) -> Place {
-    place_of(number / 2 % 2 * 4 + number % 2)
+    place_of(thread / 2 % 4, 2 + thread / 8 % 2 * 2 + thread % 2)
 }
 
 /// A thread on its way through its accesses.
 #[derive(Drop)]
 pub struct Course {
     thread: u32,
+    /// How many threads there are.
+    threads: u32,
     /// The number that was drawn last.
     number: u32,
     /// How many accesses there were.
@@ -46,10 +47,11 @@ pub struct Course {
 }
 
 impl Course {
-    /// A thread before its first access.
-    pub fn of(thread: u32) -> Course {
+    /// A thread, of so many, before its first access.
+    pub fn of(thread: u32, threads: u32) -> Course {
         Course {
             thread,
+            threads,
             number: thread,
             count: 0,
             watched: None,
@@ -76,15 +78,38 @@ impl Course {
             thread: self.thread,
             deed,
             place,
-            value: u64::from(self.count.wrapping_mul(4).wrapping_sub(self.thread)),
+            value: u64::from(
+                self.count
+                    .wrapping_mul(self.threads)
+                    .wrapping_sub(self.thread),
+            ),
         }
+    }
+
+    /// A row where threads have places of their own.
+    fn row(&self, number: u32) -> u32 {
+        match self.threads {
+            0..=2 => 0,
+            3..=4 => number % 2,
+            _ => number % 4,
+        }
+    }
+
+    /// A place of such a row.
+    fn any_place(&self, number: u32) -> Place {
+        place_of(self.row(number), number / 4)
+    }
+
+    /// One that all threads write.
+    fn shared_place(&self, number: u32) -> Place {
+        place_of(self.row(number), number / 4 % 2)
     }
 
     /// The next access where no reservation is held: a store-exclusive is to fail.
     fn unreserved(&mut self, number: u32) -> Access {
-        let place = shared_place(number / 8);
+        let place = self.shared_place(number / 8);
         match number % 8 {
-            0 => self.access(Deed::Load, place_of(number / 8)),
+            0 => self.access(Deed::Load, self.any_place(number / 8)),
             1 => self.access(Deed::Store, own_place(self.thread)),
             2 => self.access(Deed::StoreEx, place),
             _ => self.load_ex(place),
@@ -96,7 +121,7 @@ impl Course {
         let own = own_place(self.thread);
         match number % 8 {
             0 => self.given_up(Deed::Clear, Place::NOWHERE).with_value(0),
-            1 => self.load_ex(shared_place(number / 8)),
+            1 => self.load_ex(self.shared_place(number / 8)),
             2 | 3 => self.access(Deed::Load, own),
             4 if own.row(2) == place.row(2) => self.given_up(Deed::Store, own),
             _ => self.given_up(Deed::StoreEx, place),
@@ -148,21 +173,19 @@ fn make<M: SharedMemory, R: Wait>(rt: &R, memory: &M, pass: &mut M::Pass, tried:
     }
 }
 
-/// Makes as many accesses of a thread as the log is long, and logs each as it came about.
+/// Makes as many accesses of a pass's thread as the log is long, and logs each as it came about.
 pub fn log_accesses<M: SharedMemory, R: Wait>(
     rt: &R,
     memory: &M,
-    mut pass: M::Pass,
-    thread: u32,
-    mut log: Vec<Access>,
+    logged: (Vec<Access>, M::Pass),
 ) -> (Vec<Access>, M::Pass)
-    requires memory { M.home pass ≡ M.id memory.now }
-    requires single { (t : ℕ) × IsSingle t (M.numbers pass) × (t < (M.origin memory.now).first) }
+    requires may { MayLog M.home M.numbers (M.id memory.now) (M.origin memory.now) logged.1 }
     requires size { (M.origin memory.now).size.mem ≡ 65536 }
-    ensures memory { M.home result.1 ≡ M.home pass }
-    ensures numbers { M.numbers result.1 ≡ M.numbers pass }
+    ensures memory { M.home result.1 ≡ M.home logged.1 }
+    ensures numbers { M.numbers result.1 ≡ M.numbers logged.1 }
 {
-    let mut course = Course::of(thread);
+    let (mut log, mut pass) = logged;
+    let mut course = Course::of(memory.thread(&pass), memory.first());
     for access in log.iter_mut() {
         let tried = course.next();
         *access = make(rt, memory, &mut pass, tried);

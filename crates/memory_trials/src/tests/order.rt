@@ -1,4 +1,4 @@
-//! The accesses of four threads, as they logged them, are laid into one order.
+//! The accesses of threads, as they logged them, are laid into one order.
 //!
 //! Each value is written once, so that it says which write a load read, and a store-exclusive that succeeded says by the value
 //! that its load-exclusive read which write to its place comes before it. In the order each thread's accesses stand as it made
@@ -7,7 +7,8 @@
 //! of its own place between the two. As the order grows, Arm's memory and monitors (`PlainMemory`) make each access again, and
 //! are to answer what was logged: the value of each load, and that each store-exclusive which succeeded has its mark, so that
 //! nobody wrote in the row since the load-exclusive. In the end memory is to have the cells that the closed one has.
-ghost use Rattle.memory_trials.specs.Tried.{IsOfFour};
+ghost use Rattle.std.specs.Prelude.{◌≡◌, length};
+ghost use Rattle.memory_trials.specs.Tried.{IsFor};
 
 use super::accesses::may;
 use super::logged::{own_place, place_of};
@@ -43,13 +44,16 @@ fn writes(access: &Access) -> bool {
     }
 }
 
-/// Where it is kept how many loads of a value of a place are still to be laid: the first values have 16 words, by their
+/// So many words there are in the rows that threads access.
+pub const FIRST_VALUES: usize = 32;
+
+/// Where it is kept how many loads of a value of a place are still to be laid: the first values have these words, by their
 /// places, and each written value one.
 fn slot_of(place: Place, value: u64) -> usize {
     if value == 0 {
-        return (place.addr % 64 / 4) as usize;
+        return (place.addr % 128 / 4) as usize;
     }
-    15usize.wrapping_add(value as usize)
+    (FIRST_VALUES - 1).wrapping_add(value as usize)
 }
 
 /// How many loads of a value of a place are still to be laid.
@@ -90,11 +94,11 @@ fn laid_at_once(left: &[Access]) -> usize {
 }
 
 /// Whether Arm's memory answers an access as it was logged.
-fn is_made_again(plain: &mut PlainMemory, access: Access) -> bool
-    requires { IsOfFour plain.old }
-    ensures { IsOfFour plain.new }
+fn is_made_again(plain: &mut PlainMemory, threads: u32, access: Access) -> bool
+    requires { IsFor threads plain.old }
+    ensures { IsFor threads plain.new }
 {
-    if access.thread >= 4 || !may(access.place, access.value) {
+    if access.thread >= threads || !may(access.place, access.value) {
         return false;
     }
     plain.make(access) == access
@@ -102,7 +106,7 @@ fn is_made_again(plain: &mut PlainMemory, access: Access) -> bool
 
 /// The value of a place.
 fn value_of(plain: &PlainMemory, place: Place) -> u64
-    requires { IsOfFour plain.now }
+    requires { length plain.now.memory ≡ 65536 }
 {
     if !may(place, 0) {
         return 0;
@@ -112,7 +116,7 @@ fn value_of(plain: &PlainMemory, place: Place) -> u64
 
 /// Whether accesses that are laid at once come next, by the first and the last of them.
 fn come_next(plain: &PlainMemory, unread: &[u32], first: &Access, last: &Access) -> bool
-    requires { IsOfFour plain.now }
+    requires { length plain.now.memory ≡ 65536 }
 {
     if reads(first) && value_of(plain, first.place) != first.value {
         return false;
@@ -126,12 +130,17 @@ fn come_next(plain: &PlainMemory, unread: &[u32], first: &Access, last: &Access)
 }
 
 /// Lays accesses, and gives whether Arm's memory answers what was logged.
-fn are_made_again(plain: &mut PlainMemory, unread: &mut [u32], accesses: &[Access]) -> bool
-    requires { IsOfFour plain.old }
-    ensures { IsOfFour plain.new }
+fn are_made_again(
+    plain: &mut PlainMemory,
+    threads: u32,
+    unread: &mut [u32],
+    accesses: &[Access],
+) -> bool
+    requires { IsFor threads plain.old }
+    ensures { IsFor threads plain.new }
 {
     for access in accesses {
-        if !is_made_again(plain, *access) {
+        if !is_made_again(plain, threads, *access) {
             return false;
         }
         if !reads(access) {
@@ -145,9 +154,9 @@ fn are_made_again(plain: &mut PlainMemory, unread: &mut [u32], accesses: &[Acces
 }
 
 /// Lays the next accesses of a thread, where they come next.
-fn lay(plain: &mut PlainMemory, unread: &mut [u32], left: &[Access]) -> Step
-    requires { IsOfFour plain.old }
-    ensures { IsOfFour plain.new }
+fn lay(plain: &mut PlainMemory, threads: u32, unread: &mut [u32], left: &[Access]) -> Step
+    requires { IsFor threads plain.old }
+    ensures { IsFor threads plain.new }
 {
     let count = laid_at_once(left);
     if count == 0 || count > left.len() {
@@ -156,7 +165,7 @@ fn lay(plain: &mut PlainMemory, unread: &mut [u32], left: &[Access]) -> Step
     if !come_next(plain, unread, &left[0], &left[count - 1]) {
         return Step::Waits;
     }
-    if !are_made_again(plain, unread, &left[..count]) {
+    if !are_made_again(plain, threads, unread, &left[..count]) {
         return Step::Differs;
     }
     Step::Laid(count)
@@ -164,13 +173,18 @@ fn lay(plain: &mut PlainMemory, unread: &mut [u32], left: &[Access]) -> Step
 
 /// Lays the next accesses of each thread that come next, and gives whether there were some: none where memory doesn't answer
 /// what was logged.
-fn lay_round(plain: &mut PlainMemory, unread: &mut [u32], logs: &mut [&[Access]; 4]) -> Option<bool>
-    requires { IsOfFour plain.old }
-    ensures { IsOfFour plain.new }
+fn lay_round(
+    plain: &mut PlainMemory,
+    threads: u32,
+    unread: &mut [u32],
+    logs: &mut [&[Access]],
+) -> Option<bool>
+    requires { IsFor threads plain.old }
+    ensures { IsFor threads plain.new }
 {
     let mut moved = false;
     for left in logs.iter_mut() {
-        match lay(plain, unread, *left) {
+        match lay(plain, threads, unread, *left) {
             Step::Laid(count) if count <= left.len() => {
                 *left = &left[count..];
                 moved = true;
@@ -182,18 +196,19 @@ fn lay_round(plain: &mut PlainMemory, unread: &mut [u32], logs: &mut [&[Access];
     Some(moved)
 }
 
-/// Whether all accesses of four logs, so many at most, are laid into one order.
+/// Whether all accesses of these logs, so many at most, are laid into one order.
 pub fn are_laid(
     plain: &mut PlainMemory,
+    threads: u32,
     unread: &mut [u32],
-    mut logs: [&[Access]; 4],
+    logs: &mut [&[Access]],
     most: usize,
 ) -> bool
-    requires { IsOfFour plain.old }
-    ensures { IsOfFour plain.new }
+    requires { IsFor threads plain.old }
+    ensures { IsFor threads plain.new }
 {
     for _ in 0..most {
-        match lay_round(plain, unread, &mut logs) {
+        match lay_round(plain, threads, unread, logs) {
             Some(true) => {}
             Some(false) | None => break,
         }
@@ -203,10 +218,10 @@ pub fn are_laid(
 
 /// Whether each place has in memory as it is left the value that the order gives it.
 pub fn ends_so(plain: &PlainMemory, rows: &Rows) -> bool
-    requires { IsOfFour plain.now }
+    requires { length plain.now.memory ≡ 65536 }
 {
-    for k in 0..8u32 {
-        let place = place_of(k);
+    for k in 0..24u32 {
+        let place = place_of(k / 6, k % 6);
         if place.cell() >= rows.count() || !place.is_aligned() {
             return false;
         }

@@ -1,9 +1,9 @@
 use Rattle.std.proofs.Common.{◌≡◌, None}
 use Rattle.llsc_words.specs.Request.{machine_by}
 use Rattle.llsc_cli.specs.Refusals.{size_refusal, too_long, most_program}
-use Rattle.llsc_cli.specs.Host.{AreBytes}
+use Rattle.llsc_host.specs.Host.{AreBytes}
 use Rattle.llsc_cli.proofs.Answering.{answered_for, are_held, ends_as, held_bytes, refused_short, refused_unsized, refuses_sized}
-use Rattle.llsc_cli.proofs.Fronts.{owed_as}
+use Rattle.llsc_host.proofs.Fronts.{owed_as}
 use Rattle.llsc_cli.proofs.files.load.Goals as goal
 
 pub returns-in_err-size-clause-ends : goal.returns-in_err-size-clause-ends

@@ -1,5 +1,5 @@
 use Rattle.std.proofs.Common.{◌<◌, ℕ, List, length, ap, subst, ◌∙◌, Err}
-use Rattle.llsc_cli.specs.Host.{AreBytes}
+use Rattle.llsc_host.specs.Host.{AreBytes}
 use Rattle.llsc_cli.proofs.Answering.{ends_unread}
 use Rattle.llsc_cli.proofs.files.read.Goals as goal
 

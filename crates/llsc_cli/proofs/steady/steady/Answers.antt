@@ -1,6 +1,6 @@
 use Rattle.std.proofs.Common.{inl, inr, map}
 use Rattle.llsc_words.specs.Request.{files_of}
-use Rattle.llsc_cli.proofs.Steadiness.{one_file, unrisen}
+use Rattle.llsc_host.proofs.Steadiness.{one_file, unrisen}
 use Rattle.llsc_cli.proofs.steady.steady.Goals as goal
 
 pub returns-clause-ended : goal.returns-clause-ended

@@ -4,10 +4,10 @@ ghost use Rattle.std.specs.Prelude.{◌≡◌, IfOk, length};
 use super::*;
 use crate::beside::run_beside;
 use crate::programs::image_of;
-use crate::summary::total;
 use elf32::write;
 use guest_gen::counters;
 use llsc_base::{Image, MachineSize};
+use llsc_report::total;
 use llsc_words::{Format, RUN_LIMIT};
 
 /// Guests whose access lies outside of memory, and one that branches to itself.

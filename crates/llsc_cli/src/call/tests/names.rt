@@ -1,6 +1,5 @@
 //! The names of the faults and of the reasons, as reports print them.
 use super::*;
-use crate::host::ReadFault;
 use crate::programs::ProgramFault;
 use a32_asm::AsmFault;
 use a32_instr::DecodeFault;
@@ -8,6 +7,7 @@ use a32_syntax::AsmKind;
 use elf32::ElfFault;
 use guest_machine::TraceFault;
 use llsc_base::{FlatFault, SizeFault};
+use llsc_host::ReadFault;
 use run_checker::Reason;
 use run_record::RecordFault;
 

@@ -1,7 +1,7 @@
 //! Calls over a host that never fails.
 use super::*;
 use crate::steady::steady;
-use crate::steady_host::SteadyHost;
+use llsc_host::SteadyHost;
 
 /// The words of a call, the space for output, the status, what is told, and how many bytes came past the space.
 type SteadyCall = (&'static str, u32, u8, Option<&'static str>, u64);

@@ -1,4 +1,4 @@
-use Rattle.llsc_cli.specs.Host.{AreBytes}
+use Rattle.llsc_host.specs.Host.{AreBytes}
 use Rattle.llsc_cli.specs.Assembly.{asm_answer}
 use Rattle.llsc_cli.proofs.Answering.{ends_as, ends_given}
 use Rattle.llsc_cli.proofs.AsmAnswers.{asm_too_long, asm_done}

@@ -1,5 +1,5 @@
 use Rattle.std.proofs.Common.{◌≡◌, ◌∷◌, [], None, inl, inr, refl}
-use Rattle.llsc_cli.specs.Host.{AreBytes}
+use Rattle.llsc_host.specs.Host.{AreBytes}
 use Rattle.llsc_cli.specs.Refusals.{most_program, too_long}
 use Rattle.llsc_cli.specs.Check.{most_record}
 use Rattle.llsc_cli.proofs.Answering.{answered_for, are_held, ends_for, held_bytes}

@@ -1,5 +1,5 @@
 use Rattle.std.proofs.Common.{inl, inr, sym, subst, refl}
-use Rattle.llsc_cli.specs.Refusals.{refusal_text}
+use Rattle.llsc_report.specs.Said.{refusal_text}
 use Rattle.llsc_cli.specs.Check.{record_fault_text, JudgesRead}
 use Rattle.llsc_cli.specs.Reads.{Answered}
 use Rattle.llsc_cli.proofs.Answering.{answered_one, answered_wanting}

@@ -1,8 +1,8 @@
 use Rattle.std.proofs.Common.{◌≤◌, ◌/◌, ◌*◌, length, sym, ◌∙◌, subst, arith}
-use Rattle.llsc_cli.specs.Host.{AddsFront}
+use Rattle.llsc_host.specs.Host.{AddsFront}
 use Rattle.llsc_cli.specs.Disassembly.{line_at, lines_of, Holds}
-use Rattle.llsc_cli.proofs.Fronts.{owed, owed_more}
-use Rattle.llsc_cli.proofs.Kept.{reads_kept}
+use Rattle.llsc_host.proofs.Fronts.{owed, owed_more}
+use Rattle.llsc_host.proofs.Kept.{reads_kept}
 use Rattle.llsc_cli.proofs.Paging.{holds_more, holds_front, lines_more, lines_front}
 use Rattle.llsc_cli.proofs.commands.dis.write_lines.Goals as goal
 

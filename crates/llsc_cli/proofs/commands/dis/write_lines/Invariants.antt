@@ -1,6 +1,6 @@
 -- What was written and what stands on the page are the lines so far, and no write failed.
 use Rattle.std.proofs.Common.{◌≡◌}
-use Rattle.llsc_cli.specs.Host.{KeepsReads}
+use Rattle.llsc_host.specs.Host.{KeepsReads}
 use Rattle.llsc_cli.specs.Disassembly.{lines_of, Holds}
 use Rattle.llsc_cli.proofs.commands.dis.write_lines.Given as goal
 

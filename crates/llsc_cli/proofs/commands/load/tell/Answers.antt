@@ -1,7 +1,7 @@
 use Rattle.std.proofs.Common.{◌≡◌, ◌∙◌, inl, inr, ap, sym, refl, arith}
 use Rattle.version_memory.specs.Memory.{story_history}
-use Rattle.llsc_cli.specs.Load.{counter_of, summary_by}
-use Rattle.llsc_cli.specs.Trace.{status_of_all}
+use Rattle.llsc_report.specs.Summary.{counter_of, summary_by}
+use Rattle.llsc_report.specs.Status.{status_of_all}
 use Rattle.llsc_cli.proofs.Answering.{answered_one}
 use Rattle.llsc_cli.proofs.LoadAnswers.{loaded_all}
 use Rattle.llsc_cli.proofs.commands.load.tell.Goals as goal

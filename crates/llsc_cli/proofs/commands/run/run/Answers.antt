@@ -1,6 +1,6 @@
 use Rattle.version_memory.specs.Memory.{story_history}
-use Rattle.llsc_cli.specs.Report.{report_of}
-use Rattle.llsc_cli.specs.Trace.{status_of_all}
+use Rattle.llsc_report.specs.Report.{report_of}
+use Rattle.llsc_report.specs.Status.{status_of_all}
 use Rattle.llsc_cli.proofs.Answering.{answered_one}
 use Rattle.llsc_cli.proofs.RunAnswers.{reported}
 use Rattle.llsc_cli.proofs.TraceAnswers.{trace_done}

@@ -1,7 +1,7 @@
 use Rattle.std.proofs.Common.{inl, inr, refl, codes}
 use Rattle.run_record.specs.Text.{record_text}
-use Rattle.llsc_cli.specs.Refusals.{refusal_text}
-use Rattle.llsc_cli.specs.Trace.{status_of_all}
+use Rattle.llsc_report.specs.Said.{refusal_text}
+use Rattle.llsc_report.specs.Status.{status_of_all}
 use Rattle.llsc_cli.proofs.Answering.{answered_one, answered_wanting}
 use Rattle.llsc_cli.proofs.TraceAnswers.{trace_done}
 use Rattle.llsc_cli.proofs.commands.trace.run.Goals as goal

@@ -1,5 +1,5 @@
-use Rattle.memory_trials.specs.Tried.{IsOfFour}
+use Rattle.memory_trials.specs.Tried.{IsFor}
 use Rattle.memory_trials.proofs.tests.order.are_laid.Given as goal
 
 abbrev pub invariant-loop : goal.invariant-loop
-invariant-loop l = IsOfFour l.plain
+invariant-loop l = IsFor l.threads l.plain

@@ -1,5 +1,5 @@
-use Rattle.memory_trials.specs.Tried.{IsOfFour}
+use Rattle.memory_trials.specs.Tried.{IsFor}
 use Rattle.memory_trials.proofs.tests.order.lay_round.Given as goal
 
 abbrev pub invariant-loop-left : goal.invariant-loop-left
-invariant-loop-left l = IsOfFour l.plain
+invariant-loop-left l = IsFor l.threads l.plain

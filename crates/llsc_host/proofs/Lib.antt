@@ -1,0 +1,4 @@
+pub mod Fronts
+pub mod Kept
+pub mod Streams
+pub mod Steadiness

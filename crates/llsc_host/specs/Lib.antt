@@ -1,0 +1,5 @@
+pub mod Host
+pub mod MemoryHost
+pub mod MemoryHostInside
+pub mod SteadyHost
+pub mod SteadyHostInside

@@ -1,0 +1,3 @@
+pub mod FirstTexts
+pub mod Sums
+pub mod Counted

@@ -1,0 +1,4 @@
+pub mod Said
+pub mod Status
+pub mod Report
+pub mod Summary
