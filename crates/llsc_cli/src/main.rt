@@ -1,22 +1,10 @@
 //! Runs A32 guests: reads words and files, and writes a report and a status.
 //!
-//! The program is one call, [`call::llsc`], whose contract says what is answered to which words and files; `specs/Answer.antt`
-//! has the words of that contract. Each command is a file of `commands`. What is asked of the world outside is a `Host`
-//! (`llsc_host`); what is said of threads that ran is `llsc_report`'s.
+//! The program is the one call [`llsc`] (`llsc_call`) on the words that it was started with, over the operating system's files
+//! and its standard output (`RealHost` of `llsc_host`).
 #![tactic(auto)]
 
-mod beside;
-mod call;
-mod commands;
-mod ended;
-mod files;
-pub mod laws;
-mod pages;
-mod programs;
-mod steady;
-pub mod worked_limits;
-
-use crate::call::llsc;
+use llsc_call::llsc;
 use llsc_host::RealHost;
 use std::env;
 use std::io::ErrorKind;

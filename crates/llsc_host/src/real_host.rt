@@ -139,31 +139,3 @@ fn write_whole<W: Write>(output: &mut W, bytes: &[u8]) -> bool
     }
     false
 }
-
-#[cfg(test)]
-mod tests {
-    use super::*;
-    use std::test::Fail;
-
-    #[test]
-    fn answers_from_the_system(rt: HostRuntime) -> Result<(), Fail> {
-        let mut host = RealHost::new(rt.alloc(), &rt);
-        for (path, most, want) in [
-            ("/dev/null", 0, "0 bytes"),
-            ("/dev/zero", 20_000, "FileTooLong"),
-            ("/", 9, "Failed"),
-            ("/dev/null/none", 9, "Failed"),
-        ] {
-            let name = String::from_str(rt.alloc(), path)?;
-            let text = match host.read_file(rt.alloc(), name, most) {
-                Ok(bytes) => format!(in rt.alloc(); "{} bytes", bytes.len())?,
-                Err(fault) => String::from_str(rt.alloc(), fault.name())?,
-            };
-            assert_eq!(rt; text.as_str(), want, "at {path}");
-        }
-        assert_eq!(rt; host.read_faults, 2);
-        assert_eq!(rt; host.lost.as_str(), "/dev/null/none");
-        host.write(b"")?;
-        Ok(())
-    }
-}

@@ -1,0 +1,55 @@
+-- What threads have done that ran beside each other.
+use Rattle.std.proofs.Common.{◌≡◌, ℕ, ◌*◌, ◌<◌, ◌≤◌, ◌^◌, All, List, length, slice_index, arith, sym, subst}
+use Rattle.std.specs.List.{sum_by}
+use Rattle.std.proofs.lemmas.List.Elements.{All-weaker}
+use Rattle.std.proofs.lemmas.List.Sums.{sum_by-le}
+use Rattle.llsc_base.specs.Images.{Program}
+use Rattle.llsc_base.specs.Sizes.{Numbers}
+use Rattle.row_bytes.specs.Cell.{cell_at}
+use Rattle.history.specs.Cause.{KeepsLimit}
+use Rattle.history.specs.Legal.{IsComplete, IsLegal}
+use Rattle.history.specs.Monitor.{at_rest_by, monitor_after}
+use Rattle.history.specs.Parts.{accesses_of}
+use Rattle.history.specs.declared.entry.Entry.{Entry}
+use Rattle.guest_thread.specs.Counting.{accesses_counted, counts_in}
+use Rattle.guest_thread.specs.Outcome.{AreEndsOn, IsOutcome}
+use Rattle.guest_thread.specs.declared.ends.GuestEnd.{GuestEnd}
+use Rattle.llsc_call.specs.Beside.{AreCells, Ran, left_by}
+use Rattle.llsc_report.specs.Report.{HasSums}
+
+-- the counts of 16 threads are small
+few_of : (end : GuestEnd) → accesses_counted (counts_in end) < 2 ^ 45 → (end.reads ≤ 2 ^ 45) × (end.writes ≤ 2 ^ 45) × (end.fails ≤ 2 ^ 45)
+few_of end few = (omega (arith, few), omega (arith, few), omega (arith, few))
+
+small : (n total : ℕ) → total ≤ n * 2 ^ 45 → n ≤ 16 → total < 2 ^ 64
+small n total most few = omega (arith, most, few)
+
+pub sums : (ends : List GuestEnd) → All (λ (end : GuestEnd). accesses_counted (counts_in end) < 2 ^ 45) ends → length ends ≤ 16 → HasSums ends
+sums ends all few = record {
+  reads = small (length ends) (sum_by (λ (end : GuestEnd). end.reads) ends) (sum_by-le (λ (end : GuestEnd). end.reads) (2 ^ 45) ends (All-weaker (λ (end : GuestEnd). accesses_counted (counts_in end) < 2 ^ 45) (λ (end : GuestEnd). end.reads ≤ 2 ^ 45) (λ end one. (few_of end one).0) ends all)) few;
+  writes = small (length ends) (sum_by (λ (end : GuestEnd). end.writes) ends) (sum_by-le (λ (end : GuestEnd). end.writes) (2 ^ 45) ends (All-weaker (λ (end : GuestEnd). accesses_counted (counts_in end) < 2 ^ 45) (λ (end : GuestEnd). end.writes ≤ 2 ^ 45) (λ end one. (few_of end one).1) ends all)) few;
+  fails = small (length ends) (sum_by (λ (end : GuestEnd). end.fails) ends) (sum_by-le (λ (end : GuestEnd). end.fails) (2 ^ 45) ends (All-weaker (λ (end : GuestEnd). accesses_counted (counts_in end) < 2 ^ 45) (λ (end : GuestEnd). end.fails ≤ 2 ^ 45) (λ end one. (few_of end one).2) ends all)) few;
+}
+
+-- the cells of a closed memory
+pub closed_cells : (program : Program) (size : Numbers) (bytes : List ℕ) (history seen : List Entry) (cells : List ℕ)
+    → history ≡ seen → bytes ≡ program.bytes → 8 * length cells ≡ size.mem
+    → ((i : ℕ) → i < length cells → slice_index cells i ≡ cell_at (monitor_after (at_rest_by size.granule bytes size.threads) (accesses_of seen)).memory i)
+    → AreCells size (left_by program size history) cells
+closed_cells program size bytes history seen cells same begins count each =
+    subst (λ h. AreCells size (left_by program size h) cells) (sym same)
+    (subst (λ b. AreCells size (monitor_after (at_rest_by size.granule b size.threads) (accesses_of seen)).memory cells) begins
+    (record { count = count; each = each }))
+
+-- the threads of a closed memory
+pub ran : (program : Program) (size : Numbers) (budget : ℕ) (bytes : List ℕ) (history seen : List Entry) (ends : List GuestEnd) (cells : List ℕ)
+    → history ≡ seen → bytes ≡ program.bytes → IsLegal size bytes seen → IsComplete seen → AreEndsOn program size budget seen ends → KeepsLimit size seen
+    → HasSums ends → AreCells size (left_by program size history) cells
+    → Ran program size budget history ends cells
+ran program size budget bytes history seen ends cells same begins legal complete are few sums cells_are = record {
+  outcome = subst (λ h. IsOutcome program size budget h ends) (sym same)
+      (record { legal = subst (λ b. IsLegal size b seen) begins legal; complete = complete; ends = are });
+  few = subst (λ h. KeepsLimit size h) (sym same) few;
+  sums = sums;
+  left = cells_are;
+}

@@ -1,0 +1,149 @@
+-- A request has one answer for the bytes of its files.
+use Rattle.std.proofs.Common.{◌≡◌, ℕ, inl, inr, List, [], ◌∷◌, Option, Some, None, Result, Ok, Err, sym, ◌∙◌, ap, subst}
+use Rattle.llsc_base.specs.Sizes.{Numbers}
+use Rattle.llsc_base.specs.Images.{Program}
+use Rattle.history.specs.Accesses.{history_of}
+use Rattle.guest_thread.specs.Ends.{AreEnds}
+use Rattle.guest_thread.specs.Start.{thread_start}
+use Rattle.history.specs.declared.entry.Entry.{Entry}
+use Rattle.guest_thread.proofs.OneOutcome.{one_list, one_list_on}
+use Rattle.guest_machine.specs.Traces.{IsTraceRecord}
+use Rattle.guest_machine.proofs.OneEnd.{one_end_alone}
+use Rattle.guest_machine.proofs.OneTrace.{one_trace, not_too_long}
+use Rattle.run_record.specs.Text.{record_text}
+use Rattle.run_record.specs.Reading.{record_of}
+use Rattle.run_record.specs.declared.faults.RecordFault.{RecordFault}
+use Rattle.run_record.specs.declared.records.RunRecord.{RunRecord}
+use Rattle.run_checker.proofs.Right.{one_verdict}
+use Rattle.llsc_words.specs.declared.formats.Format.{Format}
+use Rattle.llsc_call.specs.Programs.{image_of, program_refusal}
+use Rattle.llsc_call.specs.Refusals.{Answer, machine_of, solo_size, Unless}
+use Rattle.llsc_report.specs.Report.{report_of}
+use Rattle.llsc_call.specs.Run.{ReportsRun, UnlessRun}
+use Rattle.llsc_call.specs.Beside.{left_by}
+use Rattle.llsc_call.specs.Load.{TellsLoad, load_program, load_refusal, load_size, load_text}
+use Rattle.llsc_call.specs.Assembly.{asm_answer}
+use Rattle.llsc_call.specs.Disassembly.{dis_answer}
+use Rattle.llsc_report.specs.Status.{status_of, status_of_all}
+use Rattle.llsc_call.specs.Trace.{IsRecorded, Traces}
+use Rattle.llsc_call.specs.Check.{files_refusal, verdict_status, verdict_text, IsJudged, JudgesRead}
+use Rattle.llsc_words.specs.Request.{Request, Solo, Run, Assemble, Disassemble, Trace, Check, Load}
+use Rattle.llsc_call.specs.Answer.{Answers, Is, IsReported}
+
+-- answers have one status and one text
+abbrev pub AreOne : (ℕ → List ℕ → Type 0) → Type 0
+AreOne answers = (status other : ℕ) (text more : List ℕ) → answers status text → answers other more → (status ≡ other) × (text ≡ more)
+
+-- what stands against a request has one text, and where nothing does it is as the answers are
+unless_one : (answers : ℕ → List ℕ → Type 0) (against : Option (List ℕ)) → AreOne answers → AreOne (Unless against answers)
+unless_one answers (Some name) one status other text more a b = (a.0 ∙ sym b.0, a.1 ∙ sym b.1)
+unless_one answers None one status other text more a b = one status other text more a b
+
+is_one : (answer : Answer) → AreOne (Is answer)
+is_one answer status other text more a b = (a.0 ∙ sym b.0, a.1 ∙ sym b.1)
+
+-- a run alone
+report_one : (program : Program) (size : Numbers) (budget : ℕ) → AreOne (IsReported program size budget)
+report_one program size budget status other text more a b =
+    let same : a.0 ≡ b.0 = one_end_alone program budget (thread_start program size size.threads 0) size.granule program.bytes a.0 b.0 a.1.1 b.1.1 in
+    (a.2 ∙ ap (λ end. status_of end.stop) same ∙ sym b.2, a.3 ∙ ap (λ end. report_of budget (end ∷ [])) same ∙ sym b.3)
+
+-- Traces.
+
+same_run : (one two : RunRecord) → one.threads ≡ two.threads → one.budget ≡ two.budget → one.granule ≡ two.granule → one.accesses ≡ two.accesses
+    → one ≡ two
+same_run one two threads budget granule accesses =
+    ap (λ n. record one { threads = n }) threads
+    ∙ ap (λ n. record one { threads = two.threads; budget = n }) budget
+    ∙ ap (λ n. record one { threads = two.threads; budget = two.budget; granule = n }) granule
+    ∙ ap (λ l. record two { accesses = l }) accesses
+
+one_run : (program : Program) (size : Numbers) (seed budget : ℕ) (run other : RunRecord)
+    → IsTraceRecord program size seed budget run → IsTraceRecord program size seed budget other → run ≡ other
+one_run program size seed budget run other a b =
+    same_run run other (a.threads ∙ sym b.threads) (a.budget_is ∙ sym b.budget_is) (a.granule_is ∙ sym b.granule_is)
+    (one_trace program size seed budget run.accesses other.accesses a.trace b.trace)
+
+record_one : (program : Program) (size : Numbers) (seed budget : ℕ) → AreOne (IsRecorded program size seed budget)
+record_one program size seed budget status other text more a b =
+    let run : a.0 ≡ b.0 = one_run program size seed budget a.0 b.0 a.2.0 b.2.0 in
+    let ends : a.1 ≡ b.1 =
+    one_list program size budget (history_of b.0.accesses) a.1 b.1 (subst (λ r. AreEnds program size budget (history_of r.accesses) a.1) run a.2.1.0) b.2.1.0 in
+    (a.2.1.1.0 ∙ ap status_of_all ends ∙ sym b.2.1.1.0, a.2.1.1.1 ∙ ap record_text run ∙ sym b.2.1.1.1)
+
+trace_one : (program : Program) (size : Numbers) (seed budget : ℕ) → AreOne (Traces program size seed budget)
+trace_one program size seed budget status other text more (inl a) (inl b) = record_one program size seed budget status other text more a b
+trace_one program size seed budget status other text more (inr a) (inr b) = (a.1.0 ∙ sym b.1.0, a.1.1 ∙ sym b.1.1)
+trace_one program size seed budget status other text more (inl a) (inr b) =
+    absurd (not_too_long program size seed budget a.0.accesses a.2.0.trace a.2.0.sound.count b.0)
+trace_one program size seed budget status other text more (inr a) (inl b) =
+    absurd (not_too_long program size seed budget b.0.accesses b.2.0.trace b.2.0.sound.count a.0)
+
+-- Verdicts.
+
+judged_one : (program : Program) (size : Numbers) (run : RunRecord) → AreOne (IsJudged program size run)
+judged_one program size run status other text more a b =
+    let same : a.0 ≡ b.0 = one_verdict program size run.budget run.accesses a.0 b.0 a.1.0 b.1.0 in
+    (a.1.1.0 ∙ ap verdict_status same ∙ sym b.1.1.0, a.1.1.1 ∙ ap verdict_text same ∙ sym b.1.1.1)
+
+read_one : (format : Format) (mem : ℕ) (file : List ℕ) (read : Result RunRecord RecordFault) → AreOne (JudgesRead format mem file read)
+read_one format mem file (Err fault) = λ status other text more a b. (a.0 ∙ sym b.0, a.1 ∙ sym b.1)
+read_one format mem file (Ok run) =
+    let size = machine_of run.threads mem run.granule in
+    unless_one (IsJudged (image_of format file size) size run) (program_refusal format size file) (judged_one (image_of format file size) size run)
+
+-- a run, by its history
+run_one : (program : Program) (size : Numbers) (budget : ℕ) (story : Option (List Entry)) → AreOne (ReportsRun story program size budget)
+run_one program size budget None status other text more a b = absurd a
+run_one program size budget (Some history) status other text more a b =
+    let ends : a.0 ≡ b.0 = one_list_on program size budget history a.0 b.0 a.1.0.ends b.1.0.ends in
+    (a.1.1.1.0 ∙ ap status_of_all ends ∙ sym b.1.1.1.0, a.1.1.1.1 ∙ ap (report_of budget) ends ∙ sym b.1.1.1.1)
+
+-- a load, by its history
+load_one : (seed threads rounds budget : ℕ) (story : Option (List Entry)) → AreOne (TellsLoad story seed threads rounds budget)
+load_one seed threads rounds budget None status other text more a b = absurd a
+load_one seed threads rounds budget (Some history) status other text more a b =
+    let program = load_program seed threads rounds in
+    let size = load_size threads in
+    let ends : a.0 ≡ b.0 = one_list_on program size budget history a.0 b.0 a.1.0.ends b.1.0.ends in (
+      a.1.1.1.0 ∙ ap status_of_all ends ∙ sym b.1.1.1.0,
+      a.1.1.1.1 ∙ ap (load_text seed threads rounds budget (left_by program size history)) ends ∙ sym b.1.1.1.1,
+    )
+
+unless_run_one : (against : Option (List ℕ)) (story : Option (List Entry)) (answers : ℕ → List ℕ → Type 0) → AreOne answers → AreOne (UnlessRun against story answers)
+unless_run_one (Some name) story answers one status other text more a b = (a.1.0 ∙ sym b.1.0, a.1.1 ∙ sym b.1.1)
+unless_run_one None story answers one status other text more a b = one status other text more a b
+
+-- answers without a history
+untold_one : {N : Type 0} {answers : ℕ → List ℕ → Type 0} → AreOne answers → AreOne (λ status text. N × answers status text)
+untold_one one status other text more a b = one status other text more a.1 b.1
+
+pub answers_one : (asked : Request) (files : List (List ℕ)) (story : Option (List Entry)) → AreOne (Answers asked files story)
+answers_one (Solo name format mem budget) (file ∷ []) story =
+    let size = solo_size mem in
+    untold_one (unless_one (IsReported (image_of format file size) size budget) (program_refusal format size file) (report_one (image_of format file size) size budget))
+answers_one (Run name format size budget) (file ∷ []) story =
+    unless_run_one (program_refusal format size file) story (ReportsRun story (image_of format file size) size budget) (run_one (image_of format file size) size budget story)
+answers_one (Assemble name format) (file ∷ []) story = untold_one (is_one (asm_answer format file))
+answers_one (Disassemble name format mem) (file ∷ []) story = untold_one (is_one (dis_answer format mem file))
+answers_one (Trace name format threads mem granule seed budget) (file ∷ []) story =
+    let size = machine_of threads mem granule in
+    untold_one (unless_one (Traces (image_of format file size) size seed budget) (program_refusal format size file) (trace_one (image_of format file size) size seed budget))
+answers_one (Check name second format mem) (file ∷ recorded ∷ []) story =
+    untold_one (unless_one (JudgesRead format mem file (record_of recorded)) (files_refusal file recorded) (read_one format mem file (record_of recorded)))
+answers_one (Load seed threads rounds budget) [] story =
+    unless_run_one (load_refusal threads rounds) story (TellsLoad story seed threads rounds budget) (load_one seed threads rounds budget story)
+answers_one (Load seed threads rounds budget) (first ∷ rest) story = λ status other text more a b. absurd a
+answers_one (Solo name format mem budget) [] story = λ status other text more a b. absurd a
+answers_one (Solo name format mem budget) (first ∷ second ∷ rest) story = λ status other text more a b. absurd a
+answers_one (Run name format size budget) [] story = λ status other text more a b. absurd a
+answers_one (Run name format size budget) (first ∷ second ∷ rest) story = λ status other text more a b. absurd a
+answers_one (Assemble name format) [] story = λ status other text more a b. absurd a
+answers_one (Assemble name format) (first ∷ second ∷ rest) story = λ status other text more a b. absurd a
+answers_one (Disassemble name format mem) [] story = λ status other text more a b. absurd a
+answers_one (Disassemble name format mem) (first ∷ second ∷ rest) story = λ status other text more a b. absurd a
+answers_one (Trace name format threads mem granule seed budget) [] story = λ status other text more a b. absurd a
+answers_one (Trace name format threads mem granule seed budget) (first ∷ second ∷ rest) story = λ status other text more a b. absurd a
+answers_one (Check name other format mem) [] story = λ status other text more a b. absurd a
+answers_one (Check name other format mem) (first ∷ []) story = λ status other text more a b. absurd a
+answers_one (Check name other format mem) (first ∷ second ∷ third ∷ rest) story = λ status other text more a b. absurd a

@@ -1,0 +1,73 @@
+//! Threads that run beside each other, on a memory of their own.
+ghost use Rattle.std.specs.Prelude.{◌≡◌, ◌≤◌, ℕ, [], false, length, nat_lt, true, IfOk};
+ghost use Rattle.llsc_base.specs.Limits.{most_budget};
+ghost use Rattle.version_memory.specs.Memory.{story_history};
+ghost use Rattle.llsc_call.specs.Beside.{Ran as HasRun};
+
+use guest_machine::{Ran, prepare, run_all};
+use guest_thread::GuestEnd;
+use llsc_base::{Image, MachineSize};
+use shared_memory::{Rows, SharedMemory};
+use std::alloc::{AllocError, Global};
+use std::sync::Wait;
+use std::thread::Threads;
+use version_memory::{VersionMemory, VersionStory};
+
+/// What threads have done that ran beside each other, once their memory is closed.
+#[derive(Drop)]
+pub struct Finished<S> {
+    /// How each thread ended, in order of number.
+    pub ends: Vec<GuestEnd>,
+    /// The cells of memory as it was left.
+    pub rows: Rows,
+    /// The history of all accesses.
+    pub story: S,
+}
+
+/// Runs an image's threads on a memory that counts the writes of a class, with the pass of all of them, and closes it.
+fn run_over<M: SharedMemory, R: Threads + Wait + Sync>(
+    rt: &R,
+    alloc: Global,
+    memory: M,
+    pass: M::Pass,
+    image: &Image,
+    budget: u64,
+) -> Result<Finished<M::Story>, AllocError>
+    requires made { M.home pass ≡ M.id memory }
+    requires all { (t : ℕ) → M.numbers pass t ≡ nat_lt t (M.origin memory).size.threads }
+    requires none { M.seen pass ≡ [] }
+    requires first { (M.origin memory).first ≡ (M.origin memory).size.threads }
+    requires bytes { (M.origin memory).bytes ≡ image.now.bytes }
+    requires spends { (M.origin memory).spends ≡ true }
+    requires whole { length image.now.bytes ≡ (M.origin memory).size.mem }
+    requires budget { budget ≤ most_budget }
+    ensures { IfOk result (λ done. HasRun image.now (M.origin memory).size budget (M.history done.story) done.ends.items done.rows) }
+{
+    let crew = prepare(alloc, &memory, image, pass)?;
+    let threads = memory.size().threads();
+    prove!(threads <= 16);
+    let Ran { pass, ends } = run_all(rt, &memory, image, crew, budget);
+    let (rows, story) = memory.close(pass);
+    Ok(Finished { ends, rows, story })
+}
+
+/// Runs an image's threads beside each other on a machine, each up to its stop. All memory that this takes is taken before the
+/// first of them begins.
+///
+/// # Errors
+///
+/// `AllocError` is want of memory.
+pub fn run_beside<R: Threads + Wait + Sync>(
+    rt: &R,
+    alloc: Global,
+    size: &MachineSize,
+    image: &Image,
+    budget: u64,
+) -> Result<Finished<VersionStory>, AllocError>
+    requires whole { length image.now.bytes ≡ size.now.mem }
+    requires budget { budget ≤ most_budget }
+    ensures { IfOk result (λ done. HasRun image.now size.now budget (story_history done.story) done.ends.items done.rows) }
+{
+    let (memory, pass) = VersionMemory::new(alloc, image, size)?;
+    run_over(rt, alloc, memory, pass, image, budget)
+}

@@ -1,0 +1,79 @@
+//! The laws of what the program answers, each a function of no effect whose contract is the law.
+ghost use Rattle.std.specs.Prelude.{◌≡◌, ◌⊎◌, ℕ, List, Option, Some};
+ghost use Rattle.llsc_base.specs.Images.{Program};
+ghost use Rattle.llsc_base.specs.Sizes.{Numbers};
+ghost use Rattle.history.specs.Accesses.{history_of};
+ghost use Rattle.history.specs.Cause.{KeepsLimit};
+ghost use Rattle.history.specs.declared.entry.Access.{Access};
+ghost use Rattle.history.specs.declared.entry.Entry.{Entry};
+ghost use Rattle.guest_thread.specs.End.{IsEndIn};
+ghost use Rattle.guest_thread.specs.Outcome.{IsOutcome};
+ghost use Rattle.guest_thread.specs.Start.{thread_start};
+ghost use Rattle.guest_thread.specs.declared.ends.GuestEnd.{GuestEnd};
+ghost use Rattle.run_record.specs.declared.records.RunRecord.{RunRecord};
+ghost use Rattle.guest_machine.specs.Alone.{IsSoloEnd};
+ghost use Rattle.guest_machine.specs.Traces.{IsTraceRecord};
+ghost use Rattle.guest_machine.specs.Turns.{IsTrace};
+ghost use Rattle.run_checker.specs.Verdict.{Judges};
+ghost use Rattle.llsc_call.specs.Answer.{Answers};
+ghost use Rattle.llsc_call.specs.Beside.{left_by};
+ghost use Rattle.llsc_call.specs.Exclusives.{AreStoresExact};
+ghost use Rattle.llsc_call.specs.Load.{AnswersLoad, load_program, load_size, load_text};
+ghost use Rattle.llsc_call.specs.Programs.{image_of};
+ghost use Rattle.llsc_report.specs.Report.{report_of};
+ghost use Rattle.llsc_call.specs.Run.{AnswersRun};
+ghost use Rattle.llsc_words.specs.declared.formats.Format.{Format};
+ghost use Rattle.llsc_words.specs.Request.{Request};
+
+use run_checker::Verdict;
+
+/// A request has one answer for the bytes of its files, and for the history of its threads where they run beside each other: one
+/// status and one text.
+pub fn answers_are_one()
+    ensures { (asked : Request) (files : List (List ℕ)) (story : Option (List Entry)) (status other : ℕ) (text more : List ℕ) →
+        Answers asked files story status text → Answers asked files story other more → (status ≡ other) × (text ≡ more) }
+{}
+
+/// What a run prints, where its status is 0 or 1, is the report of an outcome of its threads: of one history, legal and complete,
+/// from the program's memory on, that goes with the answer. In it no class of rows has had more writes than the machine lets it.
+pub fn runs_have_one_history()
+    ensures { (format : Format) (size : Numbers) (budget : ℕ) (file : List ℕ) (story : Option (List Entry)) (status : ℕ) (text : List ℕ) →
+        AnswersRun format size budget file story status text → (status ≡ 0) ⊎ (status ≡ 1) →
+        (history : List Entry) × (ends : List GuestEnd)
+        × ((story ≡ Some history) × (IsOutcome (image_of format file size) size budget history ends
+        × (KeepsLimit size history × (text ≡ report_of budget ends)))) }
+{}
+
+/// What a load prints, where its status is 0 or 1, is by an outcome of its guest's threads: by one history, legal and complete, from
+/// the guest's memory on and within the limit of writes, that goes with the answer. It is the summary of the memory that this
+/// history leaves, where each thread left with code 0, and the report of the ends else.
+pub fn loads_have_one_history()
+    ensures { (seed threads rounds budget : ℕ) (story : Option (List Entry)) (status : ℕ) (text : List ℕ) →
+        AnswersLoad seed threads rounds budget story status text → (status ≡ 0) ⊎ (status ≡ 1) →
+        let program = load_program seed threads rounds in
+        let size = load_size threads in
+        (history : List Entry) × (ends : List GuestEnd)
+        × ((story ≡ Some history) × (IsOutcome program size budget history ends × (KeepsLimit size history
+        × (text ≡ load_text seed threads rounds budget (left_by program size history) ends)))) }
+{}
+
+/// In the one history of a run or of a load each store-exclusive that succeeded was undisturbed: the last load-exclusive of its
+/// thread read the same row, and nobody has written in that row since, whatever the value. And each that failed has its cause.
+pub fn store_exclusives_are_exact()
+    ensures { (program : Program) (size : Numbers) (budget : ℕ) (history : List Entry) (ends : List GuestEnd) →
+        IsOutcome program size budget history ends → AreStoresExact size program.bytes history }
+{}
+
+/// The record of a trace is good.
+pub fn traces_are_good()
+    ensures { (program : Program) (size : Numbers) (seed budget : ℕ) (accesses : List Access) →
+        IsTrace program size seed budget accesses → Judges program size budget accesses Verdict.Good }
+{}
+
+/// A trace of one thread that a record may have ends as the thread does alone.
+pub fn one_threads_trace_ends_as_alone()
+    ensures { (program : Program) (size : Numbers) (seed : ℕ) (run : RunRecord) (end : GuestEnd) →
+        size.threads ≡ 1 → IsTraceRecord program size seed run.budget run → end.thread ≡ 0 →
+        IsEndIn program run.budget (thread_start program size size.threads 0) (history_of run.accesses) end →
+        IsSoloEnd program size run.budget end }
+{}

@@ -1,5 +1,0 @@
-use Rattle.llsc_cli.proofs.LoadAnswers.{unit_sized}
-use Rattle.llsc_cli.proofs.commands.load.prepare.Goals as goal
-
-pub returns-clause-whole : goal.returns-clause-whole
-returns-clause-whole g c = unit_sized c.in_ok-unit.unit c.in_ok-size.size c.in-Ok.image c.in-Ok.ensures

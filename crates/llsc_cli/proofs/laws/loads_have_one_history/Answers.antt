@@ -1,5 +1,0 @@
-use Rattle.llsc_cli.proofs.LoadAnswers.{load_outcome}
-use Rattle.llsc_cli.proofs.laws.loads_have_one_history.Goals as goal
-
-pub returns : goal.returns
-returns c = load_outcome

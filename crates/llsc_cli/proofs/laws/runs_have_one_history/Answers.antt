@@ -1,5 +1,0 @@
-use Rattle.llsc_cli.proofs.RunAnswers.{outcome_of}
-use Rattle.llsc_cli.proofs.laws.runs_have_one_history.Goals as goal
-
-pub returns : goal.returns
-returns c = outcome_of

@@ -1,5 +1,0 @@
-use Rattle.llsc_cli.proofs.GoodTraces.{trace_good}
-use Rattle.llsc_cli.proofs.laws.traces_are_good.Goals as goal
-
-pub returns : goal.returns
-returns c = trace_good
