@@ -284,6 +284,3 @@ fn is_marked_on(mark: Option<u32>, row: u32) -> bool
         None => false,
     }
 }
-
-#[cfg(test)]
-mod tests;

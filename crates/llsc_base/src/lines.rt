@@ -46,16 +46,3 @@ impl Line {
         self.text.push(byte);
     }
 }
-
-#[cfg(test)]
-mod tests {
-    use super::*;
-
-    #[test]
-    fn grows(rt: HostRuntime) {
-        let mut line = Line::new();
-        line.push(b'h');
-        line.push(b'i');
-        assert_eq!(rt; line.bytes(), b"hi".as_slice());
-    }
-}

@@ -61,6 +61,3 @@ pub fn long_number(word: &[u8]) -> Option<u64>
     }
     Some(value(word))
 }
-
-#[cfg(test)]
-mod tests;

@@ -74,6 +74,3 @@ pub fn write_long(line: &mut Line, long: u64)
     write_word(line, (long >> 32) as u32);
     write_word(line, (long % (1 << 32)) as u32);
 }
-
-#[cfg(test)]
-mod tests;

@@ -1,8 +1,8 @@
-//! What is written, against texts that were written by hand.
-use crate::write::{write_decimal, write_word};
+//! Numbers that are written, against texts that were written by hand.
 use llsc_base::Line;
+use number_text::{write_decimal, write_word};
 
-#[tactic(auto, using(crate::proofs::Lengths::short_decimal))]
+#[tactic(auto, using(number_text::proofs::Lengths::short_decimal))]
 #[test]
 fn writes_numbers(rt: HostRuntime) {
     let mut decimal = Line::new();

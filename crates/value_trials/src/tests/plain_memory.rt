@@ -1,11 +1,11 @@
-//! Accesses of two threads, and what memory makes of them.
+//! Accesses of two threads, and what plain memory makes of them.
 ghost use Rattle.std.specs.Prelude.{◌≡◌, ◌<◌, ◌^◌, IsTrue, length};
 ghost use Rattle.llsc_base.specs.Memory.{size_bytes};
 ghost use Rattle.history.specs.Monitor.{IsAsLarge};
 
-use super::*;
-use crate::entry::{Access, Deed};
-use llsc_base::Size;
+use history::{Access, Deed, PlainMemory};
+use llsc_base::{MachineSize, Place, Size};
+use std::alloc::Global;
 use std::test::Fail;
 
 /// Whether a value has no more bytes than a size.

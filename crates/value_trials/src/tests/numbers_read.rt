@@ -1,7 +1,6 @@
-//! What is read, and written again.
-use crate::hexadecimal::{long_number, word_number};
-use crate::write::write_long;
+//! Hexadecimal numbers that are read, and one that is written again.
 use llsc_base::Line;
+use number_text::{long_number, word_number, write_long};
 
 #[test]
 fn reads_words(rt: HostRuntime) {

@@ -1,0 +1,34 @@
+//! The numbers of a machine.
+use llsc_base::{MachineSize, SizeFault};
+use std::test::Fail;
+
+#[test]
+fn ranges(rt: HostRuntime) {
+    let cases = [
+        (65_536, 16, 1, 1, None),
+        (16_777_216, 1, 4096, 4_611_686_018_427_387_904, None),
+        (65_537, 0, 3, 0, Some(SizeFault::Mem)),
+        (65_536, 0, 3, 0, Some(SizeFault::Threads)),
+        (65_536, 1, 3, 0, Some(SizeFault::Classes)),
+        (65_536, 1, 1, 0, Some(SizeFault::Limit)),
+    ];
+    for (mem, threads, classes, limit, fault) in cases {
+        assert_eq!(rt;
+            MachineSize::new(mem, threads, classes, limit).err(),
+            fault,
+            "at {mem}"
+        );
+    }
+}
+
+#[test]
+fn numbers(rt: HostRuntime) -> Result<(), Fail> {
+    let size = MachineSize::new(1_048_576, 2, 4096, 7)?;
+    assert_eq!(rt;
+        (size.mem(), size.threads(), size.classes(), size.limit()),
+        (1_048_576, 2, 4096, 7)
+    );
+    assert_eq!(rt; size.room(), 1_040_384);
+    assert_eq!(rt; SizeFault::Classes.name(), "Classes");
+    Ok(())
+}
