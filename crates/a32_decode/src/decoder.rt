@@ -83,14 +83,3 @@ fn by_register_or_media(word: u32) -> Result<Instr, DecodeFault>
     }
     media::media(word)
 }
-
-#[cfg(test)]
-mod half_and_block_tests;
-#[cfg(test)]
-mod operation_tests;
-#[cfg(test)]
-mod refusal_tests;
-#[cfg(test)]
-mod tests;
-#[cfg(test)]
-mod vector_tests;

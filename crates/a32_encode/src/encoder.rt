@@ -51,6 +51,3 @@ pub fn encode(i: &Instr) -> Result<u32, EncodeFault>
         _ => Err(EncodeFault::NoEncoding),
     }
 }
-
-#[cfg(test)]
-mod tests;

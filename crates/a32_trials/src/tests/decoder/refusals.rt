@@ -2,7 +2,7 @@
 //!
 //! Each place where the PC may not stand has a word, and so has each other condition under which a word is unpredictable or
 //! fits no row.
-use super::*;
+use a32_decode::{DecodeFault, decode};
 
 /// Words that fit a row and are unpredictable there. The manual calls them so, a return from an exception in User mode; only
 /// for a base that is stored above another register it says, in place of that, that the stored word is unknown.

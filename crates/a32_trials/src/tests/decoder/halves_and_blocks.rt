@@ -1,10 +1,10 @@
 //! Words of halfwords, signed bytes and blocks as the GNU assembler encodes them (DDI 0406C A5.2.8, A5.5).
 ghost use Rattle.std.specs.Prelude.{◌<◌};
 
-use super::*;
+use a32_decode::{DecodeFault, decode};
 use a32_instr::HalfKind::{Ldrh, Ldrsb, Ldrsh, Strh};
 use a32_instr::Index::{Plain, Post, Pre};
-use a32_instr::{Cond, HalfKind, Index, Offset, Reg, ShiftKind};
+use a32_instr::{Cond, HalfKind, Index, Instr, Offset, Reg, ShiftKind};
 
 fn half(
     cond: u8,

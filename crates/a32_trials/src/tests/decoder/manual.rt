@@ -1,8 +1,8 @@
 //! Words and what they are, encoded by hand from the manual (DDI 0406C A5, A8.8).
 ghost use Rattle.std.specs.Prelude.{◌<◌};
 
-use super::*;
-use a32_instr::{AluOp, Cond, Index, Offset, Operand2, Reg, ShiftKind};
+use a32_decode::{DecodeFault, decode};
+use a32_instr::{AluOp, Cond, Index, Instr, Offset, Operand2, Reg, ShiftKind};
 use llsc_base::Size;
 
 /// Data processing under the condition AL.

@@ -1,10 +1,12 @@
 //! Words of each class of instructions, as the GNU assembler encodes them.
 ghost use Rattle.std.specs.Prelude.{◌<◌};
 
-use super::*;
+use a32_decode::decode;
 use a32_instr::AluOp::{Add, Mov, Rsb};
 use a32_instr::ShiftKind::{Lsl, Lsr};
-use a32_instr::{AluOp, BarrierKind, Cond, HalfKind, Index, Offset, Operand2, Reg, ShiftKind};
+use a32_instr::{
+    AluOp, BarrierKind, Cond, HalfKind, Index, Instr, Offset, Operand2, Reg, ShiftKind,
+};
 use llsc_base::Size;
 
 fn r(num: u8) -> Reg

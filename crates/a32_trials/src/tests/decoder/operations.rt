@@ -2,8 +2,8 @@
 //! A8.8).
 ghost use Rattle.std.specs.Prelude.{◌<◌};
 
-use super::*;
-use a32_instr::{AluOp, Cond, LongKind, Operand2, Reg, ShiftKind};
+use a32_decode::{DecodeFault, decode};
+use a32_instr::{AluOp, Cond, Instr, LongKind, Operand2, Reg, ShiftKind};
 
 fn r(num: u8) -> Reg
     requires { num < 16 }

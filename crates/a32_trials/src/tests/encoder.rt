@@ -1,8 +1,9 @@
 //! Words both ways: what the decoder reads of a word is encoded as that word.
 ghost use Rattle.std.specs.Prelude.{◌<◌};
 
-use super::*;
-use a32_instr::{AluOp, BarrierKind, Cond, HalfKind, Index, Offset, Operand2, Reg};
+use a32_decode::decode;
+use a32_encode::{EncodeFault, encode};
+use a32_instr::{AluOp, BarrierKind, Cond, HalfKind, Index, Instr, Offset, Operand2, Reg};
 
 /// Words of each class of instructions, as the GNU assembler encodes them.
 #[test]

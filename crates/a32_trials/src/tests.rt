@@ -1,0 +1,3 @@
+//! Words, their instructions, and what a core does with those.
+mod decoder;
+mod encoder;

@@ -1,0 +1,6 @@
+//! What the decoder reads of words.
+mod classes;
+mod halves_and_blocks;
+mod manual;
+mod operations;
+mod refusals;
