@@ -255,6 +255,3 @@ fn stop_at(pc: u32, fault: DecodeFault) -> Stop
         DecodeFault::Unpredictable => Stop::Unpredictable(pc),
     }
 }
-
-#[cfg(test)]
-mod tests;

@@ -1,4 +1,6 @@
 //! Conditions, and writes to the PC.
+ghost use Rattle.std.specs.Prelude.{◌≡◌};
+ghost use Rattle.a32_instr.specs.Condition.{passes};
 
 use super::*;
 
@@ -21,12 +23,13 @@ const CONDITIONS: [[u32; 2]; 15] = [
     [0xe3a00001, 0xffff],
 ];
 
+/// At all flags that a core can have: N and Z are never set together.
 #[test]
 fn passes_conditions(rt: HostRuntime) -> Result<(), Fail> {
     for [word, passing] in CONDITIONS {
-        let image = image(rt.alloc(), word)?;
-        for flags in 0..16u32 {
-            let mut cpu = cpu(0, 0, 0, 0, flags);
+        let image = image_of(rt.alloc(), word)?;
+        for flags in 0..12u32 {
+            let mut cpu = core_with(rt.alloc(), regs_of(0, 0, 0, 0), flags)?;
             assert_eq!(rt; cpu.next(&image), Wanted::Done, "at {word:#x}");
             assert_eq!(rt;
                 cpu.reg(0),
@@ -39,10 +42,48 @@ fn passes_conditions(rt: HostRuntime) -> Result<(), Fail> {
     Ok(())
 }
 
+/// Whether flags meet a condition by the definition that a core is proved to go by.
+#[tactic(auto, unfolding(a32_instr::specs::Condition::passes))]
+fn passes(cond: u32, flags: Flags) -> bool
+    ensures { result ≡ passes cond flags }
+{
+    match cond {
+        0 => flags.z,
+        1 => !flags.z,
+        2 => flags.c,
+        3 => !flags.c,
+        4 => flags.n,
+        5 => !flags.n,
+        6 => flags.v,
+        7 => !flags.v,
+        8 => flags.c && !flags.z,
+        9 => !flags.c || flags.z,
+        10 => flags.n == flags.v,
+        11 => flags.n != flags.v,
+        12 => !flags.z && flags.n == flags.v,
+        13 => flags.z || flags.n != flags.v,
+        _ => true,
+    }
+}
+
+/// The definition of conditions, at N and Z together too.
+#[test]
+fn defines_conditions(rt: HostRuntime) {
+    for [word, passing] in CONDITIONS {
+        for flags in 0..16u32 {
+            assert_eq!(rt;
+                passes(word >> 28, flags_of(flags)),
+                passing >> flags & 1 != 0,
+                "at {word:#x} with {flags}"
+            );
+        }
+    }
+}
+
 /// `mov pc, r1`: the PC takes a multiple of 4, and nothing else (DDI 0406C A2.3.2, BXWritePC).
 #[test]
 fn writes_the_pc(rt: HostRuntime) -> Result<(), Fail> {
-    let image = image(rt.alloc(), 0xe1a0_f001)?;
+    let image = image_of(rt.alloc(), 0xe1a0_f001)?;
     let cases = [
         (0x1008, Wanted::Done, 0x1008),
         (0xffff_fffc, Wanted::Done, 0xffff_fffc),
@@ -51,7 +92,7 @@ fn writes_the_pc(rt: HostRuntime) -> Result<(), Fail> {
         (0x1002, Wanted::Stopped(Stop::Unpredictable(0x1000)), 0x1000),
     ];
     for (target, wanted, pc) in cases {
-        let mut cpu = cpu(0, target, 0, 0, 0);
+        let mut cpu = core_with(rt.alloc(), regs_of(0, target, 0, 0), 0)?;
         assert_eq!(rt; cpu.next(&image), wanted, "to {target:#x}");
         assert_eq!(rt; cpu.pc(), pc, "to {target:#x}");
     }

@@ -1,5 +1,5 @@
 use Rattle.a32_step.specs.Machine.{IsReady}
-use Rattle.a32_step.proofs.cpu.tests.transcripts.steps.Given as goal
+use Rattle.a32_trials.proofs.tests.cpu.transcripts.steps.Given as goal
 
 -- no reply is awaited where the core goes on
 abbrev pub invariant-loop : goal.invariant-loop
