@@ -34,11 +34,8 @@ fn fail<R: Threads + Wait + Sync + AllocGlobal + Abort>(
 ) -> Result<(), Fail> {
     let file = bytes_of(rt.alloc(), HI)?;
     let (status, written) = called(rt, "solo --flat p", file, failing, space)?;
-    assert_eq!(rt;
-        (status, written.as_slice()),
-        answer,
-        "for {failing:?} and {space}"
-    );
+    let given = (failing, space, (status, written.as_slice()));
+    same(rt, given, (failing, space, answer));
     Ok(())
 }
 

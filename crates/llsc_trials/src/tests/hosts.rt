@@ -26,7 +26,11 @@ fn read_all<H: Host, R: AllocGlobal + Abort>(
 ) -> Result<(), Fail> {
     for (name, most, want) in reads {
         let told = answer(rt.alloc(), host, name, *most)?;
-        assert_eq!(rt; told.as_slice(), want.as_bytes(), "{most} bytes of {name}");
+        same(
+            rt,
+            (*name, *most, told.as_slice()),
+            (*name, *most, want.as_bytes()),
+        );
     }
     Ok(())
 }
