@@ -5,10 +5,10 @@ use Rattle.history.specs.declared.entry.Entry.{Entry}
 use Rattle.version_memory.specs.declared.passes.VersionStory.{VersionStory}
 use Rattle.llsc_host.specs.Host.{AreBytes, Adds}
 use Rattle.llsc_words.specs.Request.{Request, Solo, Run, Assemble, Disassemble, Trace, Check, Load, files_of}
-use Rattle.llsc_call.specs.Answer.{Answers, AreFiles, AreTold, IsDue, IsNoneOf}
-use Rattle.llsc_call.specs.Reads.{CallEnds, EndsAsked}
+use Rattle.llsc_call.specs.Answer.{Answers, AreFiles, AreTold, IsDue, IsNoneOf, EndsAsked}
+use Rattle.llsc_files.specs.Reads.{CallEnds}
 use Rattle.llsc_call.specs.Run.{told}
-use Rattle.llsc_call.proofs.Answering.{ends_for}
+use Rattle.llsc_files.proofs.Answering.{ends_for}
 
 -- a request of one file
 pub ends_one : {A : List ℕ → ℕ → List ℕ → Type 0} {X Y : Type 0} (held : List ℕ → Option (List ℕ)) (asked : Request) (name : List ℕ)

@@ -7,11 +7,11 @@ use Rattle.run_record.specs.declared.records.RunRecord.{RunRecord}
 use Rattle.run_checker.specs.declared.verdicts.Verdict.{Verdict}
 use Rattle.run_checker.specs.declared.verdicts.Verdict.TheVariants as verdict
 use Rattle.llsc_words.specs.declared.formats.Format.{Format}
-use Rattle.llsc_call.specs.Programs.{image_of, program_refusal, refusal_on}
-use Rattle.llsc_call.specs.Refusals.{machine_of, most_program, size_refusal, too_long, Refusal, Refuses}
+use Rattle.llsc_files.specs.Programs.{image_of, program_refusal, refusal_on}
+use Rattle.llsc_files.specs.Refusals.{machine_of, most_program, size_refusal, too_long, Refusal, Refuses}
 use Rattle.llsc_call.specs.Check.{files_refusal, most_record, verdict_status, AnswersCheck, IsJudged, JudgesRead, JudgesRun}
-use Rattle.llsc_call.specs.Answer.{IsDone}
-use Rattle.llsc_call.proofs.Answering.{program_refusal_is, refused_short, refused_unsized, unless_none, unless_refused}
+use Rattle.llsc_files.specs.Reads.{IsDone}
+use Rattle.llsc_files.proofs.Answering.{program_refusal_is, refused_short, refused_unsized, unless_none, unless_refused}
 
 -- the status of a verdict is that of an answer
 pub verdict_done : (v : Verdict) → IsDone (verdict_status v)

@@ -1,11 +1,4 @@
-pub mod Answering
-pub mod Machines
-pub mod AsmAnswers
-pub mod CodeBytes
 pub mod CheckAnswers
-pub mod DisAnswers
-pub mod Images
-pub mod Paging
 pub mod SoloAnswers
 pub mod Finished
 pub mod RunAnswers

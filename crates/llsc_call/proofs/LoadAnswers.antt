@@ -16,13 +16,13 @@ use Rattle.llsc_call.specs.Beside.{Ran, left_by}
 use Rattle.llsc_report.specs.Summary.{counter_in, counter_of, summary_by, summary_of}
 use Rattle.llsc_call.specs.Load.{AnswersLoad, TellsLoad, guest_refusal, load_program, load_refusal, load_size, load_text}
 use Rattle.llsc_host.specs.Host.{Adds, AddsFront}
-use Rattle.llsc_call.specs.Reads.{Answered}
-use Rattle.llsc_report.specs.Said.{refusal_text}
-use Rattle.llsc_call.specs.Refusals.{Refusal}
+use Rattle.llsc_files.specs.Reads.{Answered}
+use Rattle.llsc_host.specs.Said.{refusal_text}
+use Rattle.llsc_files.specs.Refusals.{Refusal}
 use Rattle.llsc_report.specs.Report.{report_of}
 use Rattle.llsc_call.specs.Run.{UnlessRun}
 use Rattle.llsc_report.specs.Status.{have_left, status_of_all}
-use Rattle.llsc_call.proofs.Answering.{answered_refused, answered_wanting}
+use Rattle.llsc_files.proofs.Answering.{answered_refused, answered_wanting}
 use Rattle.llsc_report.proofs.Counted.{summary_same}
 use Rattle.llsc_call.proofs.Left.{counters_left}
 

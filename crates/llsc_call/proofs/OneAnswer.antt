@@ -16,19 +16,19 @@ use Rattle.run_record.specs.declared.faults.RecordFault.{RecordFault}
 use Rattle.run_record.specs.declared.records.RunRecord.{RunRecord}
 use Rattle.run_checker.proofs.Right.{one_verdict}
 use Rattle.llsc_words.specs.declared.formats.Format.{Format}
-use Rattle.llsc_call.specs.Programs.{image_of, program_refusal}
-use Rattle.llsc_call.specs.Refusals.{Answer, machine_of, solo_size, Unless}
+use Rattle.llsc_files.specs.Programs.{image_of, program_refusal}
+use Rattle.llsc_files.specs.Refusals.{Answer, machine_of, solo_size, Unless, Is}
 use Rattle.llsc_report.specs.Report.{report_of}
 use Rattle.llsc_call.specs.Run.{ReportsRun, UnlessRun}
 use Rattle.llsc_call.specs.Beside.{left_by}
 use Rattle.llsc_call.specs.Load.{TellsLoad, load_program, load_refusal, load_size, load_text}
-use Rattle.llsc_call.specs.Assembly.{asm_answer}
-use Rattle.llsc_call.specs.Disassembly.{dis_answer}
+use Rattle.llsc_texts.specs.Assembly.{asm_answer}
+use Rattle.llsc_texts.specs.Disassembly.{dis_answer}
 use Rattle.llsc_report.specs.Status.{status_of, status_of_all}
 use Rattle.llsc_call.specs.Trace.{IsRecorded, Traces}
 use Rattle.llsc_call.specs.Check.{files_refusal, verdict_status, verdict_text, IsJudged, JudgesRead}
 use Rattle.llsc_words.specs.Request.{Request, Solo, Run, Assemble, Disassemble, Trace, Check, Load}
-use Rattle.llsc_call.specs.Answer.{Answers, Is, IsReported}
+use Rattle.llsc_call.specs.Answer.{Answers, IsReported}
 
 -- answers have one status and one text
 abbrev pub AreOne : (ℕ → List ℕ → Type 0) → Type 0

@@ -8,8 +8,8 @@ use Rattle.guest_thread.specs.Outcome.{IsOutcome}
 use Rattle.guest_thread.specs.declared.ends.GuestEnd.{GuestEnd}
 use Rattle.llsc_words.specs.declared.formats.Format.{Format}
 use Rattle.llsc_call.specs.Beside.{Ran}
-use Rattle.llsc_call.specs.Programs.{image_of, program_refusal}
-use Rattle.llsc_call.specs.Refusals.{Refuses}
+use Rattle.llsc_files.specs.Programs.{image_of, program_refusal}
+use Rattle.llsc_files.specs.Refusals.{Refuses}
 use Rattle.llsc_report.specs.Report.{report_of}
 use Rattle.llsc_call.specs.Run.{AnswersRun, IsReportOf, ReportsRun, UnlessRun}
 use Rattle.llsc_report.specs.Status.{status_of_all}

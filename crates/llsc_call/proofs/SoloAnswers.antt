@@ -7,12 +7,12 @@ use Rattle.guest_machine.specs.Alone.{IsSoloEnd}
 use Rattle.llsc_host.specs.Host.{AreBytes, Adds, AddsFront}
 use Rattle.llsc_report.specs.Report.{report_of}
 use Rattle.llsc_words.specs.declared.formats.Format.{Format}
-use Rattle.llsc_call.specs.Programs.{image_of, program_refusal}
-use Rattle.llsc_call.specs.Refusals.{solo_size, Refuses}
+use Rattle.llsc_files.specs.Programs.{image_of, program_refusal}
+use Rattle.llsc_files.specs.Refusals.{solo_size, Refuses}
 use Rattle.llsc_report.specs.Status.{status_of}
-use Rattle.llsc_call.specs.Answer.{AnswersSolo, IsDone, IsReported}
-use Rattle.llsc_call.specs.Reads.{CallEnds}
-use Rattle.llsc_call.proofs.Answering.{ends_done, unless_none, unless_refused}
+use Rattle.llsc_call.specs.Answer.{AnswersSolo, IsReported}
+use Rattle.llsc_files.specs.Reads.{IsDone, CallEnds}
+use Rattle.llsc_files.proofs.Answering.{ends_done, unless_none, unless_refused}
 
 -- a refusal
 pub solo_refused : (format : Format) (mem budget : ℕ) (file : List ℕ) (status : ℕ) (text : List ℕ) → Refuses (program_refusal format (solo_size mem)) file status text

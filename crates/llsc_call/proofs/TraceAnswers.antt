@@ -4,12 +4,12 @@ use Rattle.llsc_base.specs.Sizes.{Numbers}
 use Rattle.llsc_base.specs.Images.{Program}
 use Rattle.guest_thread.specs.declared.ends.GuestEnd.{GuestEnd}
 use Rattle.llsc_words.specs.declared.formats.Format.{Format}
-use Rattle.llsc_call.specs.Programs.{image_of, program_refusal}
-use Rattle.llsc_call.specs.Refusals.{machine_of, Refuses}
+use Rattle.llsc_files.specs.Programs.{image_of, program_refusal}
+use Rattle.llsc_files.specs.Refusals.{machine_of, Refuses}
 use Rattle.llsc_report.specs.Status.{have_left, status_of_all}
 use Rattle.llsc_call.specs.Trace.{AnswersTrace, Traces}
-use Rattle.llsc_call.specs.Answer.{IsDone}
-use Rattle.llsc_call.proofs.Answering.{unless_none, unless_refused}
+use Rattle.llsc_files.specs.Reads.{IsDone}
+use Rattle.llsc_files.proofs.Answering.{unless_none, unless_refused}
 
 -- the status of a record is that of an answer
 either_done : (b : Bool) → IsDone (if b then 0 else 1)

@@ -9,16 +9,17 @@ use Rattle.llsc_words.specs.declared.formats.Format.{Format}
 use Rattle.llsc_report.specs.Report.{report_of}
 use Rattle.llsc_host.specs.Host.{Rose, AreBytes, AddsFront}
 use Rattle.llsc_words.specs.Request.{Request, Solo, Run, Assemble, Disassemble, Trace, Check, Load, files_of}
-use Rattle.llsc_call.specs.Assembly.{asm_answer}
-use Rattle.llsc_call.specs.Disassembly.{dis_answer}
+use Rattle.llsc_texts.specs.Assembly.{AnswersAsm}
+use Rattle.llsc_texts.specs.Disassembly.{AnswersDis}
 use Rattle.llsc_call.specs.Run.{AnswersRun}
 use Rattle.llsc_report.specs.Status.{status_of}
 use Rattle.llsc_call.specs.Trace.{AnswersTrace}
 use Rattle.llsc_call.specs.Check.{AnswersCheck}
 use Rattle.llsc_call.specs.Load.{AnswersLoad}
-use Rattle.llsc_report.specs.Said.{words_text, read_text}
-use Rattle.llsc_call.specs.Refusals.{Answer, machine_of, most_program, solo_size, size_refusal, too_long, Unless}
-use Rattle.llsc_call.specs.Programs.{image_of, program_refusal}
+use Rattle.llsc_host.specs.Said.{words_text, read_text}
+use Rattle.llsc_files.specs.Reads.{EndsFor}
+use Rattle.llsc_files.specs.Refusals.{machine_of, most_program, solo_size, size_refusal, too_long, Unless}
+use Rattle.llsc_files.specs.Programs.{image_of, program_refusal}
 
 -- a run of a program's one thread, with the report and the status by its stop
 abbrev pub IsReported : Program → Numbers → ℕ → ℕ → List ℕ → Type 0
@@ -30,16 +31,6 @@ abbrev pub AnswersSolo : Format → ℕ → ℕ → List ℕ → ℕ → List �
 AnswersSolo format mem budget file status text =
     let size = solo_size mem in
     Unless (program_refusal format size file) (IsReported (image_of format file size) size budget) status text
-
--- the status and the text are those of an answer
-abbrev pub Is : Answer → ℕ → List ℕ → Type 0
-Is answer status text = (status ≡ answer.status) × (text ≡ answer.text)
-
-abbrev pub AnswersAsm : Format → List ℕ → ℕ → List ℕ → Type 0
-AnswersAsm format file status text = Is (asm_answer format file) status text
-
-abbrev pub AnswersDis : Format → ℕ → List ℕ → ℕ → List ℕ → Type 0
-AnswersDis format mem file status text = Is (dis_answer format mem file) status text
 
 -- the history of threads that ran beside each other, where any did, the status and the text for a request and the bytes of its
 -- files, in the order of their names
@@ -86,10 +77,6 @@ IsDue held (Check file recorded format mem) name =
     (name ≡ file) ⊎ ((name ≡ recorded) × ((bytes : List ℕ) × (AreBytes (held file) bytes × (too_long most_program bytes ≡ None))))
 IsDue held (Load seed threads rounds budget) name = ⊥
 
--- the statuses of an answer that was given whole
-abbrev pub IsDone : ℕ → Type 0
-IsDone status = (status ≡ 0) ⊎ ((status ≡ 1) ⊎ ((status ≡ 4) ⊎ (status ≡ 7)))
-
 -- a request is answered so, by bytes that its files may hold
 abbrev pub IsAnswer : (List ℕ → Option (List ℕ)) → Option Request → Option (List Entry) → ℕ → List ℕ → Type 0
 IsAnswer held request story status text =
@@ -109,3 +96,8 @@ IsCut held request story read_failed old new =
     ((request ≡ None) × (story ≡ None) × AddsFront old new words_text)
     ⊎ (((status : ℕ) × (text : List ℕ) × (IsAnswer held request story status text × AddsFront old new text))
     ⊎ (read_failed × (story ≡ None) × AddsFront old new read_text))
+
+-- a call ended with a history, or none, that had the files of a request to answer for
+abbrev pub EndsAsked : (List ℕ → Option (List ℕ)) → Request → Option (List Entry) → Type 0 → Option (List ℕ) → Option (List ℕ) → ℕ → Type 0
+EndsAsked held asked story read_failed old new status =
+    EndsFor (λ files. Answers asked files story) (AreFiles held (files_of asked)) (read_failed × (story ≡ None)) old new status

@@ -13,9 +13,9 @@ use Rattle.run_checker.specs.Verdict.{Judges, reason_name}
 use Rattle.run_checker.specs.declared.verdicts.Verdict.{Verdict}
 use Rattle.run_checker.specs.declared.verdicts.Verdict.TheVariants as verdict
 use Rattle.llsc_words.specs.declared.formats.Format.{Format}
-use Rattle.llsc_call.specs.Programs.{image_of, program_refusal}
-use Rattle.llsc_report.specs.Said.{refusal_text}
-use Rattle.llsc_call.specs.Refusals.{machine_of, most_program, too_long, Unless}
+use Rattle.llsc_files.specs.Programs.{image_of, program_refusal}
+use Rattle.llsc_host.specs.Said.{refusal_text}
+use Rattle.llsc_files.specs.Refusals.{machine_of, most_program, too_long, Unless}
 
 -- the most bytes of a record's file
 abbrev pub most_record : ℕ

@@ -1,7 +1,3 @@
-pub mod Refusals
-pub mod Programs
-pub mod Assembly
-pub mod Disassembly
 pub mod Trace
 pub mod Run
 pub mod Exclusives
@@ -9,4 +5,3 @@ pub mod Beside
 pub mod Load
 pub mod Check
 pub mod Answer
-pub mod Reads

@@ -11,7 +11,7 @@ use Rattle.guest_thread.specs.Outcome.{IsOutcome}
 use Rattle.guest_thread.specs.declared.ends.GuestEnd.{GuestEnd}
 use Rattle.llsc_words.specs.Request.{default_mem}
 use Rattle.llsc_call.specs.Beside.{left_by}
-use Rattle.llsc_call.specs.Refusals.{machine_of, size_refusal}
+use Rattle.llsc_files.specs.Refusals.{machine_of, size_refusal}
 use Rattle.llsc_report.specs.Report.{report_of}
 use Rattle.llsc_call.specs.Run.{UnlessRun}
 use Rattle.llsc_report.specs.Summary.{summary_of}

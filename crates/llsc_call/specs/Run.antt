@@ -10,8 +10,8 @@ use Rattle.version_memory.specs.Memory.{story_history}
 use Rattle.guest_thread.specs.Outcome.{IsOutcome}
 use Rattle.guest_thread.specs.declared.ends.GuestEnd.{GuestEnd}
 use Rattle.llsc_words.specs.declared.formats.Format.{Format}
-use Rattle.llsc_call.specs.Programs.{image_of, program_refusal}
-use Rattle.llsc_report.specs.Said.{refusal_text}
+use Rattle.llsc_files.specs.Programs.{image_of, program_refusal}
+use Rattle.llsc_host.specs.Said.{refusal_text}
 use Rattle.llsc_report.specs.Report.{report_of}
 use Rattle.llsc_report.specs.Status.{status_of_all}
 

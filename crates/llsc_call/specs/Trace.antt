@@ -11,9 +11,9 @@ use Rattle.run_record.specs.Text.{record_text}
 use Rattle.run_record.specs.declared.records.RunRecord.{RunRecord}
 use Rattle.llsc_words.specs.declared.formats.Format.{Format}
 use Rattle.llsc_report.specs.Status.{status_of_all}
-use Rattle.llsc_call.specs.Programs.{image_of, program_refusal}
-use Rattle.llsc_report.specs.Said.{refusal_text}
-use Rattle.llsc_call.specs.Refusals.{machine_of, Unless}
+use Rattle.llsc_files.specs.Programs.{image_of, program_refusal}
+use Rattle.llsc_host.specs.Said.{refusal_text}
+use Rattle.llsc_files.specs.Refusals.{machine_of, Unless}
 
 -- the record of a program's trace with its status, which is by the ends of the threads; or that the trace has too many accesses
 abbrev pub IsRecorded : Program → Numbers → ℕ → ℕ → ℕ → List ℕ → Type 0

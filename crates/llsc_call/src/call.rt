@@ -2,14 +2,14 @@
 ghost use Rattle.std.specs.Prelude.{◌≡◌, ◌≢◌, ◌⊎◌, ℕ, List, map, string_bytes, None, Some};
 ghost use Rattle.llsc_host.specs.Host.{Adds, Rose};
 ghost use Rattle.llsc_words.specs.Request.{Request, request_of, files_of};
-ghost use Rattle.llsc_report.specs.Said.{words_text, read_text};
+ghost use Rattle.llsc_host.specs.Said.{words_text, read_text};
 ghost use Rattle.llsc_call.specs.Run.{told};
-ghost use Rattle.llsc_call.specs.Answer.{Answers, AreTold, IsDone, IsNoneOf, IsAnswer, ReadFailed, IsCut};
+ghost use Rattle.llsc_call.specs.Answer.{Answers, AreTold, IsNoneOf, IsAnswer, ReadFailed, IsCut};
+ghost use Rattle.llsc_files.specs.Reads.{IsDone};
 
 use crate::commands;
 use crate::ended::Ended;
-use llsc_host::Host;
-use llsc_report::{out_of_memory, say};
+use llsc_host::{Host, out_of_memory, say};
 use llsc_words::parse;
 use std::alloc::Global;
 use std::sync::Wait;

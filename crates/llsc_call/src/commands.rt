@@ -2,21 +2,18 @@
 ghost use Rattle.std.specs.Prelude.{◌≡◌, ◌≢◌, None};
 ghost use Rattle.llsc_host.specs.Host.{Rose};
 ghost use Rattle.llsc_words.specs.Request.{asked, HasBudget};
-ghost use Rattle.llsc_call.specs.Answer.{IsAlone, IsDue};
-ghost use Rattle.llsc_call.specs.Reads.{EndsAsked};
+ghost use Rattle.llsc_call.specs.Answer.{IsAlone, IsDue, EndsAsked};
 ghost use Rattle.llsc_call.specs.Run.{told};
 
-mod asm;
 mod check;
-mod dis;
 mod load;
 mod run;
 mod solo;
 mod trace;
 
 use crate::ended::Ended;
-use llsc_host::Host;
-use llsc_report::Said;
+use llsc_host::{Host, Said};
+use llsc_texts::{asm, dis};
 use llsc_words::Request;
 use std::alloc::Global;
 use std::sync::Wait;

@@ -1,7 +1,7 @@
 //! How a call ended.
 ghost use Rattle.std.specs.Prelude.{◌≡◌, None};
 
-use llsc_report::Said;
+use llsc_host::Said;
 use version_memory::VersionStory;
 
 /// How a call ended.

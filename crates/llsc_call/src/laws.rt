@@ -19,7 +19,7 @@ ghost use Rattle.llsc_call.specs.Answer.{Answers};
 ghost use Rattle.llsc_call.specs.Beside.{left_by};
 ghost use Rattle.llsc_call.specs.Exclusives.{AreStoresExact};
 ghost use Rattle.llsc_call.specs.Load.{AnswersLoad, load_program, load_size, load_text};
-ghost use Rattle.llsc_call.specs.Programs.{image_of};
+ghost use Rattle.llsc_files.specs.Programs.{image_of};
 ghost use Rattle.llsc_report.specs.Report.{report_of};
 ghost use Rattle.llsc_call.specs.Run.{AnswersRun};
 ghost use Rattle.llsc_words.specs.declared.formats.Format.{Format};

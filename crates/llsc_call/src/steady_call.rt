@@ -1,9 +1,10 @@
 //! Calls over a host that never fails.
 ghost use Rattle.std.specs.Prelude.{◌≡◌, ◌⊎◌, ℕ, List, map, string_bytes, None, Some};
 ghost use Rattle.llsc_words.specs.Request.{Request, request_of, files_of};
-ghost use Rattle.llsc_call.specs.Answer.{Answers, IsDone};
+ghost use Rattle.llsc_call.specs.Answer.{Answers};
+ghost use Rattle.llsc_files.specs.Reads.{IsDone};
 ghost use Rattle.llsc_host.specs.Host.{Adds};
-ghost use Rattle.llsc_report.specs.Said.{words_text};
+ghost use Rattle.llsc_host.specs.Said.{words_text};
 ghost use Rattle.llsc_call.specs.Run.{told};
 ghost use Rattle.llsc_host.specs.SteadyHost.{written_of};
 

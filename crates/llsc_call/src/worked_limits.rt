@@ -3,7 +3,7 @@ ghost use Rattle.std.specs.Prelude.{◌≡◌, ◌∷◌, [], None, Some, codes}
 ghost use Rattle.a32_asm.specs.Assembled.{most_text};
 ghost use Rattle.llsc_call.specs.Check.{most_record};
 ghost use Rattle.llsc_call.specs.Load.{guest_refusal, load_refusal, load_size};
-ghost use Rattle.llsc_call.specs.Refusals.{machine_of, most_program, solo_size, too_long};
+ghost use Rattle.llsc_files.specs.Refusals.{machine_of, most_program, solo_size, too_long};
 
 /// A machine has 4096 classes, of 4,611,686,018,427,387,904 writes each; that of `solo` has one thread and rows of eight bytes,
 /// and that of `load` so many bytes and rows of eight bytes.

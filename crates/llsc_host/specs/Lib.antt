@@ -3,3 +3,4 @@ pub mod MemoryHost
 pub mod MemoryHostInside
 pub mod SteadyHost
 pub mod SteadyHostInside
+pub mod Said

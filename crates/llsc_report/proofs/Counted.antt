@@ -4,7 +4,7 @@ use Rattle.std.specs.List.{range_with_len, sum_by}
 use Rattle.std.proofs.lemmas.List.Sums.{sum_by_push}
 use Rattle.llsc_host.specs.Host.{AddsFront}
 use Rattle.llsc_report.specs.Summary.{counter_line, counter_lines, summary_by, total_of}
-use Rattle.llsc_report.proofs.FirstTexts.{range_more, texts_front, texts_more}
+use Rattle.llsc_host.proofs.FirstTexts.{range_more, texts_front, texts_more}
 
 pub no_lines : (held : ℕ → ℕ) → counter_lines held 0 ≡ []
 unfolding counter_lines

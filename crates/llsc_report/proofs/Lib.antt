@@ -1,3 +1,2 @@
-pub mod FirstTexts
 pub mod Sums
 pub mod Counted

@@ -1,4 +1,3 @@
-pub mod Said
 pub mod Status
 pub mod Report
 pub mod Summary

@@ -7,11 +7,11 @@ ghost use Rattle.std.specs.List.{flat_map, sum_by};
 ghost use Rattle.llsc_report.specs.Report.{HasSums, head_line, last_line, report_of, stop_text, thread_text};
 ghost use Rattle.llsc_report.specs.Status.{status_of_all};
 
-use crate::said::{Said, status_of_all};
+use crate::statuses::status_of_all;
 use a32_step::Stop;
 use guest_thread::{Counts, GuestEnd};
 use llsc_base::Line;
-use llsc_host::{Failed, Host};
+use llsc_host::{Failed, Host, Said};
 use number_text::{write_decimal, write_text, write_word};
 
 /// Adds a name and a number of 32 bits at the end of a line.

@@ -3,16 +3,16 @@ ghost use Rattle.std.specs.Prelude.{◌≡◌, ◌≢◌, ◌≤◌, None, lengt
 ghost use Rattle.llsc_base.specs.Limits.{most_budget};
 ghost use Rattle.llsc_words.specs.Request.{machine_by};
 ghost use Rattle.llsc_host.specs.Host.{KeepsReads, Rose};
-ghost use Rattle.llsc_call.specs.Reads.{Answered, CallEnds};
-ghost use Rattle.llsc_call.specs.Refusals.{size_refusal};
+ghost use Rattle.llsc_files.specs.Reads.{Answered, CallEnds};
+ghost use Rattle.llsc_files.specs.Refusals.{size_refusal};
 ghost use Rattle.llsc_call.specs.Run.{AnswersRun, ReportsRun, told};
 
 use crate::beside::run_beside;
 use crate::ended::Ended;
-use crate::files::load;
 use llsc_base::{Image, MachineSize};
-use llsc_host::Host;
-use llsc_report::{out_of_memory, say_report};
+use llsc_files::load;
+use llsc_host::{Host, out_of_memory};
+use llsc_report::say_report;
 use llsc_words::{Format, RunNumbers};
 use std::alloc::Global;
 use std::sync::Wait;

@@ -5,16 +5,16 @@ ghost use Rattle.guest_machine.specs.Alone.{IsSoloEnd};
 ghost use Rattle.guest_thread.specs.declared.ends.GuestEnd.{GuestEnd};
 ghost use Rattle.llsc_host.specs.Host.{Adds, AddsFront, KeepsReads, Rose};
 ghost use Rattle.llsc_report.specs.Report.{report_of};
-ghost use Rattle.llsc_call.specs.Refusals.{size_refusal, solo_size};
+ghost use Rattle.llsc_files.specs.Refusals.{size_refusal, solo_size};
 ghost use Rattle.llsc_report.specs.Status.{status_of};
 ghost use Rattle.llsc_call.specs.Answer.{AnswersSolo};
-ghost use Rattle.llsc_call.specs.Reads.{CallEnds};
+ghost use Rattle.llsc_files.specs.Reads.{CallEnds};
 
-use crate::files::{LEAST_GRANULE, load, numbers_of};
 use guest_machine::solo;
 use llsc_base::{Image, MachineSize};
-use llsc_host::Host;
-use llsc_report::{Said, out_of_memory, status, write_report};
+use llsc_files::{LEAST_GRANULE, load, numbers_of};
+use llsc_host::{Host, Said, out_of_memory};
+use llsc_report::{status, write_report};
 use llsc_words::Format;
 use std::alloc::Global;
 

@@ -6,7 +6,7 @@ use elf32::write;
 use guest_gen::counters;
 use llsc_base::{Image, MachineSize};
 use llsc_call::beside::run_beside;
-use llsc_call::programs::image_of;
+use llsc_files::programs::image_of;
 use llsc_report::total;
 use llsc_words::{Format, RUN_LIMIT};
 

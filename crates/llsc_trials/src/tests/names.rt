@@ -6,7 +6,7 @@ use a32_syntax::AsmKind;
 use elf32::ElfFault;
 use guest_machine::TraceFault;
 use llsc_base::{FlatFault, SizeFault};
-use llsc_call::programs::ProgramFault;
+use llsc_files::programs::ProgramFault;
 use llsc_host::ReadFault;
 use run_checker::Reason;
 use run_record::RecordFault;

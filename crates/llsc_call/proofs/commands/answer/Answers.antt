@@ -1,7 +1,7 @@
 use Rattle.std.proofs.Common.{[], refl, ap, sym, ◌∙◌}
 use Rattle.llsc_words.specs.Request.{asked, machine_by, Run}
 use Rattle.llsc_call.specs.Run.{told}
-use Rattle.llsc_call.proofs.Answering.{answered_for}
+use Rattle.llsc_files.proofs.Answering.{answered_for}
 use Rattle.llsc_call.proofs.Asked.{ends_one, ends_untold}
 use Rattle.llsc_call.proofs.commands.answer.Goals as goal
 

@@ -2,9 +2,8 @@ use Rattle.std.proofs.Common.{◌+◌, ap, refl, sym, subst, ◌∙◌, arith}
 use Rattle.llsc_host.specs.Host.{Adds, AddsFront}
 use Rattle.llsc_report.specs.Summary.{counter_line, counter_lines, counter_of}
 use Rattle.llsc_report.proofs.Counted.{counters_front, counters_more, no_lines}
-use Rattle.llsc_host.proofs.Fronts.{adds_both, front_more, owed}
+use Rattle.llsc_host.proofs.Fronts.{adds_both, front_more, owed, adds_nothing}
 use Rattle.llsc_host.proofs.Kept.{reads_kept}
-use Rattle.llsc_host.proofs.Fronts.{adds_nothing}
 use Rattle.llsc_report.proofs.summary.write_counters.Goals as goal
 
 pub loop-index-init : goal.loop-index-init

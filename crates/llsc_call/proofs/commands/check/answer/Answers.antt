@@ -1,8 +1,8 @@
 use Rattle.std.proofs.Common.{◌≡◌, ◌∷◌, [], None, inl, inr, refl}
 use Rattle.llsc_host.specs.Host.{AreBytes}
-use Rattle.llsc_call.specs.Refusals.{most_program, too_long}
+use Rattle.llsc_files.specs.Refusals.{most_program, too_long}
 use Rattle.llsc_call.specs.Check.{most_record}
-use Rattle.llsc_call.proofs.Answering.{answered_for, are_held, ends_for, held_bytes}
+use Rattle.llsc_files.proofs.Answering.{answered_for, are_held, ends_for, held_bytes}
 use Rattle.llsc_call.proofs.CheckAnswers.{check_program_long, check_record_long, check_judged}
 use Rattle.llsc_call.proofs.commands.check.answer.Goals as goal
 

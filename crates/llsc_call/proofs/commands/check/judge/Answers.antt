@@ -1,6 +1,6 @@
 use Rattle.std.proofs.Common.{refl}
 use Rattle.llsc_call.specs.Check.{verdict_status, verdict_text}
-use Rattle.llsc_call.proofs.Answering.{answered_one}
+use Rattle.llsc_files.proofs.Answering.{answered_one}
 use Rattle.llsc_call.proofs.CheckAnswers.{verdict_done}
 use Rattle.llsc_call.proofs.commands.check.judge.Goals as goal
 

@@ -1,8 +1,8 @@
 use Rattle.llsc_words.specs.Request.{machine_by}
-use Rattle.llsc_call.specs.Refusals.{machine_of}
-use Rattle.llsc_call.proofs.Answering.{answered_as}
+use Rattle.llsc_files.specs.Refusals.{machine_of}
+use Rattle.llsc_files.proofs.Answering.{answered_as}
 use Rattle.llsc_call.proofs.CheckAnswers.{run_unsized, run_refused, run_judged}
-use Rattle.llsc_call.proofs.Machines.{refused_on, sized_on}
+use Rattle.llsc_files.proofs.Machines.{refused_on, sized_on}
 use Rattle.llsc_call.proofs.commands.check.judge_file.Goals as goal
 
 pub returns-in-Err-clause-answered : goal.returns-in-Err-clause-answered

@@ -1,8 +1,8 @@
 use Rattle.std.proofs.Common.{inl, inr, sym, subst, refl}
-use Rattle.llsc_report.specs.Said.{refusal_text}
+use Rattle.llsc_host.specs.Said.{refusal_text}
 use Rattle.llsc_call.specs.Check.{record_fault_text, JudgesRead}
-use Rattle.llsc_call.specs.Reads.{Answered}
-use Rattle.llsc_call.proofs.Answering.{answered_one, answered_wanting}
+use Rattle.llsc_files.specs.Reads.{Answered}
+use Rattle.llsc_files.proofs.Answering.{answered_one, answered_wanting}
 use Rattle.llsc_call.proofs.commands.check.respond.Goals as goal
 
 pub returns-in-Ok-clause-answered : goal.returns-in-Ok-clause-answered

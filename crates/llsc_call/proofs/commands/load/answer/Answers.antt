@@ -1,6 +1,6 @@
 use Rattle.std.proofs.Common.{Some}
 use Rattle.version_memory.specs.Memory.{story_history}
-use Rattle.llsc_call.proofs.Answering.{answered_as}
+use Rattle.llsc_files.proofs.Answering.{answered_as}
 use Rattle.llsc_call.proofs.LoadAnswers.{load_ran}
 use Rattle.llsc_call.proofs.commands.load.answer.Goals as goal
 

@@ -2,7 +2,7 @@ use Rattle.std.proofs.Common.{◌≡◌, ◌∙◌, inl, inr, ap, sym, refl, ari
 use Rattle.version_memory.specs.Memory.{story_history}
 use Rattle.llsc_report.specs.Summary.{counter_of, summary_by}
 use Rattle.llsc_report.specs.Status.{status_of_all}
-use Rattle.llsc_call.proofs.Answering.{answered_one}
+use Rattle.llsc_files.proofs.Answering.{answered_one}
 use Rattle.llsc_call.proofs.LoadAnswers.{loaded_all}
 use Rattle.llsc_call.proofs.commands.load.tell.Goals as goal
 

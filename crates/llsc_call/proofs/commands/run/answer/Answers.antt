@@ -1,7 +1,7 @@
 use Rattle.std.proofs.Common.{◌≡◌, None, ap}
 use Rattle.llsc_words.specs.Request.{machine_by}
 use Rattle.llsc_call.specs.Run.{told}
-use Rattle.llsc_call.proofs.Answering.{answered_for, ends_as}
+use Rattle.llsc_files.proofs.Answering.{answered_for, ends_as}
 use Rattle.llsc_call.proofs.RunAnswers.{run_ran, run_refused}
 use Rattle.llsc_call.proofs.commands.run.answer.Goals as goal
 

@@ -1,7 +1,7 @@
 use Rattle.version_memory.specs.Memory.{story_history}
 use Rattle.llsc_report.specs.Report.{report_of}
 use Rattle.llsc_report.specs.Status.{status_of_all}
-use Rattle.llsc_call.proofs.Answering.{answered_one}
+use Rattle.llsc_files.proofs.Answering.{answered_one}
 use Rattle.llsc_call.proofs.RunAnswers.{reported}
 use Rattle.llsc_call.proofs.TraceAnswers.{trace_done}
 use Rattle.llsc_call.proofs.commands.run.run.Goals as goal

@@ -1,8 +1,8 @@
 use Rattle.std.proofs.Common.{◌∙◌}
 use Rattle.llsc_words.specs.Request.{machine_by}
-use Rattle.llsc_call.specs.Refusals.{solo_size}
-use Rattle.llsc_call.proofs.Answering.{ends_as}
-use Rattle.llsc_call.proofs.Machines.{ends_on, loaded_on}
+use Rattle.llsc_files.specs.Refusals.{solo_size}
+use Rattle.llsc_files.proofs.Answering.{ends_as}
+use Rattle.llsc_files.proofs.Machines.{ends_on, loaded_on}
 use Rattle.llsc_call.proofs.SoloAnswers.{ends_run, solo_refused}
 use Rattle.llsc_call.proofs.commands.solo.answer.Goals as goal
 

@@ -1,8 +1,8 @@
 use Rattle.std.proofs.Common.{◌∙◌}
 use Rattle.llsc_words.specs.Request.{machine_by}
-use Rattle.llsc_call.specs.Refusals.{machine_of}
-use Rattle.llsc_call.proofs.Answering.{answered_for, ends_as}
-use Rattle.llsc_call.proofs.Machines.{ends_on, loaded_on}
+use Rattle.llsc_files.specs.Refusals.{machine_of}
+use Rattle.llsc_files.proofs.Answering.{answered_for, ends_as}
+use Rattle.llsc_files.proofs.Machines.{ends_on, loaded_on}
 use Rattle.llsc_call.proofs.TraceAnswers.{trace_refused, trace_traced}
 use Rattle.llsc_call.proofs.commands.trace.answer.Goals as goal
 

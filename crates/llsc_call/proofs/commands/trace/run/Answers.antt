@@ -1,8 +1,8 @@
 use Rattle.std.proofs.Common.{inl, inr, refl, codes}
 use Rattle.run_record.specs.Text.{record_text}
-use Rattle.llsc_report.specs.Said.{refusal_text}
+use Rattle.llsc_host.specs.Said.{refusal_text}
 use Rattle.llsc_report.specs.Status.{status_of_all}
-use Rattle.llsc_call.proofs.Answering.{answered_one, answered_wanting}
+use Rattle.llsc_files.proofs.Answering.{answered_one, answered_wanting}
 use Rattle.llsc_call.proofs.TraceAnswers.{trace_done}
 use Rattle.llsc_call.proofs.commands.trace.run.Goals as goal
 

@@ -1,5 +1,5 @@
 use Rattle.llsc_words.specs.declared.formats.Format.TheVariants.{Elf}
-use Rattle.llsc_call.proofs.Images.{image_sized}
+use Rattle.llsc_files.proofs.Images.{image_sized}
 use Rattle.llsc_trials.proofs.tests.hostile_guests.loaded.Goals as goal
 
 pub returns-in-Ok : goal.returns-in-Ok

@@ -1,0 +1,4 @@
+pub mod AsmAnswers
+pub mod CodeBytes
+pub mod DisAnswers
+pub mod Paging
