@@ -18,7 +18,7 @@ use Rattle.a32_step.proofs.Carrying.{carried_by_all, carried_short, given_same, 
 use Rattle.a32_step.specs.Ports.{IsAskIn}
 use Rattle.a32_step.specs.Words.{AreWords}
 use Rattle.a32_step.proofs.Blocks.{ask_sound}
-use Rattle.a32_step.proofs.Lists.{highest, at_end, at_listed, at_unlisted, from_lowest}
+use Rattle.a32_compute.proofs.Lists.{highest, at_end, at_listed, at_unlisted, from_lowest}
 use Rattle.a32_step.proofs.Placed.{passed_placed}
 use Rattle.a32_step.proofs.Instructions.{register_fits}
 

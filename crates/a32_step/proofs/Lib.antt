@@ -1,7 +1,5 @@
-pub mod Amounts
 pub mod Follows
 pub mod Words
-pub mod Lists
 pub mod Effects
 pub mod Blocks
 pub mod Instructions

@@ -4,7 +4,7 @@ ghost use Rattle.a32_instr.specs.Effect.{condition_of};
 ghost use Rattle.a32_step.specs.Known.{IsKnown};
 ghost use Rattle.a32_step.specs.Machine.{instr_at};
 
-use crate::conditions::condition;
+use a32_compute::conditions::condition;
 use a32_decode::decode;
 use a32_instr::{Cond, Instr};
 use llsc_base::Image;

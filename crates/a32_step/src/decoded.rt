@@ -6,7 +6,7 @@ ghost use Rattle.a32_step.specs.Machine.{instr_at};
 ghost use Rattle.a32_instr.specs.Effect.{condition_of};
 ghost use Rattle.a32_instr.specs.Table.{meaning, table};
 
-use crate::conditions::condition;
+use a32_compute::conditions::condition;
 use a32_decode::decode;
 use a32_instr::{Cond, DecodeFault, Instr};
 use llsc_base::Image;

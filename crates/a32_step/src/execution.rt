@@ -9,9 +9,9 @@ ghost use Rattle.a32_step.specs.ExecutionState.{Between, Inside, Awaiting, Calli
 ghost use Rattle.a32_step.specs.Inside.{stage_held};
 ghost use Rattle.a32_step.specs.Machine.{wanted_of};
 
-use crate::conditions::passes;
 use crate::phases::{Hold, Point, Progress, Wanted};
 use crate::replies::Replies;
+use a32_compute::conditions::passes;
 use a32_instr::{Ask, CallAsk, Cond, Flags, Instr, Reg, Stop};
 use llsc_base::Image;
 use std::marker::Model;

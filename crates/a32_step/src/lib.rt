@@ -9,21 +9,14 @@
 //! accesses, and over [`Code`], which knows the instructions of one image that were met.
 #![tactic(auto)]
 
-mod arithmetic;
 mod code;
-mod conditions;
 mod cpu;
 mod decoded;
 mod execution;
 pub mod laws;
-mod operands;
-mod parts;
 mod phases;
 mod ports;
-mod products;
-mod registers;
 mod replies;
-mod shifts;
 
 pub use a32_instr::{Ask, CallAsk, Flags, Stop};
 pub use code::Code;

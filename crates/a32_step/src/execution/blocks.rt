@@ -11,11 +11,11 @@ ghost use Rattle.a32_step.specs.Passages.{IsCarried, IsGiven, word_ask};
 
 use super::Execution;
 use super::load_store::barred;
-use crate::operands::moved;
-use crate::parts::low_word;
 use crate::phases::{Passage, Progress};
 use crate::ports::Port;
-use crate::registers::{count_of, is_listed, listed, lowest_address};
+use a32_compute::operands::moved;
+use a32_compute::parts::low_word;
+use a32_compute::registers::{count_of, is_listed, listed, lowest_address};
 use a32_instr::{Ask, Instr, Reg};
 use llsc_base::{Image, Place, Size};
 
@@ -61,7 +61,7 @@ impl Execution {
     }
 
     /// Each listed register gets its reply.
-    #[tactic(auto, using(crate::proofs::Lists::from_lowest, crate::proofs::Lists::at_unlisted, crate::proofs::Lists::loaded_all, crate::proofs::Lists::loaded_next, crate::proofs::Lists::at_listed))]
+    #[tactic(auto, using(a32_compute::proofs::Lists::from_lowest, a32_compute::proofs::Lists::at_unlisted, a32_compute::proofs::Lists::loaded_all, a32_compute::proofs::Lists::loaded_next, a32_compute::proofs::Lists::at_listed))]
     fn set_listed(&mut self, list: u16)
         requires { count_of list ≤ length self.old.replies }
         ensures { self.new ≡ record self.old { state = with_block list self.old.replies self.old.state } }
@@ -78,7 +78,7 @@ impl Execution {
     }
 
     /// A block is loaded: the base moves, and then the registers get their words.
-    #[tactic(auto, using(crate::proofs::Lists::pc_counts))]
+    #[tactic(auto, using(a32_compute::proofs::Lists::pc_counts))]
     fn finish_block(&mut self, transfer: Transfer, count: u32) -> Progress
         requires count { count ≡ count_of transfer.list }
         requires most { count ≤ 16 }

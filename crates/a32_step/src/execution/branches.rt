@@ -9,8 +9,8 @@ ghost use Rattle.a32_step.specs.Classes.{instr_class, branch_or_call};
 ghost use Rattle.a32_step.specs.ExecutionState.{moves};
 
 use super::Execution;
-use crate::operands::branch_target;
 use crate::phases::{Hold, Point, Progress};
+use a32_compute::operands::branch_target;
 use a32_instr::{CallAsk, Instr, Reg};
 
 impl Execution {

@@ -8,9 +8,9 @@ ghost use Rattle.a32_step.specs.Classes.{instr_class, data_processing};
 ghost use Rattle.a32_step.specs.ExecutionState.{moves};
 
 use super::Execution;
-use crate::arithmetic::{compute, value_of};
 use crate::phases::Progress;
-use crate::shifts::{immediate, shift, shift_by_number};
+use a32_compute::arithmetic::{compute, value_of};
+use a32_compute::shifts::{immediate, shift, shift_by_number};
 use a32_instr::{AluOp, Instr, Operand2, Reg, Shifted};
 
 impl Execution {

@@ -10,9 +10,9 @@ ghost use Rattle.a32_step.specs.Passages.{IsCarried};
 
 use super::Execution;
 use super::passages::reply_of;
-use crate::parts::{loaded_part, low_word};
 use crate::phases::{Passage, Progress};
 use crate::ports::Port;
+use a32_compute::parts::{loaded_part, low_word};
 use a32_instr::{Ask, Instr, Reg};
 use llsc_base::{Image, Place, Size};
 

@@ -12,13 +12,13 @@ ghost use Rattle.a32_step.specs.Passages.{IsCarried};
 
 use super::Execution;
 use super::passages::reply_of;
-use crate::operands::{
-    accessed_address, half_stored, is_added, moved, part_stored, size_of_access, size_of_half,
-};
-use crate::parts::{loaded_half, loaded_word};
 use crate::phases::{Passage, Progress};
 use crate::ports::Port;
-use crate::shifts::shift_by_number;
+use a32_compute::operands::{
+    accessed_address, half_stored, is_added, moved, part_stored, size_of_access, size_of_half,
+};
+use a32_compute::parts::{loaded_half, loaded_word};
+use a32_compute::shifts::shift_by_number;
 use a32_instr::{Ask, HalfKind, Index, Instr, Offset, Reg, Stop};
 use llsc_base::{Bar, Image, Place, Size};
 

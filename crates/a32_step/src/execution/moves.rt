@@ -5,9 +5,9 @@ ghost use Rattle.a32_step.specs.Progress.{progress_of};
 ghost use Rattle.a32_step.specs.ExecutionState.{moves};
 
 use super::Execution;
-use crate::parts::{extend, reverse, with_upper_half};
 use crate::phases::Progress;
-use crate::shifts::rotate_right;
+use a32_compute::parts::{extend, reverse, with_upper_half};
+use a32_compute::shifts::rotate_right;
 use a32_instr::{Instr, Reg};
 
 impl Execution {

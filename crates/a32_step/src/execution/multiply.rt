@@ -8,10 +8,10 @@ ghost use Rattle.a32_step.specs.Classes.{instr_class, multiplication};
 ghost use Rattle.a32_step.specs.ExecutionState.{moves};
 
 use super::Execution;
-use crate::parts::low_word;
 use crate::phases::Progress;
-use crate::products::{minus_product, product, product_plus, wide};
-use crate::shifts::is_negative;
+use a32_compute::parts::low_word;
+use a32_compute::products::{minus_product, product, product_plus, wide};
+use a32_compute::shifts::is_negative;
 use a32_instr::{Flags, Instr, LongKind, Reg};
 
 /// The flags of a product.

@@ -1,10 +1,10 @@
 -- Shifts by each amount.
-use Rattle.std.proofs.Common.{◌≡◌, ◌<◌, ◌≤◌, ◌*◌, ◌^◌, ◌-◌, ℕ, suc, ◌+◌, ◌/◌, ◌%◌, arith, refl, ◌∙◌, sym, ap, mul_assoc, pow_mono, lt_of_lt_of_le, pos, negsuc, if◌then◌else◌, true, false, ⊎_elim, lt-ltb, le-ltb, le-leb}
+use Rattle.std.proofs.Common.{◌≡◌, ◌<◌, ◌≤◌, ◌*◌, ◌^◌, ◌-◌, ℕ, suc, ◌+◌, ◌/◌, ◌%◌, arith, refl, ◌∙◌, sym, ap, mul_assoc, pow_mono, lt_of_lt_of_le, pos, negsuc, if◌then◌else◌, true, false, ⊎_elim, le-leb}
 use Rattle.std.proofs.lemmas.Nat.{pow-add, shl_whole, shl-shr}
 use Rattle.std.proofs.Math.Nat.{mul-mod_left, div-eq_of_lt}
 use Rattle.std.proofs.lemmas.Bool.{cases_lt, lt-leb}
-use Rattle.a32_instr.specs.Sum.{signed}
 use Rattle.a32_instr.specs.Shift.{top_bit, floor_by, shifted_right, shifted_signed}
+use Rattle.a32_compute.proofs.Signed.{signed_low, signed_high}
 
 -- a shift left by at most 32 fits 64 bits
 pub left_wide : (x amount : ℕ) → x < 2 ^ 32 → amount ≤ 32 → x * 2 ^ amount % 2 ^ 64 ≡ x * 2 ^ amount
@@ -38,12 +38,6 @@ gone x k small far =
 pub right_none : (x amount : ℕ) → x < 2 ^ 32 → 32 < amount → shifted_right x amount ≡ record { value = 0; carry = false }
 unfolding shifted_right
 right_none x amount small far = rw (gone x amount small (omega arith), gone x (amount - 1) small (omega arith)) refl
-
-signed_low : (x : ℕ) → x < 2 ^ 31 → signed x ≡ pos x
-signed_low x low = rw (lt-ltb x (2 ^ 31) low) refl
-
-signed_high : (x : ℕ) → x < 2 ^ 32 → 2 ^ 31 ≤ x → signed x ≡ negsuc (2 ^ 32 - suc x)
-signed_high x small high = rw (le-ltb x (2 ^ 31) high, lt-ltb x (2 ^ 32) small) refl
 
 floor_low : (x k : ℕ) → x < 2 ^ 31 → 32 ≤ k → floor_by x k ≡ pos 0
 floor_low x k low far = rw (signed_low x low) (ap pos (gone x k (omega arith) far))

@@ -1,8 +1,8 @@
 -- The register of the number stands among those that are left.
 use Rattle.std.proofs.Common.{◌≡◌, ◌<◌, ◌≤◌, ◌-◌, slice_index, length}
 use Rattle.a32_instr.specs.Block.{registers_of}
-use Rattle.a32_step.proofs.Lists.{highest}
-use Rattle.a32_step.proofs.registers.listed.Given as goal
+use Rattle.a32_compute.proofs.Lists.{highest}
+use Rattle.a32_compute.proofs.registers.listed.Given as goal
 
 abbrev pub invariant-loop-r : goal.invariant-loop-r
 invariant-loop-r l =
