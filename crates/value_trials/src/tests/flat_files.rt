@@ -11,90 +11,112 @@ fn image(alloc: Global) -> Result<Image, Fail> {
     Ok(Image::flat(alloc, &EXIT, &size)?)
 }
 
+/// Addresses with the words that may be run there.
+const WORDS: [(u32, Option<u32>); 4] = [
+    (0x1000, Some(0xe3a0_0000)),
+    (0x1008, Some(0xef00_0000)),
+    (0x100c, None),
+    (0, None),
+];
+
+/// Whether what may be run at an address is this word.
+fn is_word(image: &Image, addr: u32, word: Option<u32>) -> bool {
+    addr % 4 == 0 && image.fetch(addr) == word
+}
+
 #[test]
 fn words(rt: HostRuntime) -> Result<(), Fail> {
     let image = image(rt.alloc())?;
     assert_eq!(rt; image.entry(), 0x1000);
     assert_eq!(rt; image.bytes().len(), 1_048_576);
-    let cases = [
-        (0x1000, Some(0xe3a0_0000)),
-        (0x1008, Some(0xef00_0000)),
-        (0x100c, None),
-        (0, None),
-    ];
-    for (addr, word) in cases {
-        assert_eq!(rt; image.fetch(addr), word, "at {addr}");
+    for &(addr, word) in &WORDS {
+        assert!(rt; is_word(&image, addr, word), "at {addr}");
     }
     assert_eq!(rt; image.byte(0x1003), 0xe3);
     Ok(())
 }
 
+/// An address and a size, whether it is a store, and what stands against it.
+const BARS: [(u32, Size, bool, Option<Bar>); 6] = [
+    (0x1001, Size::B4, false, Some(Bar::Alignment)),
+    (0x10_0000, Size::B4, false, Some(Bar::Outside)),
+    (0x1000, Size::B4, true, Some(Bar::ReadOnly)),
+    (0x1000, Size::B4, false, None),
+    (0xffc, Size::B4, true, None),
+    (0x1008, Size::B8, true, Some(Bar::ReadOnly)),
+];
+
 #[test]
 fn bars(rt: HostRuntime) -> Result<(), Fail> {
     let image = image(rt.alloc())?;
-    let cases = [
-        (0x1001, Size::B4, false, Some(Bar::Alignment)),
-        (0x10_0000, Size::B4, false, Some(Bar::Outside)),
-        (0x1000, Size::B4, true, Some(Bar::ReadOnly)),
-        (0x1000, Size::B4, false, None),
-        (0xffc, Size::B4, true, None),
-        (0x1008, Size::B8, true, Some(Bar::ReadOnly)),
-    ];
-    for (addr, size, store, bar) in cases {
-        assert_eq!(rt; image.test(Place { addr, size }, store), bar, "at {addr}");
+    for &(addr, size, store, bar) in &BARS {
+        assert!(rt; image.test(Place { addr, size }, store) == bar, "at {addr}");
     }
     Ok(())
 }
 
-/// A word that may not be accessed, if there is one, of its address and what stands against it.
-fn word_of(barred: Option<(u32, Bar)>) -> Option<BarredWord> {
-    let (addr, bar) = barred?;
-    Some(BarredWord { addr, bar })
+/// An address, how many words are accessed from there on, whether they are stored, and the first word that is barred.
+const BLOCKS: [(u32, u32, bool, Option<(u32, Bar)>); 13] = [
+    (0x2000, 4, true, None),
+    (0x100c, 16, true, None),
+    (0xff8, 4, false, None),
+    (0xff8, 2, true, None),
+    (0xff8, 4, true, Some((0x1000, Bar::ReadOnly))),
+    (0x1004, 4, true, Some((0x1004, Bar::ReadOnly))),
+    (0xf_fff0, 4, true, None),
+    (0xf_fff4, 4, true, Some((0x10_0000, Bar::Outside))),
+    (0x2002, 4, false, Some((0x2002, Bar::Alignment))),
+    (0xffff_fff8, 4, false, Some((0xffff_fff8, Bar::Outside))),
+    (0xffc, 1, true, None),
+    (0x1000, 1, true, Some((0x1000, Bar::ReadOnly))),
+    (0x2001, 0, true, None),
+];
+
+/// Whether the first word that is barred, of at most 16, is this one.
+fn is_first_barred(
+    image: &Image,
+    addr: u32,
+    count: u32,
+    store: bool,
+    barred: Option<(u32, Bar)>,
+) -> bool {
+    if count > 16 {
+        return false;
+    }
+    match (image.test_words(addr, count, store), barred) {
+        (None, None) => true,
+        (Some(found), Some((addr, bar))) => found == BarredWord { addr, bar },
+        _ => false,
+    }
 }
 
 #[test]
 fn blocks(rt: HostRuntime) -> Result<(), Fail> {
     let image = image(rt.alloc())?;
-    let cases = [
-        (0x2000, 4, true, None),
-        (0x100c, 16, true, None),
-        (0xff8, 4, false, None),
-        (0xff8, 2, true, None),
-        (0xff8, 4, true, Some((0x1000, Bar::ReadOnly))),
-        (0x1004, 4, true, Some((0x1004, Bar::ReadOnly))),
-        (0xf_fff0, 4, true, None),
-        (0xf_fff4, 4, true, Some((0x10_0000, Bar::Outside))),
-        (0x2002, 4, false, Some((0x2002, Bar::Alignment))),
-        (0xffff_fff8, 4, false, Some((0xffff_fff8, Bar::Outside))),
-        (0xffc, 1, true, None),
-        (0x1000, 1, true, Some((0x1000, Bar::ReadOnly))),
-        (0x2001, 0, true, None),
-    ];
-    for (addr, count, store, barred) in cases {
-        assert!(rt; count <= 16);
-        let wanted = word_of(barred);
-        assert_eq!(rt; image.test_words(addr, count, store), wanted, "from {addr}");
+    for &(addr, count, store, barred) in &BLOCKS {
+        assert!(rt;
+            is_first_barred(&image, addr, count, store, barred),
+            "from {addr}"
+        );
     }
     Ok(())
 }
 
+/// Files with what stands against them on a machine of 65,536 bytes and 14 threads.
+const FAULTS: [(&[u8], Option<FlatFault>); 4] = [
+    (&[], Some(FlatFault::Length)),
+    (&ELF_MAGIC, Some(FlatFault::Elf)),
+    (&[1; 4100], Some(FlatFault::TooLong)),
+    (&[1; 4096], None),
+];
+
 #[test]
 fn faults(rt: HostRuntime) -> Result<(), Fail> {
     let size = MachineSize::new(65_536, 14, 1, 1)?;
-    let long = [1; 4100];
-    assert_eq!(rt;
-        Image::flat(rt.alloc(), &[], &size).err(),
-        Some(FlatFault::Length)
-    );
-    assert_eq!(rt;
-        Image::flat(rt.alloc(), &ELF_MAGIC, &size).err(),
-        Some(FlatFault::Elf)
-    );
-    assert_eq!(rt;
-        Image::flat(rt.alloc(), &long, &size).err(),
-        Some(FlatFault::TooLong)
-    );
-    assert_eq!(rt; Image::flat(rt.alloc(), &long[..4096], &size).err(), None);
+    for &(file, fault) in &FAULTS {
+        let found = Image::flat(rt.alloc(), file, &size).err();
+        assert!(rt; found == fault, "of {} bytes", file.len());
+    }
     assert_eq!(rt; FlatFault::TooLong.name(), "TooLong");
     Ok(())
 }

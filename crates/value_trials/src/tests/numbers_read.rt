@@ -2,18 +2,20 @@
 use llsc_base::Line;
 use number_text::{long_number, word_number, write_long};
 
+/// Texts with the numbers of 32 bits that they stand for.
+const WORDS: [(&str, Option<u32>); 6] = [
+    ("00c0ffee", Some(0x00c0_ffee)),
+    ("ffffffff", Some(0xffff_ffff)),
+    ("00C0ffee", None),
+    ("0c0ffee", None),
+    ("000c0ffee", None),
+    ("00c0ffeg", None),
+];
+
 #[test]
 fn reads_words(rt: HostRuntime) {
-    let cases = [
-        ("00c0ffee", Some(0x00c0_ffee)),
-        ("ffffffff", Some(0xffff_ffff)),
-        ("00C0ffee", None),
-        ("0c0ffee", None),
-        ("000c0ffee", None),
-        ("00c0ffeg", None),
-    ];
-    for (text, number) in cases {
-        assert_eq!(rt; word_number(text.as_bytes()), number, "{text}");
+    for &(text, number) in &WORDS {
+        assert!(rt; word_number(text.as_bytes()) == number, "{text}");
     }
 }
 
