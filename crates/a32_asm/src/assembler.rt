@@ -97,6 +97,3 @@ pub fn assemble(alloc: Global, text: &str) -> Result<Unit, AsmFault>
     };
     assemble_lines(alloc, text, &layout)
 }
-
-#[cfg(test)]
-mod tests;

@@ -27,6 +27,3 @@ pub fn disassemble(word: u32, addr: u32, out: &mut Line)
         }
     }
 }
-
-#[cfg(test)]
-mod tests;

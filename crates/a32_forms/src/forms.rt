@@ -199,6 +199,3 @@ pub fn chosen<'a>(forms: &[u8], text: &'a [u8]) -> Option<Chosen<'a>>
         form += 1;
     }
 }
-
-#[cfg(test)]
-mod tests;

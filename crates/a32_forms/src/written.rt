@@ -78,6 +78,3 @@ pub fn write_form(line: &mut Line, form: &[u8], numbers: &[u64])
         at += 1;
     }
 }
-
-#[cfg(test)]
-mod tests;

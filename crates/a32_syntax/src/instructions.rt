@@ -106,6 +106,3 @@ pub fn instruction_of<L: Labels>(
     };
     means(mnemonic, here, labels, &found)
 }
-
-#[cfg(test)]
-mod tests;

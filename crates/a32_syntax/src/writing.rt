@@ -105,6 +105,3 @@ pub fn write_instruction(instruction: &Instr, here: u32, line: &mut Line)
     write_mnemonic(line, mnemonic);
     write_operands(line, form, shown.numbers());
 }
-
-#[cfg(test)]
-mod tests;

@@ -84,28 +84,3 @@ pub struct Unit {
     pub bytes: Bytes,
     pub space: u32,
 }
-
-#[cfg(test)]
-mod tests {
-    use super::*;
-    use std::test::Fail;
-
-    #[test]
-    fn keeps_its_parts(rt: HostRuntime) -> Result<(), Fail> {
-        let mut words = Vec::new(rt.alloc());
-        words.push(0xe320_f000)?;
-        let mut bytes = Vec::new(rt.alloc());
-        bytes.push(7)?;
-        let unit = Unit {
-            words: Words::new(words),
-            bytes: Bytes::new(bytes),
-            space: 4,
-        };
-        assert_eq!(rt; unit.words.as_slice()[0], 0xe320_f000);
-        assert_eq!(rt; unit.bytes.as_slice()[0], 7);
-        assert_eq!(rt; unit.space, 4);
-        assert_eq!(rt; unit.words.into_vec()[0], 0xe320_f000);
-        assert_eq!(rt; unit.bytes.into_vec()[0], 7);
-        Ok(())
-    }
-}

@@ -1,8 +1,8 @@
-//! What is shown, against texts that were written by hand.
+//! Operands that are shown, against texts that were written by hand.
 ghost use Rattle.std.specs.Prelude.{◌≤◌, IsTrue};
 ghost use Rattle.a32_forms.specs.Fits.{fits_form, form_room};
 
-use crate::written::write_form;
+use a32_forms::write_form;
 use llsc_base::Line;
 
 /// Whether a form with these numbers is shown as this text.

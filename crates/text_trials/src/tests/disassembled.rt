@@ -1,5 +1,7 @@
-use super::*;
-use crate::assembler::assemble;
+//! Words that are shown as instructions, and read again.
+use a32_asm::{assemble, disassemble};
+use llsc_base::Line;
+use std::alloc::Global;
 
 /// Words with their texts at address 0x1000.
 const SHOWN: [(u32, &str); 26] = [
@@ -31,15 +33,25 @@ const SHOWN: [(u32, &str); 26] = [
     (0xe181_0f90, ".word 0xe1810f90"),
 ];
 
+/// Whether a word is shown as this text.
+fn is_shown(word: u32, text: &str) -> bool {
+    let mut line = Line::new();
+    disassemble(word, 0x1000, &mut line);
+    line.bytes() == text.as_bytes()
+}
+
+/// Whether a text is read as this word.
+fn is_read(alloc: Global, text: &str, word: u32) -> bool {
+    match assemble(alloc, text) {
+        Ok(unit) => unit.words.as_slice() == [word].as_slice(),
+        Err(_) => false,
+    }
+}
+
 #[test]
 fn words_are_shown_and_read_again(rt: HostRuntime) {
-    for (word, text) in SHOWN {
-        let mut line = Line::new();
-        disassemble(word, 0x1000, &mut line);
-        assert_eq!(rt; line.bytes(), text.as_bytes());
-        match assemble(rt.alloc(), text) {
-            Ok(unit) => assert_eq!(rt; unit.words.as_slice(), [word].as_slice()),
-            Err(_) => assert!(rt; false),
-        }
+    for &(word, text) in &SHOWN {
+        assert!(rt; is_shown(word, text), "{text}");
+        assert!(rt; is_read(rt.alloc(), text, word), "{text}");
     }
 }

@@ -1,0 +1,204 @@
+//! ELF files that are loaded, and files that have a fault.
+use elf32::{ElfFault, load};
+use llsc_base::{Bar, Image, MachineSize, Place, Size, SizeFault};
+use std::alloc::{AllocError, Global};
+use std::test::Fail;
+
+/// How many bytes the file below has.
+const LEN: usize = 212;
+
+/// Where its program headers end.
+const TABLE_END: usize = 180;
+
+/// A file as the GNU linker lays it out: an exception table, code, data with eight bytes behind it that
+/// are in memory alone, and the stack's flags.
+const HEADERS: [[u32; 8]; 4] = [
+    [0x7000_0001, 0, 0, 0, 0, 0, 4, 4],
+    [1, 0, 0x1_0000, 0x1_0000, 0xd0, 0xd0, 5, 0x1_0000],
+    [1, 0xd0, 0x2_00d0, 0x2_00d0, 4, 12, 6, 0x1_0000],
+    [0x6474_e551, 0, 0, 0, 0, 0, 6, 16],
+];
+
+/// The code, which adds two words of the data and exits with the sum, and the data's first word.
+const CONTENTS: [u32; 8] = [
+    0xe300_10d0,
+    0xe340_1002,
+    0xe591_2000,
+    0xe591_0004,
+    0xe080_0002,
+    0xe3a0_7001,
+    0xef00_0000,
+    3,
+];
+
+/// The machine that files are loaded for.
+fn size() -> Result<MachineSize, SizeFault> {
+    MachineSize::new(1_048_576, 1, 4096, 1 << 62)
+}
+
+fn push_halves(file: &mut Vec<u8>, halves: &[u16]) -> Result<(), AllocError> {
+    for half in halves {
+        file.extend_from_slice(&half.to_le_bytes())?;
+    }
+    Ok(())
+}
+
+fn push_words(file: &mut Vec<u8>, words: &[u32]) -> Result<(), AllocError> {
+    for word in words {
+        file.extend_from_slice(&word.to_le_bytes())?;
+    }
+    Ok(())
+}
+
+fn linked(alloc: Global) -> Result<Vec<u8>, AllocError> {
+    let mut file = Vec::new(alloc);
+    file.extend_from_slice(&[0x7f, b'E', b'L', b'F', 1, 1, 1, 0, 0, 0, 0, 0, 0, 0, 0, 0])?;
+    push_halves(&mut file, &[2, 40])?;
+    push_words(&mut file, &[1, 0x1_00b4, 52, 0, 0x0500_0200])?;
+    push_halves(&mut file, &[52, 32, 4, 40, 0, 0])?;
+    for header in &HEADERS {
+        push_words(&mut file, header)?;
+    }
+    push_words(&mut file, &CONTENTS)?;
+    Ok(file)
+}
+
+/// Addresses with the words that may be run there.
+const WORDS: [(u32, Option<u32>); 6] = [
+    (0x1_0000, Some(0x464c_457f)),
+    (0x1_00b4, Some(0xe300_10d0)),
+    (0x1_00cc, Some(0xef00_0000)),
+    (0x1_00d0, None),
+    (0xfffc, None),
+    (0x2_00d0, None),
+];
+
+/// Addresses with the bytes that stand there.
+const BYTES: [(u32, u8); 4] = [(0x1_00d0, 0), (0x2_00cf, 0), (0x2_00d0, 3), (0x2_00d4, 0)];
+
+/// Addresses with what stands against a store of a word there.
+const BARS: [(u32, Option<Bar>); 3] = [
+    (0x1_0000, Some(Bar::ReadOnly)),
+    (0x1_00d0, None),
+    (0x2_00d8, None),
+];
+
+/// Whether what may be run at an address is this word.
+fn is_word(image: &Image, addr: u32, word: Option<u32>) -> bool {
+    addr % 4 == 0 && image.fetch(addr) == word
+}
+
+/// Whether this byte stands at an address.
+fn is_byte(image: &Image, addr: u32, byte: u8) -> bool {
+    (addr as usize) < image.bytes().len() && image.byte(addr) == byte
+}
+
+/// Whether this stands against a store of a word at an address.
+fn is_barred(image: &Image, addr: u32, bar: Option<Bar>) -> bool {
+    let place = Place {
+        addr,
+        size: Size::B4,
+    };
+    image.test(place, true) == bar
+}
+
+#[test]
+fn a_linked_file(rt: HostRuntime) -> Result<(), Fail> {
+    let file = linked(rt.alloc())?;
+    assert_eq!(rt; file.len(), LEN);
+    let image = load(rt.alloc(), &file, &size()?)?;
+    assert_eq!(rt; image.entry(), 0x1_00b4);
+    assert_eq!(rt; image.bytes().len(), 1_048_576);
+    for &(addr, word) in &WORDS {
+        assert!(rt; is_word(&image, addr, word), "at {addr}");
+    }
+    for &(addr, byte) in &BYTES {
+        assert!(rt; is_byte(&image, addr, byte), "at {addr}");
+    }
+    for &(addr, bar) in &BARS {
+        assert!(rt; is_barred(&image, addr, bar), "at {addr}");
+    }
+    Ok(())
+}
+
+/// Where a file is changed, the bytes that are put there, and its fault then.
+const CHANGES: [(usize, &[u8], Option<ElfFault>); 26] = [
+    (0, &[0x7e], Some(ElfFault::Magic)),
+    (4, &[2], Some(ElfFault::Class)),
+    (5, &[2], Some(ElfFault::DataOrder)),
+    (16, &[3], Some(ElfFault::FileType)),
+    (18, &[62], Some(ElfFault::Machine)),
+    (42, &[40], Some(ElfFault::Headers)),
+    (44, &[0], Some(ElfFault::Headers)),
+    (44, &[65], Some(ElfFault::Headers)),
+    (28, &[85], Some(ElfFault::Headers)),
+    (148, &[2, 0, 0, 0], Some(ElfFault::Dynamic)),
+    (148, &[3, 0, 0, 0], Some(ElfFault::Dynamic)),
+    (108, &[7], Some(ElfFault::WritableCode)),
+    (108, &[4], Some(ElfFault::NoCode)),
+    (
+        124,
+        &[
+            0, 0xf0, 0xff, 0xff, 0, 0xf0, 0xff, 0xff, 4, 0, 0, 0, 0, 0x20,
+        ],
+        Some(ElfFault::SegmentBounds),
+    ),
+    (124, &[0xf5, 0xef, 0x0f], Some(ElfFault::SegmentBounds)),
+    (132, &[13], Some(ElfFault::FileBounds)),
+    (136, &[3], Some(ElfFault::FileBounds)),
+    (120, &[0xd1], Some(ElfFault::FileBounds)),
+    (124, &[0xc0, 0, 1], Some(ElfFault::Overlap)),
+    (124, &[0xcf, 0, 1], Some(ElfFault::Overlap)),
+    (24, &[0xb6], Some(ElfFault::Entry)),
+    (24, &[0xd0], Some(ElfFault::Entry)),
+    (24, &[0xb5], Some(ElfFault::ThumbEntry)),
+    (124, &[0xf4, 0xef, 0x0f], None),
+    (124, &[0xd0, 0, 1], None),
+    (24, &[0xcc], None),
+];
+
+/// Whether this is the fault of the file with such bytes put at a place in it.
+fn has_fault(
+    alloc: Global,
+    at: usize,
+    bytes: &[u8],
+    fault: Option<ElfFault>,
+) -> Result<bool, Fail> {
+    let mut file = linked(alloc)?;
+    if at >= file.len() || bytes.len() > file.len() - at {
+        return Ok(false);
+    }
+    file[at..at + bytes.len()].copy_from_slice(bytes);
+    Ok(load(alloc, &file, &size()?).err() == fault)
+}
+
+#[test]
+fn the_fault_of_each_change(rt: HostRuntime) -> Result<(), Fail> {
+    for &(at, bytes, fault) in &CHANGES {
+        assert!(rt; has_fault(rt.alloc(), at, bytes, fault)?, "at {at}");
+    }
+    Ok(())
+}
+
+/// The fault of the file's first so many bytes, which are fewer than all.
+fn fault_of_cut(len: usize) -> ElfFault {
+    if len < 52 {
+        ElfFault::Short
+    } else if len < TABLE_END {
+        ElfFault::Headers
+    } else {
+        ElfFault::FileBounds
+    }
+}
+
+#[test]
+fn every_cut_has_its_fault(rt: HostRuntime) -> Result<(), Fail> {
+    let file = linked(rt.alloc())?;
+    assert_eq!(rt; file.len(), LEN);
+    let size = size()?;
+    for len in 0..LEN {
+        let fault = load(rt.alloc(), &file[..len], &size).err();
+        assert!(rt; fault == Some(fault_of_cut(len)), "at {len}");
+    }
+    Ok(())
+}
