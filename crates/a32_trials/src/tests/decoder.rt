@@ -4,3 +4,26 @@ mod halves_and_blocks;
 mod manual;
 mod operations;
 mod refusals;
+
+use a32_decode::decode;
+use a32_instr::{DecodeFault, Instr};
+
+/// The first word that isn't decoded to what stands beside it.
+fn first_wrong(words: &[(u32, Result<Instr, DecodeFault>)]) -> Option<u32> {
+    for (word, want) in words {
+        if decode(*word) != *want {
+            return Some(*word);
+        }
+    }
+    None
+}
+
+/// The first word that isn't the instruction beside it.
+fn first_other(words: &[(u32, Instr)]) -> Option<u32> {
+    for (word, want) in words {
+        if decode(*word) != Ok(*want) {
+            return Some(*word);
+        }
+    }
+    None
+}

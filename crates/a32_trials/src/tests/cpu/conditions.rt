@@ -26,7 +26,7 @@ const CONDITIONS: [[u32; 2]; 15] = [
 /// At all flags that a core can have: N and Z are never set together.
 #[test]
 fn passes_conditions(rt: HostRuntime) -> Result<(), Fail> {
-    for [word, passing] in CONDITIONS {
+    for &[word, passing] in &CONDITIONS {
         let image = image_of(rt.alloc(), word)?;
         for flags in 0..12u32 {
             let mut cpu = core_with(rt.alloc(), regs_of(0, 0, 0, 0), flags)?;
@@ -69,7 +69,7 @@ fn passes(cond: u32, flags: Flags) -> bool
 /// The definition of conditions, at N and Z together too.
 #[test]
 fn defines_conditions(rt: HostRuntime) {
-    for [word, passing] in CONDITIONS {
+    for &[word, passing] in &CONDITIONS {
         for flags in 0..16u32 {
             assert_eq!(rt;
                 passes(word >> 28, flags_of(flags)),

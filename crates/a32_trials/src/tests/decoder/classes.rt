@@ -1,7 +1,7 @@
 //! Words of each class of instructions, as the GNU assembler encodes them.
 ghost use Rattle.std.specs.Prelude.{◌<◌};
 
-use a32_decode::decode;
+use super::first_other;
 use a32_instr::AluOp::{Add, Mov, Rsb};
 use a32_instr::ShiftKind::{Lsl, Lsr};
 use a32_instr::{
@@ -203,7 +203,5 @@ fn reads_words_of_each_class(rt: HostRuntime) {
         (0xF57FF01F, Instr::Clrex),
         (0xF57FF05F, dmb(15)),
     ];
-    for (word, want) in words {
-        assert_eq!(rt; decode(word), Ok(want), "at {word:#x}");
-    }
+    assert_eq!(rt; first_other(&words), None);
 }

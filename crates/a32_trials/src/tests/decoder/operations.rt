@@ -2,7 +2,8 @@
 //! A8.8).
 ghost use Rattle.std.specs.Prelude.{◌<◌};
 
-use a32_decode::{DecodeFault, decode};
+use super::first_wrong;
+use a32_decode::DecodeFault;
 use a32_instr::{AluOp, Cond, Instr, LongKind, Operand2, Reg, ShiftKind};
 
 fn r(num: u8) -> Reg
@@ -136,9 +137,7 @@ fn decodes_operands_that_are_immediates(rt: HostRuntime) {
         (0xE2603001, alu(14, AluOp::Rsb, false, 3, 0, imm(0, 1))),
         (0xE3130EFF, alu(14, AluOp::Tst, true, 0, 3, imm(14, 255))),
     ];
-    for (word, want) in words {
-        assert_eq!(rt; decode(word), want, "at {word:#x}");
-    }
+    assert_eq!(rt; first_wrong(&words), None);
 }
 
 #[test]
@@ -158,9 +157,7 @@ fn decodes_operands_that_are_registers(rt: HostRuntime) {
             alu(14, AluOp::Mov, false, 15, 0, by_num(14, ShiftKind::Lsl, 0)),
         ),
     ];
-    for (word, want) in words {
-        assert_eq!(rt; decode(word), want, "at {word:#x}");
-    }
+    assert_eq!(rt; first_wrong(&words), None);
 }
 
 #[test]
@@ -189,9 +186,7 @@ fn decodes_shifts_by_numbers(rt: HostRuntime) {
             alu(14, AluOp::Bic, true, 9, 10, by_num(11, ShiftKind::Asr, 0)),
         ),
     ];
-    for (word, want) in words {
-        assert_eq!(rt; decode(word), want, "at {word:#x}");
-    }
+    assert_eq!(rt; first_wrong(&words), None);
 }
 
 #[test]
@@ -215,9 +210,7 @@ fn decodes_shifts_by_registers(rt: HostRuntime) {
             alu(14, AluOp::Eor, false, 1, 2, by_reg(3, ShiftKind::Asr, 4)),
         ),
     ];
-    for (word, want) in words {
-        assert_eq!(rt; decode(word), want, "at {word:#x}");
-    }
+    assert_eq!(rt; first_wrong(&words), None);
 }
 
 #[test]
@@ -232,9 +225,7 @@ fn decodes_wide_moves_and_hints(rt: HostRuntime) {
         (0xE320F000, Ok(Instr::Nop { cond: Cond::ALWAYS })),
         (0x0320F001, Ok(Instr::Yield { cond: Cond::new(0) })),
     ];
-    for (word, want) in words {
-        assert_eq!(rt; decode(word), want, "at {word:#x}");
-    }
+    assert_eq!(rt; first_wrong(&words), None);
 }
 
 #[test]
@@ -256,9 +247,7 @@ fn decodes_products_of_32_bits(rt: HostRuntime) {
             }),
         ),
     ];
-    for (word, want) in words {
-        assert_eq!(rt; decode(word), want, "at {word:#x}");
-    }
+    assert_eq!(rt; first_wrong(&words), None);
 }
 
 #[test]
@@ -270,9 +259,7 @@ fn decodes_products_of_64_bits(rt: HostRuntime) {
         (0xE0C21493, long(14, LongKind::Smull, false)),
         (0xA0E21493, long(10, LongKind::Smlal, false)),
     ];
-    for (word, want) in words {
-        assert_eq!(rt; decode(word), want, "at {word:#x}");
-    }
+    assert_eq!(rt; first_wrong(&words), None);
 }
 
 #[test]
@@ -288,7 +275,5 @@ fn decodes_counts_reversals_and_extends(rt: HostRuntime) {
         (0xE6EF0471, extend(true, false, 0, 1, 1)),
         (0xE6FFEC7C, extend(true, true, 14, 12, 3)),
     ];
-    for (word, want) in words {
-        assert_eq!(rt; decode(word), want, "at {word:#x}");
-    }
+    assert_eq!(rt; first_wrong(&words), None);
 }
