@@ -101,6 +101,3 @@ fn write(cpu: &mut Cpu, ask: &CallAsk, mem: u32, out: &Output) -> CallStep
         len: ask.c,
     }
 }
-
-#[cfg(test)]
-mod tests;

@@ -91,6 +91,3 @@ fn imm4_imm12(half: u32) -> u32
 {
     65_536 * (half / 4096) + half % 4096
 }
-
-#[cfg(test)]
-mod tests;

@@ -1,7 +1,6 @@
 pub mod Deciding
 pub mod AllEnded
 pub mod Ending
-pub mod FlatImages
 pub mod OneEnd
 pub mod OneThread
 pub mod OneTrace

@@ -80,6 +80,3 @@ pub fn solo(
         out: guest.into_output(),
     })
 }
-
-#[cfg(test)]
-mod tests;

@@ -93,6 +93,3 @@ pub fn trace(
     };
     Ok(Traced { run, ends })
 }
-
-#[cfg(test)]
-mod tests;

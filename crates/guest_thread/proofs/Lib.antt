@@ -6,7 +6,6 @@ pub mod Printed
 pub mod Reached
 pub mod Refusing
 pub mod Leading
-pub mod Tested
 pub mod Kept
 pub mod Pushed
 pub mod Placed

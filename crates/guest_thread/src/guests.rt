@@ -327,6 +327,3 @@ fn byte_at(addr: u32) -> Ask
         size: Size::B1,
     })
 }
-
-#[cfg(test)]
-mod tests;

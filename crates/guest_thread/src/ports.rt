@@ -110,6 +110,3 @@ impl Guest {
         }
     }
 }
-
-#[cfg(test)]
-mod tests;

@@ -64,6 +64,3 @@ fn verdict_of(mut checker: Checker, image: &Image, budget: u64, accesses: &[Acce
     }
     Verdict::Good
 }
-
-#[cfg(test)]
-mod tests;

@@ -101,6 +101,3 @@ pub fn read_record(alloc: Global, bytes: &[u8]) -> Result<RunRecord, RecordFault
 {
     record_of(alloc, bytes)
 }
-
-#[cfg(test)]
-mod tests;

@@ -1,6 +1,6 @@
 //! One call at a time, at the edges of each rule.
-use super::*;
-use a32_step::Wanted;
+use a32_step::{CallAsk, Cpu, Wanted};
+use guest_calls::{CallStep, Output, guest_call};
 use llsc_base::{Image, MachineSize};
 use std::alloc::Global;
 use std::process::Abort;

@@ -1,6 +1,7 @@
 //! Texts, with what is read of them: the fault, or the same bytes printed again.
-use super::*;
-use crate::printing::print_record;
+use run_record::{RecordFault, print_record, read_record};
+use std::alloc::Global;
+use std::test::Fail;
 
 /// A record without accesses, whose other numbers are the most.
 const NO_ACCESS: &str = "llsc-run 1 threads 16 budget 1000000000000 accesses 0\n";
@@ -25,7 +26,7 @@ const WIDE_ROWS: &str = "llsc-run 2 threads 1 granule 1 budget 10000 accesses 2\
 const WIDEST_ROWS: &str = "llsc-run 2 threads 16 granule 8 budget 1000000000000 accesses 0\n";
 
 /// Texts, each with its fault.
-const FAULTS: [(&str, RecordFault); 48] = [
+const FAULTS: &[(&str, RecordFault)] = &[
     ("", RecordFault::Header),
     (
         "llsc-run 1 threads 1 budget 1 accesses 0",
@@ -220,32 +221,35 @@ const FAULTS: [(&str, RecordFault); 48] = [
 #[test]
 fn the_first_fault_is_named(rt: HostRuntime) {
     for (text, fault) in FAULTS {
-        match read_record(rt.alloc(), text.as_bytes()) {
-            Ok(_) => assert!(rt; false, "{text}"),
-            Err(found) => assert_eq!(rt; found, fault, "{text}"),
-        }
+        let found = read_record(rt.alloc(), text.as_bytes()).err();
+        assert_eq!(rt; found, Some(*fault), "{text}");
     }
 }
 
+/// Whether a text is that of a record with this granule number and so many accesses, which prints as the same text.
+fn prints_as_it_was(alloc: Global, text: &str, granule: u32, count: usize) -> Result<bool, Fail> {
+    let run = read_record(alloc, text.as_bytes())?;
+    let printed = print_record(alloc, &run)?;
+    Ok(
+        run.granule == granule
+            && run.accesses.as_slice().len() == count
+            && printed.as_slice() == text.as_bytes(),
+    )
+}
+
 #[test]
-fn records_are_printed_as_they_were_read(rt: HostRuntime) {
+fn records_are_printed_as_they_were_read(rt: HostRuntime) -> Result<(), Fail> {
     for (text, granule, count) in [
         (NO_ACCESS, 0, 0),
         (RUN, 0, 8),
         (WIDE_ROWS, 1, 2),
         (WIDEST_ROWS, 8, 0),
     ] {
-        match read_record(rt.alloc(), text.as_bytes()) {
-            Ok(run) => {
-                assert_eq!(rt; run.granule, granule);
-                assert_eq!(rt; run.accesses.as_slice().len(), count);
-                match print_record(rt.alloc(), &run) {
-                    Ok(printed) => assert_eq!(rt; printed.as_slice(), text.as_bytes()),
-                    Err(_) => assert!(rt; false),
-                }
-            }
-            Err(_) => assert!(rt; false),
-        }
+        assert!(rt;
+            prints_as_it_was(rt.alloc(), text, granule, count)?,
+            "{text}"
+        );
     }
     assert_eq!(rt; RecordFault::Thread(2).name(), "Thread");
+    Ok(())
 }

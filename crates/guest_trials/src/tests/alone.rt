@@ -1,6 +1,8 @@
 //! Runs of small programs.
-use super::*;
+use super::programs::image_of;
 use a32_step::Stop;
+use guest_machine::solo;
+use llsc_base::MachineSize;
 use std::test::Fail;
 
 /// Adds 7 at 0x2000 by a load-exclusive and a store-exclusive, stores there once more by another that fails, writes the
@@ -21,15 +23,10 @@ const COUNTS: &[u32] = &[
 ];
 
 #[test]
-#[tactic(auto, using(crate::proofs::FlatImages::flat_sized))]
 fn runs_one_thread(rt: HostRuntime) -> Result<(), Fail> {
     let alloc = rt.alloc();
-    let mut bytes = Vec::new(alloc);
-    for word in COUNTS {
-        bytes.extend_from_slice(&word.to_le_bytes())?;
-    }
     let size = MachineSize::new(65_536, 1, 1, 1)?;
-    let image = Image::flat(alloc, bytes.as_slice(), &size)?;
+    let image = image_of(alloc, COUNTS, &size)?;
     for (budget, stop, steps) in [(100, Stop::Exit(5), 12), (8, Stop::Budget, 8)] {
         let end = solo(alloc, &image, &size, budget)?;
         assert_eq!(rt; (end.thread, end.stop, end.steps), (0, stop, steps));

@@ -1,8 +1,11 @@
 //! A guest over memory that refuses each store.
 ghost use Rattle.std.specs.Prelude.{◌≡◌, IfSome};
 
-use super::*;
-use llsc_base::{Image, MachineSize};
+use super::programs::image_of;
+use a32_step::{Ask, Code, Port, Stop};
+use guest_thread::Guest;
+use llsc_base::MachineSize;
+use std::alloc::Global;
 use std::test::Fail;
 
 /// Memory of zeros, which refuses each store.
@@ -31,21 +34,20 @@ impl Port for Zeros {
 /// Loads the byte at r1, which is 1, and stores it there.
 const COPIES: &[u32] = &[0xe5d1_0000, 0xe5c1_0000];
 
+/// The stop and the steps of a guest that copies.
+fn ended(alloc: Global) -> Result<(Stop, u64), Fail> {
+    let size = MachineSize::new(65_536, 1, 1, 1)?;
+    let image = image_of(alloc, COPIES, &size)?;
+    let mut guest = Guest::start(alloc, &image, &size, 0)?;
+    let mut code = Code::new(alloc, &image)?;
+    let stop = guest.run(&mut code, 100, &mut Zeros);
+    Ok((stop, guest.steps()))
+}
+
 #[test]
 fn ends_where_a_store_is_refused(rt: HostRuntime) -> Result<(), Fail> {
-    let mut bytes = Vec::new(rt.alloc());
-    for word in COPIES {
-        bytes.extend_from_slice(&word.to_le_bytes())?;
-    }
-    let size = MachineSize::new(65_536, 1, 1, 1)?;
-    let image = Image::flat(rt.alloc(), bytes.as_slice(), &size)?;
-    if image.bytes().len() != 65_536 {
-        return Err(Fail::from("the image is longer than memory"));
-    }
-    let mut guest = Guest::start(rt.alloc(), &image, &size, 0)?;
-    let mut code = Code::new(rt.alloc(), &image)?;
-    let stop = guest.run(&mut code, 100, &mut Zeros);
+    let (stop, steps) = ended(rt.alloc())?;
     assert_eq!(rt; stop, Stop::TagLimit(1));
-    assert_eq!(rt; guest.steps(), 1);
+    assert_eq!(rt; steps, 1);
     Ok(())
 }

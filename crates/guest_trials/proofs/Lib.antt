@@ -1,0 +1,2 @@
+mod ByteReplies
+mod FlatImages

@@ -1,0 +1,149 @@
+//! Traces of small programs by the number 0.
+ghost use Rattle.std.specs.Prelude.{◌≤◌};
+
+use super::programs::image_of;
+use a32_step::Stop;
+use guest_machine::{TraceFault, Traced, trace};
+use guest_thread::GuestEnd;
+use history::{Access, Deed};
+use llsc_base::{MachineSize, Place, Size};
+use std::alloc::Global;
+use std::test::Fail;
+
+/// Stores its number at 0x2000, loads it from there, and leaves with 0.
+const STORES: &[u32] = &[
+    0xe3a0_2a02,
+    0xe582_0000,
+    0xe592_1000,
+    0xe3a0_0000,
+    0xe3a0_7001,
+    0xef00_0000,
+];
+
+/// Adds 7 at 0x2000 by a load-exclusive and a store-exclusive, and leaves with 1 if that failed.
+const ADDS: &[u32] = &[
+    0xe3a0_1a02,
+    0xe191_0f9f,
+    0xe280_0007,
+    0xe181_2f90,
+    0xe1a0_0002,
+    0xe3a0_7001,
+    0xef00_0000,
+];
+
+/// The same with CLREX in place of the sum.
+const CLEARS: &[u32] = &[
+    0xe3a0_1a02,
+    0xe191_0f9f,
+    0xf57f_f01f,
+    0xe181_2f90,
+    0xe1a0_0002,
+    0xe3a0_7001,
+    0xef00_0000,
+];
+
+/// Loads over and over.
+const LOADS: &[u32] = &[0xe590_0000, 0xeaff_fffd];
+
+/// The thread, the deed and the value of an access: a CLREX, or an access of the word at 0x2000.
+type Made = (u32, Deed, u64);
+
+/// A thread's stop, its steps, its loads, its stores, and its store-exclusives that failed.
+type End = (Stop, u64, u64, u64, u64);
+
+/// The accesses of two threads that store, of one that adds, and of one that clears.
+const STORES_MADE: &[Made] = &[
+    (1, Deed::Store, 1),
+    (0, Deed::Store, 0),
+    (1, Deed::Load, 0),
+    (0, Deed::Load, 0),
+];
+
+const ADDS_MADE: &[Made] = &[(0, Deed::LoadEx, 0), (0, Deed::StoreEx, 7)];
+
+const CLEARS_MADE: &[Made] = &[
+    (0, Deed::LoadEx, 0),
+    (0, Deed::Clear, 0),
+    (0, Deed::StoreFail, 0),
+];
+
+/// The words, the threads, the accesses, and the last thread's end.
+const CASES: &[(&[u32], u64, &[Made], End)] = &[
+    (STORES, 2, STORES_MADE, (Stop::Exit(0), 6, 1, 1, 0)),
+    (ADDS, 1, ADDS_MADE, (Stop::Exit(0), 7, 1, 1, 0)),
+    (CLEARS, 1, CLEARS_MADE, (Stop::Exit(1), 7, 1, 0, 1)),
+];
+
+/// The place of an access.
+fn place_of(deed: Deed) -> Place {
+    match deed {
+        Deed::Clear => Place {
+            addr: 0,
+            size: Size::B1,
+        },
+        _ => Place {
+            addr: 0x2000,
+            size: Size::B4,
+        },
+    }
+}
+
+/// The accesses of a list.
+fn accesses_of(alloc: Global, list: &[Made]) -> Result<Vec<Access>, Fail> {
+    let mut accesses = Vec::new(alloc);
+    for (thread, deed, value) in list {
+        accesses.push(Access {
+            thread: *thread,
+            deed: *deed,
+            place: place_of(*deed),
+            value: *value,
+        })?;
+    }
+    Ok(accesses)
+}
+
+fn traced(
+    alloc: Global,
+    words: &[u32],
+    threads: u64,
+    budget: u64,
+) -> Result<Result<Traced, TraceFault>, Fail>
+    requires some { 1 ≤ budget }
+    requires most { budget ≤ 1000000000000 }
+{
+    let size = MachineSize::new(1_048_576, threads, 1, 1)?;
+    let image = image_of(alloc, words, &size)?;
+    Ok(trace(alloc, &image, &size, 0, budget))
+}
+
+/// How a thread ended.
+fn shown(end: &GuestEnd) -> End {
+    (end.stop, end.steps, end.reads, end.writes, end.fails)
+}
+
+/// Whether a trace has these accesses, and this end of its last thread.
+fn has(traced: &Traced, accesses: &[Access], end: End) -> bool {
+    traced.run.accesses.as_slice() == accesses
+        && traced.ends.as_slice().last().map(shown) == Some(end)
+}
+
+#[test]
+fn takes_turns(rt: HostRuntime) -> Result<(), Fail> {
+    for (words, threads, made, end) in CASES {
+        let traced = traced(rt.alloc(), words, *threads, 10_000)??;
+        let accesses = accesses_of(rt.alloc(), made)?;
+        assert!(rt; has(&traced, accesses.as_slice(), *end));
+    }
+    Ok(())
+}
+
+#[test]
+fn takes_1000000_accesses_and_no_more(rt: HostRuntime) -> Result<(), Fail> {
+    let whole = traced(rt.alloc(), LOADS, 1, 2_000_000)?;
+    let count = whole.map(|traced| traced.run.accesses.as_slice().len());
+    assert_eq!(rt; count.ok(), Some(1_000_000));
+    let longer = traced(rt.alloc(), LOADS, 1, 2_000_002)?;
+    assert_eq!(rt; longer.err(), Some(TraceFault::TooLong));
+    assert_eq!(rt; TraceFault::TooLong.name(), "TooLong");
+    Ok(())
+}
