@@ -1,26 +1,13 @@
 //! Guests of a few words, whose accesses are replied to by hand.
 ghost use Rattle.std.specs.Prelude.{◌≡◌, ◌≤◌, length};
 
-use super::programs::image_of;
+use super::programs::{WRITES, image_of};
 use a32_step::{Ask, Stop};
 use guest_calls::Output;
 use guest_thread::{Guest, Turn};
 use llsc_base::{Image, MachineSize, Place, Size};
 use std::alloc::Global;
 use std::test::Fail;
-
-/// Writes the two bytes behind its last word, from 0x1020 up, and leaves with 0.
-const WRITES: &[u32] = &[
-    0xe3a0_0001,
-    0xe28f_1014,
-    0xe3a0_2002,
-    0xe3a0_7004,
-    0xef00_0000,
-    0xe3a0_0000,
-    0xe3a0_7001,
-    0xef00_0000,
-    0x0000_6948,
-];
 
 /// Loads the byte at r1, which is 1, stores it there, and leaves with it.
 const COPIES: &[u32] = &[0xe5d1_0000, 0xe5c1_0000, 0xe3a0_7001, 0xef00_0000];

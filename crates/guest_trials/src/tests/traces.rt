@@ -1,7 +1,7 @@
 //! Traces of small programs by the number 0.
 ghost use Rattle.std.specs.Prelude.{◌≤◌};
 
-use super::programs::image_of;
+use super::programs::{ADDS, SHARES, image_of};
 use a32_step::Stop;
 use guest_machine::{TraceFault, Traced, trace};
 use guest_thread::GuestEnd;
@@ -10,28 +10,7 @@ use llsc_base::{MachineSize, Place, Size};
 use std::alloc::Global;
 use std::test::Fail;
 
-/// Stores its number at 0x2000, loads it from there, and leaves with 0.
-const STORES: &[u32] = &[
-    0xe3a0_2a02,
-    0xe582_0000,
-    0xe592_1000,
-    0xe3a0_0000,
-    0xe3a0_7001,
-    0xef00_0000,
-];
-
-/// Adds 7 at 0x2000 by a load-exclusive and a store-exclusive, and leaves with 1 if that failed.
-const ADDS: &[u32] = &[
-    0xe3a0_1a02,
-    0xe191_0f9f,
-    0xe280_0007,
-    0xe181_2f90,
-    0xe1a0_0002,
-    0xe3a0_7001,
-    0xef00_0000,
-];
-
-/// The same with CLREX in place of the sum.
+/// The program that adds, with CLREX in place of the sum.
 const CLEARS: &[u32] = &[
     0xe3a0_1a02,
     0xe191_0f9f,
@@ -69,7 +48,7 @@ const CLEARS_MADE: &[Made] = &[
 
 /// The words, the threads, the accesses, and the last thread's end.
 const CASES: &[(&[u32], u64, &[Made], End)] = &[
-    (STORES, 2, STORES_MADE, (Stop::Exit(0), 6, 1, 1, 0)),
+    (SHARES, 2, STORES_MADE, (Stop::Exit(0), 6, 1, 1, 0)),
     (ADDS, 1, ADDS_MADE, (Stop::Exit(0), 7, 1, 1, 0)),
     (CLEARS, 1, CLEARS_MADE, (Stop::Exit(1), 7, 1, 0, 1)),
 ];

@@ -1,23 +1,12 @@
 //! Records of programs of a few words, with what is said of them.
-use super::programs::image_of;
+use super::programs::{ADDS, SHARES, WRITES, image_of};
 use llsc_base::MachineSize;
 use run_checker::{Reason, Verdict, check_record};
 use run_record::read_record;
 use std::alloc::Global;
 use std::test::Fail;
 
-/// mov r1, #0x2000; ldrex r0, [r1]; add r0, r0, #7; strex r2, r0, [r1]; mov r0, r2; exit.
-const ADDS: &[u32] = &[
-    0xe3a0_1a02,
-    0xe191_0f9f,
-    0xe280_0007,
-    0xe181_2f90,
-    0xe1a0_0002,
-    0xe3a0_7001,
-    0xef00_0000,
-];
-
-/// The same without the load and the sum.
+/// The program that adds, without the load and the sum.
 const STORES: &[u32] = &[
     0xe3a0_1a02,
     0xe181_2f90,
@@ -26,7 +15,7 @@ const STORES: &[u32] = &[
     0xef00_0000,
 ];
 
-/// The same with two loads, and a second store-exclusive.
+/// The program that adds, with a second store-exclusive in place of the sum.
 const STORES_TWICE: &[u32] = &[
     0xe3a0_1a02,
     0xe191_0f9f,
@@ -35,29 +24,6 @@ const STORES_TWICE: &[u32] = &[
     0xe1a0_0002,
     0xe3a0_7001,
     0xef00_0000,
-];
-
-/// mov r2, #0x2000; str r0, [r2]; ldr r1, [r2]; mov r0, #0; exit.
-const SHARES: &[u32] = &[
-    0xe3a0_2a02,
-    0xe582_0000,
-    0xe592_1000,
-    0xe3a0_0000,
-    0xe3a0_7001,
-    0xef00_0000,
-];
-
-/// Writes the two bytes behind its last word, from 0x1020 up, and leaves with 0.
-const WRITES: &[u32] = &[
-    0xe3a0_0001,
-    0xe28f_1014,
-    0xe3a0_2002,
-    0xe3a0_7004,
-    0xef00_0000,
-    0xe3a0_0000,
-    0xe3a0_7001,
-    0xef00_0000,
-    0x0000_6948,
 ];
 
 /// Header lines of records, by the number of their accesses: of one thread, of one with 3 steps, and of two.

@@ -14,7 +14,7 @@ const OWN_STORE_NEARBY: &[u32] = &[
 ];
 
 /// Each thread leaves with its number.
-pub const LEAVE_BY_NUMBER: &[u32] = &[0xe3a07001, 0xef000000];
+pub(super) const LEAVE_BY_NUMBER: &[u32] = &[0xe3a07001, 0xef000000];
 
 /// Three stores to one word.
 const STORES: &[u32] = &[

@@ -4,10 +4,10 @@ use super::traces::{BESIDE, DISTURBED, EACH, TURNS};
 use super::*;
 
 /// The words of a call, what its files `p` and `r` hold, its status, and its text.
-pub type Checked = (&'static str, Content, &'static str, u8, &'static str);
+pub(super) type Checked = (&'static str, Content, &'static str, u8, &'static str);
 
 /// Makes each call, and compares its status and its text.
-pub fn check_all<R: Threads + Wait + Sync + AllocGlobal + Abort>(
+pub(super) fn check_all<R: Threads + Wait + Sync + AllocGlobal + Abort>(
     rt: &R,
     cases: &[Checked],
 ) -> Result<(), Fail> {
@@ -19,7 +19,7 @@ pub fn check_all<R: Threads + Wait + Sync + AllocGlobal + Abort>(
 }
 
 /// The files `p`, which holds a program, and `r`, a record's text.
-pub fn with_record(
+pub(super) fn with_record(
     alloc: Global,
     program: Content,
     record: &[u8],

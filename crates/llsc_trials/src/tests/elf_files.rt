@@ -14,7 +14,7 @@ const LINKED: [u32; 53] = [
 ];
 
 /// The report of that program.
-pub const SUM: &str = "thread 0 stop exit 3 steps 7 out 0\n\nreads 2 writes 0 fails 0\n";
+pub(super) const SUM: &str = "thread 0 stop exit 3 steps 7 out 0\n\nreads 2 writes 0 fails 0\n";
 
 /// Programs that run.
 const RUNS: &[Case] = &[
@@ -28,10 +28,10 @@ fn runs_elf_files(rt: HostRuntime) -> Result<(), Fail> {
 }
 
 /// A change of the linked program: the words that are others, with their values, and how many bytes are left.
-pub type Change = (&'static [(usize, u32)], usize);
+pub(super) type Change = (&'static [(usize, u32)], usize);
 
 /// The linked program, changed.
-pub fn changed(alloc: Global, change: Change) -> Result<Vec<u8>, AllocError> {
+pub(super) fn changed(alloc: Global, change: Change) -> Result<Vec<u8>, AllocError> {
     let (words, length) = change;
     let mut program = LINKED;
     for (at, word) in words {

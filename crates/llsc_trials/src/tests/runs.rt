@@ -2,12 +2,12 @@
 use super::*;
 
 /// A load-exclusive of a word, a sum, and a store-exclusive, whose status is the code.
-pub const EXCLUSIVES: &[u32] = &[
+pub(super) const EXCLUSIVES: &[u32] = &[
     0xe3a01a02, 0xe1910f9f, 0xe2800007, 0xe1812f90, 0xe1a00002, 0xe3a07001, 0xef000000,
 ];
 
 /// A store-exclusive with no load-exclusive before it, whose status is the code.
-pub const UNMARKED: &[u32] = &[0xe3a01a02, 0xe1812f90, 0xe1a00002, 0xe3a07001, 0xef000000];
+pub(super) const UNMARKED: &[u32] = &[0xe3a01a02, 0xe1812f90, 0xe1a00002, 0xe3a07001, 0xef000000];
 
 /// Programs that leave.
 const LEAVING: &[Case] = &[

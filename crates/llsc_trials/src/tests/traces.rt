@@ -4,23 +4,23 @@ use super::runs::{EXCLUSIVES, UNMARKED};
 use super::*;
 
 /// Stores the thread's number at 0x2000, loads what is there, and leaves with code 0.
-pub const EACH: &[u32] = &[
+pub(super) const EACH: &[u32] = &[
     0xe3a02a02, 0xe5820000, 0xe5921000, 0xe3a00000, 0xe3a07001, 0xef000000,
 ];
 
 /// Loads the word at 0x2000 exclusively, stores 8 bytes behind it, stores exclusively, and leaves with what that says.
-pub const BESIDE: &[u32] = &[
+pub(super) const BESIDE: &[u32] = &[
     0xe3a01a02, 0xe1910f9f, 0xe5810008, 0xe1812f90, 0xe1a00002, 0xe3a07001, 0xef000000,
 ];
 
 /// The record of that where rows have 16 bytes.
-pub const DISTURBED: &str = "llsc-run 2 threads 1 granule 1 budget 10000 accesses 3\n\
+pub(super) const DISTURBED: &str = "llsc-run 2 threads 1 granule 1 budget 10000 accesses 3\n\
     0 loadex 4 00002000 0000000000000000\n\
     0 store 4 00002008 0000000000000000\n\
     0 fail 4 00002000 0000000000000000\n";
 
 /// The record of two threads of the first guest by the seed 0: the first turns are those of threads 1, 0 and 1.
-pub const TURNS: &str = "llsc-run 1 threads 2 budget 10000 accesses 4\n\
+pub(super) const TURNS: &str = "llsc-run 1 threads 2 budget 10000 accesses 4\n\
     1 store 4 00002000 0000000000000001\n\
     0 store 4 00002000 0000000000000000\n\
     1 load 4 00002000 0000000000000000\n\

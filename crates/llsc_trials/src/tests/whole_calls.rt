@@ -55,7 +55,7 @@ const ACCESSES: &[Case] = &[
 ];
 
 /// Writes the two bytes behind its code, and leaves with 0.
-pub const HI: &[u32] = &[
+pub(super) const HI: &[u32] = &[
     0xe3a00001, 0xe28f1014, 0xe3a02002, 0xe3a07004, 0xef000000, 0xe3a00000, 0xe3a07001, 0xef000000,
     0x00006948,
 ];

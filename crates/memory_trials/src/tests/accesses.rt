@@ -11,7 +11,7 @@ use std::test::Fail;
 
 /// What a thread does, with what memory is to answer.
 #[derive(Clone, Copy)]
-pub enum Deed {
+pub(super) enum Deed {
     Load(u64),
     LoadEx(u64),
     Store(u64),
@@ -21,20 +21,20 @@ pub enum Deed {
 
 /// An access of one of two threads.
 #[derive(Clone, Copy)]
-pub struct Case {
+pub(super) struct Case {
     other: bool,
     place: Place,
     deed: Deed,
 }
 
 /// The place that most accesses are to.
-pub const X: Place = Place {
+pub(super) const X: Place = Place {
     addr: 0x2000,
     size: Size::B4,
 };
 
 /// An access of thread 0.
-pub fn of_one(addr: u32, size: Size, deed: Deed) -> Case {
+pub(super) fn of_one(addr: u32, size: Size, deed: Deed) -> Case {
     Case {
         other: false,
         place: Place { addr, size },
@@ -43,12 +43,12 @@ pub fn of_one(addr: u32, size: Size, deed: Deed) -> Case {
 }
 
 /// One to `X`.
-pub fn at_x(deed: Deed) -> Case {
+pub(super) fn at_x(deed: Deed) -> Case {
     of_one(X.addr, X.size, deed)
 }
 
 /// An access of thread 1.
-pub fn of_other(addr: u32, size: Size, deed: Deed) -> Case {
+pub(super) fn of_other(addr: u32, size: Size, deed: Deed) -> Case {
     Case {
         other: true,
         place: Place { addr, size },
@@ -57,7 +57,7 @@ pub fn of_other(addr: u32, size: Size, deed: Deed) -> Case {
 }
 
 /// Whether the place may be accessed, and the value is one of its size.
-pub fn may(place: Place, value: u64) -> bool
+pub(super) fn may(place: Place, value: u64) -> bool
     ensures { IsTrue result → IsTrue (is_aligned place) × (place.addr + size_bytes place.size ≤ 65536) × (value < 256 ^ size_bytes place.size) }
 {
     let inside = place.addr < 65_536 && place.addr + place.size.bytes() <= 65_536;
@@ -120,7 +120,7 @@ fn answers_of_two<M: Tried, R: Wait>(
 }
 
 /// Whether memory answers all accesses as it is to.
-pub fn all_answer<M: Tried, R: Wait>(
+pub(super) fn all_answer<M: Tried, R: Wait>(
     rt: &R,
     alloc: Global,
     shape: Shape,

@@ -76,7 +76,7 @@ fn crossed<M: Tried, R: Threads + Wait + Sync>(
 }
 
 /// Of two threads that do so at least one sees the other's store, each time.
-pub fn one_sees_the_other<M: Tried, R: Threads + Wait + Sync>(
+pub(super) fn one_sees_the_other<M: Tried, R: Threads + Wait + Sync>(
     rt: &R,
     alloc: Global,
 ) -> Result<bool, Fail> {

@@ -11,7 +11,7 @@ use std::sync::Wait;
 
 /// A place by its row, of the four of 32 bytes that threads access, and its number there, of six. All threads write the first
 /// two of a row, double words, and one thread alone writes each of the last four, words of two cells.
-pub fn place_of(row: u32, k: u32) -> Place {
+pub(super) fn place_of(row: u32, k: u32) -> Place {
     let (at, size) = match k % 6 {
         0 => (0, Size::B8),
         1 => (8, Size::B8),
@@ -28,13 +28,13 @@ pub fn place_of(row: u32, k: u32) -> Place {
 
 /// The place that a thread alone writes. Threads 0 and 1 have words of one cell, and so on two by two; those of four threads
 /// lie in two rows, and those of eight in four.
-pub fn own_place(thread: u32) -> Place {
+pub(super) fn own_place(thread: u32) -> Place {
     place_of(thread / 2 % 4, 2 + thread / 8 % 2 * 2 + thread % 2)
 }
 
 /// A thread on its way through its accesses.
 #[derive(Drop)]
-pub struct Course {
+pub(super) struct Course {
     thread: u32,
     /// How many threads there are.
     threads: u32,
@@ -48,7 +48,7 @@ pub struct Course {
 
 impl Course {
     /// A thread, of so many, before its first access.
-    pub fn of(thread: u32, threads: u32) -> Course {
+    pub(super) fn of(thread: u32, threads: u32) -> Course {
         Course {
             thread,
             threads,
@@ -59,7 +59,7 @@ impl Course {
     }
 
     /// The next access. A value that is stored is stored by no other access.
-    pub fn next(&mut self) -> Access {
+    pub(super) fn next(&mut self) -> Access {
         self.number = self
             .number
             .wrapping_mul(1_664_525)
@@ -174,7 +174,7 @@ fn make<M: SharedMemory, R: Wait>(rt: &R, memory: &M, pass: &mut M::Pass, tried:
 }
 
 /// Makes as many accesses of a pass's thread as the log is long, and logs each as it came about.
-pub fn log_accesses<M: SharedMemory, R: Wait>(
+pub(super) fn log_accesses<M: SharedMemory, R: Wait>(
     rt: &R,
     memory: &M,
     logged: (Vec<Access>, M::Pass),

@@ -256,7 +256,7 @@ fn outcome_of(
 }
 
 /// The accesses of so many threads have one order, by which memory is left so, and enough store-exclusives of each succeed.
-pub fn have_one_order<M: Tried, R: Threads + Wait + Sync>(
+pub(super) fn have_one_order<M: Tried, R: Threads + Wait + Sync>(
     rt: &R,
     alloc: Global,
     threads: u64,

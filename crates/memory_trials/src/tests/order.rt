@@ -45,7 +45,7 @@ fn writes(access: &Access) -> bool {
 }
 
 /// So many words there are in the rows that threads access.
-pub const FIRST_VALUES: usize = 32;
+pub(super) const FIRST_VALUES: usize = 32;
 
 /// Where it is kept how many loads of a value of a place are still to be laid: the first values have these words, by their
 /// places, and each written value one.
@@ -65,7 +65,7 @@ fn unread_of(unread: &[u32], place: Place, value: u64) -> u32 {
 }
 
 /// Counts the loads of a log.
-pub fn count_loads(unread: &mut [u32], log: &[Access]) {
+pub(super) fn count_loads(unread: &mut [u32], log: &[Access]) {
     for access in log {
         if !reads(access) {
             continue;
@@ -197,7 +197,7 @@ fn lay_round(
 }
 
 /// Whether all accesses of these logs, so many at most, are laid into one order.
-pub fn are_laid(
+pub(super) fn are_laid(
     plain: &mut PlainMemory,
     threads: u32,
     unread: &mut [u32],
@@ -217,7 +217,7 @@ pub fn are_laid(
 }
 
 /// Whether each place has in memory as it is left the value that the order gives it.
-pub fn ends_so(plain: &PlainMemory, rows: &Rows) -> bool
+pub(super) fn ends_so(plain: &PlainMemory, rows: &Rows) -> bool
     requires { length plain.now.memory ≡ 65536 }
 {
     for k in 0..24u32 {

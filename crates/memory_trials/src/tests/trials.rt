@@ -9,7 +9,7 @@ use std::sync::Wait;
 use std::test::Fail;
 
 /// A change that is undone is a change.
-pub fn undone_change<M: Tried, R: Wait>(rt: &R, alloc: Global) -> Result<bool, Fail> {
+pub(super) fn undone_change<M: Tried, R: Wait>(rt: &R, alloc: Global) -> Result<bool, Fail> {
     let cases = [
         at_x(Deed::LoadEx(0)),
         of_other(0x2000, Size::B4, Deed::Store(5)),
@@ -37,7 +37,7 @@ fn is_left<M: Tried, R: Wait>(
 }
 
 /// A store disturbs its row and class.
-pub fn row_and_class<M: Tried, R: Wait>(rt: &R, alloc: Global) -> Result<bool, Fail> {
+pub(super) fn row_and_class<M: Tried, R: Wait>(rt: &R, alloc: Global) -> Result<bool, Fail> {
     // The classes, what thread 1 stores to, and whether thread 0 succeeds then.
     let stores = [
         (4096, (0x2007, Size::B1), false),
@@ -55,7 +55,7 @@ pub fn row_and_class<M: Tried, R: Wait>(rt: &R, alloc: Global) -> Result<bool, F
 }
 
 /// An own store gives the reservation up.
-pub fn own_store<M: Tried, R: Wait>(rt: &R, alloc: Global) -> Result<bool, Fail> {
+pub(super) fn own_store<M: Tried, R: Wait>(rt: &R, alloc: Global) -> Result<bool, Fail> {
     let cases = [
         at_x(Deed::LoadEx(0)),
         of_other(0x2000, Size::B4, Deed::Store(4)),
@@ -66,7 +66,7 @@ pub fn own_store<M: Tried, R: Wait>(rt: &R, alloc: Global) -> Result<bool, Fail>
 }
 
 /// A store keeps the other bytes of its cell.
-pub fn bytes_of_a_cell<M: Tried, R: Wait>(rt: &R, alloc: Global) -> Result<bool, Fail> {
+pub(super) fn bytes_of_a_cell<M: Tried, R: Wait>(rt: &R, alloc: Global) -> Result<bool, Fail> {
     let cases = [
         of_one(0x2000, Size::B8, Deed::LoadEx(0)),
         of_other(0x2006, Size::B2, Deed::Store(0xbeef)),
@@ -81,7 +81,7 @@ pub fn bytes_of_a_cell<M: Tried, R: Wait>(rt: &R, alloc: Global) -> Result<bool,
 }
 
 /// Rows are as wide as the granule: a store to the next cell disturbs, and one to the next row doesn't.
-pub fn stores_by_granule<M: Tried, R: Wait>(rt: &R, alloc: Global) -> Result<bool, Fail> {
+pub(super) fn stores_by_granule<M: Tried, R: Wait>(rt: &R, alloc: Global) -> Result<bool, Fail> {
     let shape = Shape {
         granule: 1,
         ..USUAL
@@ -92,7 +92,10 @@ pub fn stores_by_granule<M: Tried, R: Wait>(rt: &R, alloc: Global) -> Result<boo
 }
 
 /// And a store-exclusive to the next cell finds the reservation just where both are of one row.
-pub fn exclusives_by_granule<M: Tried, R: Wait>(rt: &R, alloc: Global) -> Result<bool, Fail> {
+pub(super) fn exclusives_by_granule<M: Tried, R: Wait>(
+    rt: &R,
+    alloc: Global,
+) -> Result<bool, Fail> {
     for (granule, succeeds) in [(1, true), (0, false)] {
         let shape = Shape { granule, ..USUAL };
         let cases = [
@@ -108,7 +111,10 @@ pub fn exclusives_by_granule<M: Tried, R: Wait>(rt: &R, alloc: Global) -> Result
 
 /// Stores a value by one thread, loads it by the other, and says whether it was stored, what was loaded, and the cell at
 /// closing.
-pub fn handed_over<M: Tried, R: Wait>(rt: &R, alloc: Global) -> Result<(bool, u64, u64), Fail> {
+pub(super) fn handed_over<M: Tried, R: Wait>(
+    rt: &R,
+    alloc: Global,
+) -> Result<(bool, u64, u64), Fail> {
     let (memory, mut one, mut other) = two::<M>(alloc, USUAL)?;
     let stored = memory.store(rt, &mut one, X, 5).is_ok();
     let loaded = memory.load(&mut other, X);

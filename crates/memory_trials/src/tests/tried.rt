@@ -11,7 +11,7 @@ use std::test::Fail;
 use version_memory::{VersionMemory, VersionPass};
 
 /// A memory that is tried.
-pub trait Tried: SharedMemory + Sized {
+pub(super) trait Tried: SharedMemory + Sized {
     /// A memory of these bytes at first, as many as the machine has, with the pass that holds the numbers of all its threads.
     fn made(
         alloc: Global,
@@ -48,24 +48,24 @@ impl Tried for VersionMemory {
 
 /// A machine's numbers, beside its bytes and its threads.
 #[derive(Clone, Copy)]
-pub struct Shape {
-    pub classes: u64,
-    pub limit: u64,
-    pub granule: u64,
+pub(super) struct Shape {
+    pub(super) classes: u64,
+    pub(super) limit: u64,
+    pub(super) granule: u64,
 }
 
 /// More writes than any trial makes.
-pub const MANY: u64 = 1 << 62;
+pub(super) const MANY: u64 = 1 << 62;
 
 /// As many classes as there may be, rows of a cell, and no store that is refused.
-pub const USUAL: Shape = Shape {
+pub(super) const USUAL: Shape = Shape {
     classes: 4096,
     limit: MANY,
     granule: 0,
 };
 
 /// A machine of 65,536 bytes and so many threads.
-pub fn machine(threads: u64, shape: Shape) -> Result<MachineSize, Fail>
+pub(super) fn machine(threads: u64, shape: Shape) -> Result<MachineSize, Fail>
     ensures mem { IfOk result (λ size. size.mem ≡ 65536) }
     ensures threads { IfOk result (λ size. size.threads ≡ threads) }
 {
@@ -74,7 +74,7 @@ pub fn machine(threads: u64, shape: Shape) -> Result<MachineSize, Fail>
 }
 
 /// A memory of zeros, with the pass that holds the numbers of all its threads.
-pub fn zeros<M: Tried>(alloc: Global, size: &MachineSize) -> Result<(M, M::Pass), Fail>
+pub(super) fn zeros<M: Tried>(alloc: Global, size: &MachineSize) -> Result<(M, M::Pass), Fail>
     requires { size.now.mem ≡ 65536 }
     ensures machine { IfOk result (λ t. IsOf size.now.threads (M.origin t.0)) }
     ensures memory { IfOk result (λ t. M.home t.1 ≡ M.id t.0) }
@@ -88,7 +88,7 @@ pub fn zeros<M: Tried>(alloc: Global, size: &MachineSize) -> Result<(M, M::Pass)
 }
 
 /// A memory of zeros, and the passes of its two threads.
-pub fn two<M: Tried>(alloc: Global, shape: Shape) -> Result<(M, M::Pass, M::Pass), Fail>
+pub(super) fn two<M: Tried>(alloc: Global, shape: Shape) -> Result<(M, M::Pass, M::Pass), Fail>
     ensures machine { IfOk result (λ t. IsOf 2 (M.origin t.0)) }
     ensures one { IfOk result (λ t. IsPassOf M.home M.numbers (M.id t.0) 0 t.1) }
     ensures other { IfOk result (λ t. IsPassOf M.home M.numbers (M.id t.0) 1 t.2) }

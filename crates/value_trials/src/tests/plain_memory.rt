@@ -9,7 +9,7 @@ use std::alloc::Global;
 use std::test::Fail;
 
 /// Whether a value has no more bytes than a size.
-pub fn fits(value: u64, size: Size) -> bool
+pub(super) fn fits(value: u64, size: Size) -> bool
     ensures { IsTrue result → value < 256 ^ size_bytes size }
 {
     match size {

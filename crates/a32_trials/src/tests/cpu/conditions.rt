@@ -1,8 +1,7 @@
 //! Conditions, and writes to the PC.
-ghost use Rattle.std.specs.Prelude.{◌≡◌};
-ghost use Rattle.a32_instr.specs.Condition.{passes};
-
 use super::*;
+use a32_compute::conditions::{condition, passes};
+use a32_decode::decode;
 
 /// A move of 1 to r0 under each condition, and the flags at which it was done: bit F is set for flags F.
 const CONDITIONS: [[u32; 2]; 15] = [
@@ -42,38 +41,22 @@ fn passes_conditions(rt: HostRuntime) -> Result<(), Fail> {
     Ok(())
 }
 
-/// Whether flags meet a condition by the definition that a core is proved to go by.
-#[tactic(auto, unfolding(a32_instr::specs::Condition::passes))]
-fn passes(cond: u32, flags: Flags) -> bool
-    ensures { result ≡ passes cond flags }
-{
-    match cond {
-        0 => flags.z,
-        1 => !flags.z,
-        2 => flags.c,
-        3 => !flags.c,
-        4 => flags.n,
-        5 => !flags.n,
-        6 => flags.v,
-        7 => !flags.v,
-        8 => flags.c && !flags.z,
-        9 => !flags.c || flags.z,
-        10 => flags.n == flags.v,
-        11 => flags.n != flags.v,
-        12 => !flags.z && flags.n == flags.v,
-        13 => flags.z || flags.n != flags.v,
-        _ => true,
+/// Whether flags meet the condition of a word, by the functions that a core asks.
+fn meets(word: u32, flags: Flags) -> bool {
+    match decode(word) {
+        Ok(instr) => passes(condition(&instr), flags),
+        Err(_) => false,
     }
 }
 
-/// The definition of conditions, at N and Z together too.
+/// At all flags, N and Z together too.
 #[test]
-fn defines_conditions(rt: HostRuntime) {
+fn meets_conditions(rt: HostRuntime) {
     for &[word, passing] in &CONDITIONS {
         for flags in 0..16u32 {
-            assert_eq!(rt;
-                passes(word >> 28, flags_of(flags)),
-                passing >> flags & 1 != 0,
+            let wanted = passing >> flags & 1 != 0;
+            assert!(rt;
+                meets(word, flags_of(flags)) == wanted,
                 "at {word:#x} with {flags}"
             );
         }
