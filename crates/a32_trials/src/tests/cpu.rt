@@ -56,7 +56,7 @@ fn agrees(alloc: Global, row: &str) -> Result<bool, Fail> {
         return Ok(true);
     }
     let mut words = row.split_whitespace();
-    let image = image_of(alloc, number(words.next())?)?;
+    let word = number(words.next())?;
     let regs = regs_of(
         number(words.next())?,
         number(words.next())?,
@@ -69,6 +69,7 @@ fn agrees(alloc: Global, row: &str) -> Result<bool, Fail> {
         r1: number(words.next())?,
         flags: number(words.next())?,
     };
+    let image = image_of(alloc, word)?;
     for flags in reachable(flags) {
         if !comes_to(core_with(alloc, regs, flags)?, &image, after) {
             return Ok(false);

@@ -52,45 +52,72 @@ fn are_same(one: &Unit, other: &Unit) -> bool {
         && one.space == other.space
 }
 
+/// The program of this text.
+fn assembled(alloc: Global, start: &str, rounds: &str) -> Result<Unit, Fail> {
+    let text = text_of(alloc, start, rounds)?;
+    Ok(assemble(alloc, &text)?)
+}
+
+/// A seed, so many threads and rounds, the two lines of the seed, and the two that give the rounds.
+type Written = (u64, u64, u64, &'static str, &'static str);
+
+const WRITTEN: &[Written] = &[
+    (
+        0,
+        1,
+        1,
+        "movw r4, #0\nmovt r4, #0\n",
+        "movw r8, #1\nmovt r8, #0\n",
+    ),
+    (
+        7,
+        2,
+        1000,
+        "movw r4, #7\nmovt r4, #0\n",
+        "movw r8, #1000\nmovt r8, #0\n",
+    ),
+    (
+        u64::MAX,
+        16,
+        50_000,
+        "movw r4, #65535\nmovt r4, #65535\n",
+        "movw r8, #50000\nmovt r8, #0\n",
+    ),
+];
+
+/// Whether the program of these numbers is the one of that text.
+fn is_as_written(alloc: Global, written: Written) -> Result<bool, Fail> {
+    let (seed, threads, rounds, start, count) = written;
+    let unit = counters(alloc, seed, threads, rounds)?;
+    Ok(are_same(&unit, &assembled(alloc, start, count)?))
+}
+
 #[test]
 fn assembles_to_the_same(rt: HostRuntime) -> Result<(), Fail> {
-    for (seed, threads, rounds, start, count) in [
-        (
-            0,
-            1,
-            1,
-            "movw r4, #0\nmovt r4, #0\n",
-            "movw r8, #1\nmovt r8, #0\n",
-        ),
-        (
-            7,
-            2,
-            1000,
-            "movw r4, #7\nmovt r4, #0\n",
-            "movw r8, #1000\nmovt r8, #0\n",
-        ),
-        (
-            u64::MAX,
-            16,
-            50_000,
-            "movw r4, #65535\nmovt r4, #65535\n",
-            "movw r8, #50000\nmovt r8, #0\n",
-        ),
-    ] {
-        let unit = counters(rt.alloc(), seed, threads, rounds)?;
-        let text = text_of(rt.alloc(), start, count)?;
-        let assembled = assemble(rt.alloc(), &text)?;
-        assert!(rt; are_same(&unit, &assembled), "at {seed}");
+    for written in WRITTEN {
+        let seed = written.0;
+        assert!(rt; is_as_written(rt.alloc(), *written)?, "at {seed}");
     }
     Ok(())
 }
 
+/// Threads and rounds, one of which is out of its range.
+const BEYOND: &[(u64, u64)] = &[(0, 1), (17, 1), (1, 0), (16, 50_001), (u64::MAX, u64::MAX)];
+
+/// Whether numbers are refused as out of their ranges.
+fn is_beyond(alloc: Global, threads: u64, rounds: u64) -> bool {
+    match counters(alloc, 0, threads, rounds) {
+        Ok(_) => false,
+        Err(fault) => fault.name() == "Range",
+    }
+}
+
 #[test]
 fn ranges_end_where_they_say(rt: HostRuntime) {
-    for (threads, rounds) in [(0, 1), (17, 1), (1, 0), (16, 50_001), (u64::MAX, u64::MAX)] {
-        match counters(rt.alloc(), 0, threads, rounds) {
-            Ok(_) => assert!(rt; false, "at {threads} and {rounds}"),
-            Err(fault) => assert_eq!(rt; fault.name(), "Range"),
-        }
+    for &(threads, rounds) in BEYOND {
+        assert!(rt;
+            is_beyond(rt.alloc(), threads, rounds),
+            "at {threads} and {rounds}"
+        );
     }
 }

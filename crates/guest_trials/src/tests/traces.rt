@@ -47,7 +47,9 @@ const CLEARS_MADE: &[Made] = &[
 ];
 
 /// The words, the threads, the accesses, and the last thread's end.
-const CASES: &[(&[u32], u64, &[Made], End)] = &[
+type Case = (&'static [u32], u64, &'static [Made], End);
+
+const CASES: &[Case] = &[
     (SHARES, 2, STORES_MADE, (Stop::Exit(0), 6, 1, 1, 0)),
     (ADDS, 1, ADDS_MADE, (Stop::Exit(0), 7, 1, 1, 0)),
     (CLEARS, 1, CLEARS_MADE, (Stop::Exit(1), 7, 1, 0, 1)),
@@ -106,23 +108,38 @@ fn has(traced: &Traced, accesses: &[Access], end: End) -> bool {
         && traced.ends.as_slice().last().map(shown) == Some(end)
 }
 
+/// Whether a program's trace is as a case says.
+fn holds(alloc: Global, (words, threads, made, end): Case) -> Result<bool, Fail> {
+    let accesses = accesses_of(alloc, made)?;
+    match traced(alloc, words, threads, 10_000)? {
+        Ok(traced) => Ok(has(&traced, accesses.as_slice(), end)),
+        Err(_) => Ok(false),
+    }
+}
+
 #[test]
 fn takes_turns(rt: HostRuntime) -> Result<(), Fail> {
-    for (words, threads, made, end) in CASES {
-        let traced = traced(rt.alloc(), words, *threads, 10_000)??;
-        let accesses = accesses_of(rt.alloc(), made)?;
-        assert!(rt; has(&traced, accesses.as_slice(), *end));
+    for case in CASES {
+        assert!(rt; holds(rt.alloc(), *case)?);
     }
     Ok(())
 }
 
+/// How many accesses the trace has of the program that loads.
+fn loads_made(alloc: Global, budget: u64) -> Result<Result<usize, TraceFault>, Fail>
+    requires some { 1 ≤ budget }
+    requires most { budget ≤ 1000000000000 }
+{
+    match traced(alloc, LOADS, 1, budget)? {
+        Ok(traced) => Ok(Ok(traced.run.accesses.as_slice().len())),
+        Err(fault) => Ok(Err(fault)),
+    }
+}
+
 #[test]
 fn takes_1000000_accesses_and_no_more(rt: HostRuntime) -> Result<(), Fail> {
-    let whole = traced(rt.alloc(), LOADS, 1, 2_000_000)?;
-    let count = whole.map(|traced| traced.run.accesses.as_slice().len());
-    assert_eq!(rt; count.ok(), Some(1_000_000));
-    let longer = traced(rt.alloc(), LOADS, 1, 2_000_002)?;
-    assert_eq!(rt; longer.err(), Some(TraceFault::TooLong));
+    assert!(rt; loads_made(rt.alloc(), 2_000_000)? == Ok(1_000_000));
+    assert!(rt; loads_made(rt.alloc(), 2_000_002)? == Err(TraceFault::TooLong));
     assert_eq!(rt; TraceFault::TooLong.name(), "TooLong");
     Ok(())
 }

@@ -1,8 +1,11 @@
 //! Records of programs of a few words, with what is said of them.
+ghost use Rattle.std.specs.Prelude.{◌≡◌, IfOk};
+ghost use Rattle.run_record.specs.Limits.{IsRecord};
+
 use super::programs::{ADDS, SHARES, WRITES, image_of};
 use llsc_base::MachineSize;
 use run_checker::{Reason, Verdict, check_record};
-use run_record::read_record;
+use run_record::{RunRecord, read_record};
 use std::alloc::Global;
 use std::test::Fail;
 
@@ -70,15 +73,29 @@ const LOAD_H: &str = "0 load 1 00001020 0000000000000048\n";
 
 const LOAD_I: &str = "0 load 1 00001021 0000000000000069\n";
 
-/// What is said of the record of these lines.
-fn verdict(alloc: Global, words: &[u32], lines: &[&str]) -> Result<Verdict, Fail> {
+/// The record of these lines.
+fn record_of(alloc: Global, lines: &[&str]) -> Result<RunRecord, Fail>
+    ensures { IfOk result IsRecord }
+{
     let mut text = Vec::new(alloc);
     for line in lines {
         text.extend_from_slice(line.as_bytes())?;
     }
-    let run = read_record(alloc, text.as_slice())?;
-    let (threads, granule) = (u64::from(run.threads), u64::from(run.granule));
-    let size = MachineSize::new(65_536, threads, 1, 1)?.with_granule(granule)?;
+    Ok(read_record(alloc, text.as_slice())?)
+}
+
+/// The machine of a record.
+fn machine_of(run: &RunRecord) -> Result<MachineSize, Fail>
+    ensures { IfOk result (λ size. (run.now.threads ≡ size.threads) × (run.now.granule ≡ size.granule)) }
+{
+    let size = MachineSize::new(65_536, u64::from(run.threads), 1, 1)?;
+    Ok(size.with_granule(u64::from(run.granule))?)
+}
+
+/// What is said of the record of these lines.
+fn verdict(alloc: Global, words: &[u32], lines: &[&str]) -> Result<Verdict, Fail> {
+    let run = record_of(alloc, lines)?;
+    let size = machine_of(&run)?;
     let image = image_of(alloc, words, &size)?;
     Ok(check_record(alloc, &image, &size, &run)?)
 }

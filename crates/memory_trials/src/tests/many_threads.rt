@@ -223,6 +223,33 @@ fn plain(alloc: Global, size: &MachineSize) -> Result<PlainMemory, Fail>
     Ok(PlainMemory::sized(alloc, bytes.as_slice(), size)?)
 }
 
+/// How often each value is loaded, in all logs.
+fn loads_of(alloc: Global, logs: &[Vec<Access>]) -> Result<Vec<u32>, AllocError> {
+    let mut unread = vec![in alloc; 0u32; FIRST_VALUES + ACCESSES]?;
+    for log in logs {
+        count_loads(unread.as_mut_slice(), log.as_slice());
+    }
+    Ok(unread)
+}
+
+/// What is left of each log at first: all of it.
+fn whole<'a>(alloc: Global, logs: &'a [Vec<Access>]) -> Result<Vec<&'a [Access]>, AllocError> {
+    let mut left = Vec::with_capacity(alloc, logs.len())?;
+    for log in logs {
+        left.push(log.as_slice())?;
+    }
+    Ok(left)
+}
+
+/// How many store-exclusives of a thread succeeded at least.
+fn least_successes(logs: &[Vec<Access>]) -> usize {
+    let mut least = ACCESSES;
+    for log in logs {
+        least = least.min(successes(log.as_slice()));
+    }
+    least
+}
+
 /// The accesses of these logs are laid into one order, on this memory that they left.
 fn outcome_of(
     alloc: Global,
@@ -232,15 +259,9 @@ fn outcome_of(
 ) -> Result<Outcome, Fail>
     requires { size.now.mem ≡ 65536 }
 {
+    let mut unread = loads_of(alloc, logs)?;
+    let mut left = whole(alloc, logs)?;
     let mut plain = plain(alloc, size)?;
-    let mut unread = vec![in alloc; 0u32; FIRST_VALUES + ACCESSES]?;
-    let mut left = Vec::with_capacity(alloc, logs.len())?;
-    let mut least = ACCESSES;
-    for log in logs {
-        count_loads(unread.as_mut_slice(), log.as_slice());
-        least = least.min(successes(log.as_slice()));
-        left.push(log.as_slice())?;
-    }
     let is_laid = are_laid(
         &mut plain,
         size.threads(),
@@ -251,7 +272,7 @@ fn outcome_of(
     Ok(Outcome {
         is_laid,
         ends_so: ends_so(&plain, rows),
-        least,
+        least: least_successes(logs),
     })
 }
 

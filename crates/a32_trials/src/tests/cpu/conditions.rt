@@ -1,4 +1,6 @@
 //! Conditions, and writes to the PC.
+ghost use Rattle.a32_step.specs.Machine.{IsReady};
+
 use super::*;
 use a32_compute::conditions::{condition, passes};
 use a32_decode::decode;
@@ -22,20 +24,23 @@ const CONDITIONS: [[u32; 2]; 15] = [
     [0xe3a00001, 0xffff],
 ];
 
+/// What comes of a core's next instruction: what it wants then, its r0, and its PC.
+fn after(mut cpu: Cpu, image: &Image) -> (Wanted, u32, u32)
+    requires { IsReady cpu.phase }
+{
+    let wanted = cpu.next(image);
+    (wanted, cpu.reg(0), cpu.pc())
+}
+
 /// At all flags that a core can have: N and Z are never set together.
 #[test]
 fn passes_conditions(rt: HostRuntime) -> Result<(), Fail> {
     for &[word, passing] in &CONDITIONS {
         let image = image_of(rt.alloc(), word)?;
         for flags in 0..12u32 {
-            let mut cpu = core_with(rt.alloc(), regs_of(0, 0, 0, 0), flags)?;
-            assert_eq!(rt; cpu.next(&image), Wanted::Done, "at {word:#x}");
-            assert_eq!(rt;
-                cpu.reg(0),
-                passing >> flags & 1,
-                "at {word:#x} with {flags}"
-            );
-            assert_eq!(rt; cpu.pc(), 0x1004);
+            let cpu = core_with(rt.alloc(), regs_of(0, 0, 0, 0), flags)?;
+            let wanted = (Wanted::Done, passing >> flags & 1, 0x1004);
+            assert!(rt; after(cpu, &image) == wanted, "at {word:#x} with {flags}");
         }
     }
     Ok(())
@@ -63,21 +68,22 @@ fn meets_conditions(rt: HostRuntime) {
     }
 }
 
-/// `mov pc, r1`: the PC takes a multiple of 4, and nothing else (DDI 0406C A2.3.2, BXWritePC).
+/// Values of r1, and what comes of `mov pc, r1` then, with the PC.
+const JUMPS: [(u32, Wanted, u32); 5] = [
+    (0x1008, Wanted::Done, 0x1008),
+    (0xffff_fffc, Wanted::Done, 0xffff_fffc),
+    (0x1001, Wanted::Stopped(Stop::Thumb(0x1000)), 0x1000),
+    (0x1003, Wanted::Stopped(Stop::Thumb(0x1000)), 0x1000),
+    (0x1002, Wanted::Stopped(Stop::Unpredictable(0x1000)), 0x1000),
+];
+
+/// The PC takes a multiple of 4, and nothing else (DDI 0406C A2.3.2, BXWritePC).
 #[test]
 fn writes_the_pc(rt: HostRuntime) -> Result<(), Fail> {
     let image = image_of(rt.alloc(), 0xe1a0_f001)?;
-    let cases = [
-        (0x1008, Wanted::Done, 0x1008),
-        (0xffff_fffc, Wanted::Done, 0xffff_fffc),
-        (0x1001, Wanted::Stopped(Stop::Thumb(0x1000)), 0x1000),
-        (0x1003, Wanted::Stopped(Stop::Thumb(0x1000)), 0x1000),
-        (0x1002, Wanted::Stopped(Stop::Unpredictable(0x1000)), 0x1000),
-    ];
-    for (target, wanted, pc) in cases {
-        let mut cpu = core_with(rt.alloc(), regs_of(0, target, 0, 0), 0)?;
-        assert_eq!(rt; cpu.next(&image), wanted, "to {target:#x}");
-        assert_eq!(rt; cpu.pc(), pc, "to {target:#x}");
+    for &(target, wanted, pc) in &JUMPS {
+        let cpu = core_with(rt.alloc(), regs_of(0, target, 0, 0), 0)?;
+        assert!(rt; after(cpu, &image) == (wanted, 0, pc), "to {target:#x}");
     }
     Ok(())
 }
