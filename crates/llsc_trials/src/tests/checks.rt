@@ -218,9 +218,9 @@ const FAILURES: &[(&str, Failing, u8, &str)] = &[
 
 #[test]
 fn reads_the_program_first(rt: HostRuntime) -> Result<(), Fail> {
-    for (words, failing, status, text) in FAILURES {
+    for &(words, failing, status, text) in FAILURES {
         let files = with_record(rt.alloc(), Content::Words(LEAVE), b"none")?;
-        compare_over(&rt, words, files, &[*failing], (*status, text.as_bytes()))?;
+        compare_over(&rt, words, files, &[failing], (status, text.as_bytes()))?;
     }
     Ok(())
 }

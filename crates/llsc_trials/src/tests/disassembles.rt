@@ -17,17 +17,15 @@ fn shows_each_word(rt: HostRuntime) -> Result<(), Fail> {
     answer_all(&rt, SHOWN)
 }
 
+/// A host that fails, the status, and how much is written of 2500 lines of 29 bytes each: a page has 2259 of them.
+const PAGES: &[(Failing, u8, usize)] = &[((9, 0), 0, 72_500), ((2, 7), 5, 65_518)];
+
 #[test]
 fn shows_a_page_at_a_time(rt: HostRuntime) -> Result<(), Fail> {
-    // 2500 lines of 29 bytes each: a page has 2259 of them
-    let mut program = Vec::new(rt.alloc());
-    for _ in 0..2500 {
-        program.push(0xe3a0_0000)?;
-    }
-    for (failing, status, length) in [((9, 0), 0, 72_500), ((2, 7), 5, 65_518)] {
-        let file = bytes_of(rt.alloc(), program.as_slice())?;
+    for &(failing, status, length) in PAGES {
+        let file = bytes_of(rt.alloc(), &[0xe3a0_0000; 2500])?;
         let (ended, written) = called(&rt, "dis --flat p", file, &[failing], 100_000)?;
-        same(&rt, (ended, written.len()), (status, length));
+        assert!(rt; ended == status && written.len() == length);
     }
     Ok(())
 }

@@ -30,17 +30,26 @@ const CHANGES: &[(Change, u8, &str)] = &[
     ),
 ];
 
+/// Compares what a run answers to the linked program, changed.
+fn answer<R: Threads + Wait + Sync + AllocGlobal + Abort>(
+    rt: &R,
+    change: Change,
+    status: u8,
+    text: &str,
+) -> Result<(), Fail> {
+    let file = changed(rt.alloc(), change)?;
+    compare(rt, "solo p", file, status, text.as_bytes())
+}
+
 #[test]
 fn answers_hostile_files(rt: HostRuntime) -> Result<(), Fail> {
-    for (first, end, refusal) in CUTS {
-        for length in *first..*end {
-            let file = changed(rt.alloc(), (&[], length))?;
-            compare(&rt, "solo p", file, 4, refusal.as_bytes())?;
+    for &(first, end, refusal) in CUTS {
+        for length in first..end {
+            answer(&rt, (&[], length), 4, refusal)?;
         }
     }
-    for (change, status, text) in CHANGES {
-        let file = changed(rt.alloc(), *change)?;
-        compare(&rt, "solo p", file, *status, text.as_bytes())?;
+    for &(change, status, text) in CHANGES {
+        answer(&rt, change, status, text)?;
     }
     Ok(())
 }
