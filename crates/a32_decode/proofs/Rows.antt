@@ -12,7 +12,7 @@ FollowsRows [] word answer = Unit {0}
 FollowsRows (row ∷ rows) word answer = (Fits row word → Means row word answer) × FollowsRows rows word answer
 
 -- a choice between two answers, by the test that decides it
-chosen : (test : Bool) (answer here there : Result Instr DecodeFault)
+pub chosen : (test : Bool) (answer here there : Result Instr DecodeFault)
     → (IsTrue test → answer ≡ here) → (test ≡ false → answer ≡ there) → answer ≡ (if test then here else there)
 chosen true answer here there fits fails = fits refl
 chosen false answer here there fits fails = fails refl

@@ -13,7 +13,6 @@ use a32_instr::{AluOp, DecodeFault, Instr, Operand2, Reg, ShiftKind};
 /// Data processing with registers, multiplications, exclusives, halfwords and signed bytes: a word whose bits 27:25
 /// are 000 (DDI 0406C A5.2).
 #[inline]
-#[tactic(auto, using(crate::proofs::Halves::half_imm_is_no_product, crate::proofs::Halves::half_reg_is_no_product))]
 pub fn with_registers(word: u32) -> Result<Instr, DecodeFault>
     requires group { bits_of word 25 3 ≡ 0 }
     requires cond { bits_of word 28 4 < 15 }
