@@ -1,16 +1,16 @@
 //! What is shown of an instruction: its mnemonic, and one of the forms of its operands with numbers.
-ghost use Rattle.std.specs.Prelude.{◌≡◌, ◌<◌, ◌≤◌, ◌^◌, IsTrue, false, length};
+ghost use Rattle.std.specs.Prelude.{◌≡◌, ◌<◌, ◌≤◌, ◌^◌, ◌+◌, ◌+ℤ◌, ◌*ℤ◌, pos, IsTrue, false, length, ◌∷◌, []};
 ghost use Rattle.a32_instr.specs.Branch.{target_of};
 ghost use Rattle.a32_instr.specs.Classes.{is_data, is_multiply};
 ghost use Rattle.a32_instr.specs.DataProcessing.{one_if};
 ghost use Rattle.a32_syntax.specs.Classes.{is_single_transfer, is_exclusive_or_barrier};
-ghost use Rattle.a32_syntax.specs.Shown.{load_exclusive_numbers, showing, showing_of, store_exclusive_numbers};
+ghost use Rattle.a32_syntax.specs.Shown.{access_numbers, half_form, load_exclusive_numbers, showing, showing_of, store_exclusive_numbers, word_form};
 
 use crate::operations::{Mnemonic, Operation};
 use crate::shown_accesses::{access_numbers, half_form, word_form};
 use crate::shown_numbers::{Numbers, register};
 use crate::shown_operands::{show_alu_registers, show_operand};
-use a32_instr::{AluOp, Cond, Instr, Operand2, Reg};
+use a32_instr::{AluOp, Cond, HalfKind, Index, Instr, Offset, Operand2, Reg};
 use llsc_base::Size;
 use std::marker::Model;
 
@@ -96,10 +96,78 @@ fn of_registers(operation: Operation, set_flags: bool, cond: Cond, registers: &[
     )
 }
 
+/// An operation of two registers.
+fn of_two(operation: Operation, cond: Cond, first: Reg, second: Reg) -> Showing
+    ensures { result ≡ showing operation false cond 0 (first ∷ second ∷ []) }
+{
+    of_registers(operation, false, cond, &[first, second])
+}
+
+/// An operation of three registers.
+fn of_three(
+    operation: Operation,
+    set_flags: bool,
+    cond: Cond,
+    first: Reg,
+    second: Reg,
+    third: Reg,
+) -> Showing
+    ensures { result ≡ showing operation set_flags cond 0 (first ∷ second ∷ third ∷ []) }
+{
+    of_registers(operation, set_flags, cond, &[first, second, third])
+}
+
+/// An operation of four registers.
+fn of_four(
+    operation: Operation,
+    set_flags: bool,
+    cond: Cond,
+    first: Reg,
+    second: Reg,
+    third: Reg,
+    fourth: Reg,
+) -> Showing
+    ensures { result ≡ showing operation set_flags cond 0 (first ∷ second ∷ third ∷ fourth ∷ []) }
+{
+    of_registers(operation, set_flags, cond, &[first, second, third, fourth])
+}
+
+/// An operation without operands.
+fn alone(operation: Operation, cond: Cond) -> Showing
+    ensures { result ≡ showing operation false cond 0 [] }
+{
+    in_form(operation, false, cond, 0, Numbers::new())
+}
+
+/// An operation of one number.
+fn of_number(operation: Operation, cond: Cond, number: u64) -> Showing
+    ensures { result ≡ showing operation false cond 0 (number ∷ []) }
+{
+    plain(operation, cond, &[number])
+}
+
+/// An operation of a register and a number.
+fn wide_move(operation: Operation, cond: Cond, rd: Reg, imm: u16) -> Showing
+    ensures { result ≡ showing operation false cond 0 (rd ∷ imm ∷ []) }
+{
+    plain(operation, cond, &[register(rd), u64::from(imm)])
+}
+
+/// A load or a store of a block.
+fn block(operation: Operation, cond: Cond, wback: bool, rn: Reg, list: u16) -> Showing
+    ensures { result ≡ showing operation false cond 0 (rn ∷ one_if wback ∷ list ∷ []) }
+{
+    plain(
+        operation,
+        cond,
+        &[register(rn), one_if(wback), u64::from(list)],
+    )
+}
+
 /// Data processing.
 #[tactic(auto, unfolding(crate::specs::Shown::showing_of))]
-fn alu(cond: Cond, op: AluOp, s: bool, rd: Reg, rn: Reg, operand: &Operand2, here: u32) -> Showing
-    ensures { result ≡ showing_of (Instr.Alu cond op s rd rn operand.now) here }
+fn alu(cond: Cond, op: AluOp, s: bool, rd: Reg, rn: Reg, operand: Operand2, here: u32) -> Showing
+    ensures { result ≡ showing_of (Instr.Alu cond op s rd rn operand) here }
 {
     let mut numbers = Numbers::new();
     show_alu_registers(op, rd, rn, &mut numbers);
@@ -128,16 +196,23 @@ fn one_if(set: bool) -> u64
     u64::from(set)
 }
 
+/// So many words from the address of an instruction plus 8.
+fn words_ahead(here: u32, words: i32) -> i64
+    ensures { result ≡ (pos (here + 8) +ℤ (pos 4 *ℤ words)) }
+{
+    i64::from(here) + 8 + 4 * i64::from(words)
+}
+
 /// The address of a branch's target.
 #[tactic(auto, unfolding(a32_instr::specs::Branch::target_of))]
 fn target(here: u32, words: i32) -> u64
     ensures { result ≡ target_of here words }
 {
-    (i64::from(here) + 8 + 4 * i64::from(words)).rem_euclid(0x1_0000_0000) as u64
+    words_ahead(here, words).rem_euclid(0x1_0000_0000) as u64
 }
 
 /// The numbers of a load-exclusive: a doubleword names both of its registers.
-fn load_exclusive(size: Size, rn: Reg, rt: Reg) -> Numbers
+fn load_exclusive_numbers(size: Size, rn: Reg, rt: Reg) -> Numbers
     ensures { result ≡ load_exclusive_numbers size rn rt }
 {
     let (rn, rt) = (register(rn), register(rt));
@@ -148,7 +223,7 @@ fn load_exclusive(size: Size, rn: Reg, rt: Reg) -> Numbers
 }
 
 /// The numbers of a store-exclusive.
-fn store_exclusive(size: Size, rn: Reg, rd: Reg, rt: Reg) -> Numbers
+fn store_exclusive_numbers(size: Size, rn: Reg, rd: Reg, rt: Reg) -> Numbers
     ensures { result ≡ store_exclusive_numbers size rn rd rt }
 {
     let (rn, rd, rt) = (register(rn), register(rd), register(rt));
@@ -158,29 +233,73 @@ fn store_exclusive(size: Size, rn: Reg, rd: Reg, rt: Reg) -> Numbers
     }
 }
 
+/// A load-exclusive.
+fn load_exclusive(cond: Cond, size: Size, rn: Reg, rt: Reg) -> Showing
+    ensures { result ≡ showing (Operation.LoadEx size) false cond 0 (load_exclusive_numbers size rn rt) }
+{
+    let numbers = load_exclusive_numbers(size, rn, rt);
+    in_form(Operation::LoadEx(size), false, cond, 0, numbers)
+}
+
+/// A store-exclusive.
+fn store_exclusive(cond: Cond, size: Size, rn: Reg, rd: Reg, rt: Reg) -> Showing
+    ensures { result ≡ showing (Operation.StoreEx size) false cond 0 (store_exclusive_numbers size rn rd rt) }
+{
+    let numbers = store_exclusive_numbers(size, rn, rd, rt);
+    in_form(Operation::StoreEx(size), false, cond, 0, numbers)
+}
+
+/// A load or a store of a word or a byte.
+fn word_access(
+    operation: Operation,
+    cond: Cond,
+    index: Index,
+    rn: Reg,
+    rt: Reg,
+    offset: &Offset,
+) -> Showing
+    ensures { result ≡ showing operation false cond (word_form index offset.now) (access_numbers index offset.now rt rn) }
+{
+    let form = word_form(index, offset);
+    let numbers = access_numbers(index, offset, rt, rn);
+    in_form(operation, false, cond, form, numbers)
+}
+
+/// A load or a store of a halfword, or a load of a signed byte.
+fn half_access(
+    kind: HalfKind,
+    cond: Cond,
+    index: Index,
+    rn: Reg,
+    rt: Reg,
+    offset: &Offset,
+) -> Showing
+    ensures { result ≡ showing (Operation.Half kind) false cond (half_form index offset.now) (access_numbers index offset.now rt rn) }
+{
+    let form = half_form(index, offset);
+    let numbers = access_numbers(index, offset, rt, rn);
+    in_form(Operation::Half(kind), false, cond, form, numbers)
+}
+
 /// Data processing, MOVW and MOVT, CLZ, REV and the extends (DDI 0406C A5.2, A5.4).
 #[tactic(auto, unfolding(crate::specs::Shown::showing_of))]
-fn data(instruction: &Instr, here: u32) -> Showing
-    requires { IsTrue (is_data instruction.now) }
-    ensures { result ≡ showing_of instruction.now here }
+fn data(instruction: Instr, here: u32) -> Showing
+    requires { IsTrue (is_data instruction) }
+    ensures { result ≡ showing_of instruction here }
 {
-    match *instruction {
+    match instruction {
         Instr::Alu {
             cond,
             op,
             s,
             rd,
             rn,
-            ref operand,
+            operand,
         } => alu(cond, op, s, rd, rn, operand, here),
-        Instr::Movw { cond, rd, imm } => {
-            plain(Operation::Movw, cond, &[register(rd), u64::from(imm)])
-        }
-        Instr::Movt { cond, rd, imm } => {
-            plain(Operation::Movt, cond, &[register(rd), u64::from(imm)])
-        }
-        Instr::Clz { cond, rd, rm } => of_registers(Operation::Clz, false, cond, &[rd, rm]),
-        Instr::Rev { cond, rd, rm } => of_registers(Operation::Rev, false, cond, &[rd, rm]),
+        Instr::Movw { cond, rd, imm } => wide_move(Operation::Movw, cond, rd, imm),
+        Instr::Movt { cond, rd, imm } => wide_move(Operation::Movt, cond, rd, imm),
+        Instr::Clz { cond, rd, rm } => of_two(Operation::Clz, cond, rd, rm),
+        Instr::Rev { cond, rd, rm } => of_two(Operation::Rev, cond, rd, rm),
         Instr::Extend {
             cond,
             unsigned,
@@ -195,18 +314,18 @@ fn data(instruction: &Instr, here: u32) -> Showing
 
 /// Multiplications (DDI 0406C A5.2.5).
 #[tactic(auto, unfolding(crate::specs::Shown::showing_of))]
-fn multiplication(instruction: &Instr, here: u32) -> Showing
-    requires { IsTrue (is_multiply instruction.now) }
-    ensures { result ≡ showing_of instruction.now here }
+fn multiplication(instruction: Instr, here: u32) -> Showing
+    requires { IsTrue (is_multiply instruction) }
+    ensures { result ≡ showing_of instruction here }
 {
-    match *instruction {
+    match instruction {
         Instr::Mul {
             cond,
             s,
             rd,
             rn,
             rm,
-        } => of_registers(Operation::Mul, s, cond, &[rd, rn, rm]),
+        } => of_three(Operation::Mul, s, cond, rd, rn, rm),
         Instr::Mla {
             cond,
             s,
@@ -214,14 +333,14 @@ fn multiplication(instruction: &Instr, here: u32) -> Showing
             rn,
             rm,
             ra,
-        } => of_registers(Operation::Mla, s, cond, &[rd, rn, rm, ra]),
+        } => of_four(Operation::Mla, s, cond, rd, rn, rm, ra),
         Instr::Mls {
             cond,
             rd,
             rn,
             rm,
             ra,
-        } => of_registers(Operation::Mls, false, cond, &[rd, rn, rm, ra]),
+        } => of_four(Operation::Mls, false, cond, rd, rn, rm, ra),
         Instr::Long {
             cond,
             kind,
@@ -230,18 +349,18 @@ fn multiplication(instruction: &Instr, here: u32) -> Showing
             hi,
             rn,
             rm,
-        } => of_registers(Operation::Long(kind), s, cond, &[lo, hi, rn, rm]),
+        } => of_four(Operation::Long(kind), s, cond, lo, hi, rn, rm),
         _ => unreachable!(),
     }
 }
 
 /// Loads and stores of one register that aren't exclusive (DDI 0406C A5.2.8, A5.3).
 #[tactic(auto, unfolding(crate::specs::Shown::showing_of))]
-fn access(instruction: &Instr, here: u32) -> Showing
-    requires { IsTrue (is_single_transfer instruction.now) }
-    ensures { result ≡ showing_of instruction.now here }
+fn access(instruction: Instr, here: u32) -> Showing
+    requires { IsTrue (is_single_transfer instruction) }
+    ensures { result ≡ showing_of instruction here }
 {
-    match *instruction {
+    match instruction {
         Instr::Word {
             cond,
             load,
@@ -249,52 +368,38 @@ fn access(instruction: &Instr, here: u32) -> Showing
             index,
             rn,
             rt,
-            ref offset,
-        } => {
-            let form = word_form(index, offset);
-            let numbers = access_numbers(index, offset, rt, rn);
-            in_form(Operation::Word { load, byte }, false, cond, form, numbers)
-        }
+            offset,
+        } => word_access(Operation::Word { load, byte }, cond, index, rn, rt, &offset),
         Instr::Half {
             cond,
             kind,
             index,
             rn,
             rt,
-            ref offset,
-        } => {
-            let form = half_form(index, offset);
-            let numbers = access_numbers(index, offset, rt, rn);
-            in_form(Operation::Half(kind), false, cond, form, numbers)
-        }
+            offset,
+        } => half_access(kind, cond, index, rn, rt, &offset),
         _ => unreachable!(),
     }
 }
 
 /// Exclusives, CLREX and the barriers (DDI 0406C A5.2.10, A5.7.1).
 #[tactic(auto, unfolding(crate::specs::Shown::showing_of))]
-fn synchronization(instruction: &Instr, here: u32) -> Showing
-    requires { IsTrue (is_exclusive_or_barrier instruction.now) }
-    ensures { result ≡ showing_of instruction.now here }
+fn synchronization(instruction: Instr, here: u32) -> Showing
+    requires { IsTrue (is_exclusive_or_barrier instruction) }
+    ensures { result ≡ showing_of instruction here }
 {
-    match *instruction {
-        Instr::LoadEx { cond, size, rn, rt } => {
-            let numbers = load_exclusive(size, rn, rt);
-            in_form(Operation::LoadEx(size), false, cond, 0, numbers)
-        }
+    match instruction {
+        Instr::LoadEx { cond, size, rn, rt } => load_exclusive(cond, size, rn, rt),
         Instr::StoreEx {
             cond,
             size,
             rn,
             rd,
             rt,
-        } => {
-            let numbers = store_exclusive(size, rn, rd, rt);
-            in_form(Operation::StoreEx(size), false, cond, 0, numbers)
-        }
-        Instr::Clrex => plain(Operation::Clrex, Cond::ALWAYS, &[]),
+        } => store_exclusive(cond, size, rn, rd, rt),
+        Instr::Clrex => alone(Operation::Clrex, Cond::ALWAYS),
         Instr::Barrier { kind, option } => {
-            plain(Operation::Barrier(kind), Cond::ALWAYS, &[u64::from(option)])
+            of_number(Operation::Barrier(kind), Cond::ALWAYS, u64::from(option))
         }
         _ => unreachable!(),
     }
@@ -302,10 +407,10 @@ fn synchronization(instruction: &Instr, here: u32) -> Showing
 
 /// What is shown of an instruction at an address.
 #[tactic(auto, unfolding(crate::specs::Shown::showing_of))]
-pub fn showing_of(instruction: &Instr, here: u32) -> Showing
-    ensures { result ≡ showing_of instruction.now here }
+pub fn showing_of(instruction: Instr, here: u32) -> Showing
+    ensures { result ≡ showing_of instruction here }
 {
-    match *instruction {
+    match instruction {
         Instr::Alu { .. }
         | Instr::Movw { .. }
         | Instr::Movt { .. }
@@ -317,8 +422,8 @@ pub fn showing_of(instruction: &Instr, here: u32) -> Showing
         Instr::Word { .. } | Instr::Half { .. } => access(instruction, here),
         Instr::LoadEx { .. } | Instr::StoreEx { .. } | Instr::Clrex | Instr::Barrier { .. } =>
             synchronization(instruction, here),
-        Instr::Nop { cond } => plain(Operation::Nop, cond, &[]),
-        Instr::Yield { cond } => plain(Operation::Yield, cond, &[]),
+        Instr::Nop { cond } => alone(Operation::Nop, cond),
+        Instr::Yield { cond } => alone(Operation::Yield, cond),
         Instr::Block {
             cond,
             load,
@@ -327,16 +432,13 @@ pub fn showing_of(instruction: &Instr, here: u32) -> Showing
             wback,
             rn,
             list,
-        } => {
-            let numbers = [register(rn), one_if(wback), u64::from(list)];
-            plain(Operation::Block { load, before, up }, cond, &numbers)
-        }
+        } => block(Operation::Block { load, before, up }, cond, wback, rn, list),
         Instr::Branch { cond, link, words } => {
-            plain(Operation::Branch { link }, cond, &[target(here, words)])
+            of_number(Operation::Branch { link }, cond, target(here, words))
         }
         Instr::BranchReg { cond, link, rm } => {
-            plain(Operation::BranchReg { link }, cond, &[register(rm)])
+            of_number(Operation::BranchReg { link }, cond, register(rm))
         }
-        Instr::Svc { cond, imm } => plain(Operation::Svc, cond, &[u64::from(imm)]),
+        Instr::Svc { cond, imm } => of_number(Operation::Svc, cond, u64::from(imm)),
     }
 }

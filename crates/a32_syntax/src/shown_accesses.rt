@@ -4,7 +4,7 @@ ghost use Rattle.a32_syntax.specs.Shown.{access_numbers, exclamation_of, half_fo
 
 use crate::shown_numbers::{Numbers, register};
 use crate::shown_operands::{bits_shown, is_through_carry, is_unshifted, shift_number};
-use a32_instr::{Index, Offset, Reg};
+use a32_instr::{Index, Offset, Reg, ShiftKind};
 
 /// The number of the `-`.
 fn minus_of(add: bool) -> u64
@@ -70,6 +70,27 @@ pub fn half_form(index: Index, offset: &Offset) -> usize
     }
 }
 
+/// Adds the numbers of an offset that is a number behind the others.
+fn show_number(add: bool, imm: u16, numbers: &mut Numbers)
+    requires { length numbers.old ≤ 2 }
+    ensures { numbers.new ≡ numbers.old ++ offset_numbers (Offset.Imm add imm) }
+{
+    numbers.extend(&[minus_of(add), u64::from(imm)]);
+}
+
+/// Adds the numbers of an offset that is a register behind the others.
+fn show_shifted(add: bool, rm: Reg, kind: ShiftKind, amount: u8, numbers: &mut Numbers)
+    requires { length numbers.old ≤ 2 }
+    ensures { numbers.new ≡ numbers.old ++ offset_numbers (Offset.Shifted add rm kind amount) }
+{
+    if is_unshifted(kind, amount) || is_through_carry(kind, amount) {
+        numbers.extend(&[minus_of(add), register(rm)]);
+        return;
+    }
+    let shift = shift_number(kind);
+    numbers.extend(&[minus_of(add), register(rm), shift, bits_shown(amount)]);
+}
+
 /// Adds the numbers of an offset behind the others.
 fn show_offset(offset: &Offset, numbers: &mut Numbers)
     requires { length numbers.old ≤ 2 }
@@ -77,24 +98,13 @@ fn show_offset(offset: &Offset, numbers: &mut Numbers)
     ensures bound { length numbers.new ≤ length numbers.old + 4 }
 {
     match *offset {
-        Offset::Imm { add, imm } => {
-            numbers.push(minus_of(add));
-            numbers.push(u64::from(imm));
-        }
+        Offset::Imm { add, imm } => show_number(add, imm, numbers),
         Offset::Shifted {
             add,
             rm,
             kind,
             amount,
-        } => {
-            numbers.push(minus_of(add));
-            numbers.push(register(rm));
-            if is_unshifted(kind, amount) || is_through_carry(kind, amount) {
-                return;
-            }
-            numbers.push(shift_number(kind));
-            numbers.push(bits_shown(amount));
-        }
+        } => show_shifted(add, rm, kind, amount, numbers),
     }
 }
 

@@ -1,5 +1,5 @@
 //! The numbers that stand at the signs of a form as it is shown.
-ghost use Rattle.std.specs.Prelude.{◌≡◌, ◌<◌, ◌≤◌, ◌++◌, ◌∷◌, [], length};
+ghost use Rattle.std.specs.Prelude.{◌≡◌, ◌+◌, ◌<◌, ◌≤◌, ◌++◌, ◌∷◌, [], length};
 
 use a32_forms::MOST_NUMBERS;
 use a32_instr::Reg;
@@ -36,9 +36,7 @@ impl Numbers {
         ensures { result ≡ numbers.now }
     {
         let mut all = Numbers::new();
-        for number in numbers {
-            all.push(*number);
-        }
+        all.extend(numbers);
         all
     }
 
@@ -60,6 +58,16 @@ impl Numbers {
         ensures { self.new ≡ self.old ++ number ∷ [] }
     {
         self.items.push(number);
+    }
+
+    /// Adds numbers behind the others.
+    pub fn extend(&mut self, more: &[u64])
+        requires { length self.old + length more.now ≤ 8 }
+        ensures { self.new ≡ self.old ++ more.now }
+    {
+        let Ok(()) = self.items.try_extend_from_slice(more) else {
+            unreachable!()
+        };
     }
 
     /// The numbers in order, at most 8.

@@ -55,33 +55,47 @@ fn show_immediate(turn: u8, imm8: u8, numbers: &mut Numbers) -> usize
     1
 }
 
+/// Adds the numbers of a register that is shifted by a number behind the others, and tells its form.
+#[tactic(auto, unfolding(crate::specs::Shown::operand_form, crate::specs::Shown::operand_numbers))]
+fn show_shifted(rm: Reg, kind: ShiftKind, amount: u8, numbers: &mut Numbers) -> usize
+    requires { length numbers.old ≤ 5 }
+    ensures form { result ≡ operand_form (Operand2.ByNum rm kind amount) }
+    ensures numbers { numbers.new ≡ numbers.old ++ operand_numbers (Operand2.ByNum rm kind amount) }
+{
+    if is_unshifted(kind, amount) {
+        numbers.push(register(rm));
+        return 2;
+    }
+    if is_through_carry(kind, amount) {
+        numbers.push(register(rm));
+        return 4;
+    }
+    numbers.extend(&[register(rm), shift_number(kind), bits_shown(amount)]);
+    3
+}
+
+/// Adds the numbers of a register that is shifted by another behind the others, and tells its form.
+#[tactic(auto, unfolding(crate::specs::Shown::operand_form, crate::specs::Shown::operand_numbers))]
+fn show_shifted_by_register(rm: Reg, kind: ShiftKind, rs: Reg, numbers: &mut Numbers) -> usize
+    requires { length numbers.old ≤ 5 }
+    ensures form { result ≡ operand_form (Operand2.ByReg rm kind rs) }
+    ensures numbers { numbers.new ≡ numbers.old ++ operand_numbers (Operand2.ByReg rm kind rs) }
+{
+    numbers.extend(&[register(rm), shift_number(kind), register(rs)]);
+    5
+}
+
 /// Adds the numbers of a second operand behind the others, and tells its form among those of an operation.
 #[tactic(auto, unfolding(crate::specs::Shown::operand_form, crate::specs::Shown::operand_numbers))]
-pub fn show_operand(operand: &Operand2, numbers: &mut Numbers) -> usize
+pub fn show_operand(operand: Operand2, numbers: &mut Numbers) -> usize
     requires { length numbers.old ≤ 5 }
-    ensures form { result ≡ operand_form operand.now }
-    ensures numbers { numbers.new ≡ numbers.old ++ operand_numbers operand.now }
+    ensures form { result ≡ operand_form operand }
+    ensures numbers { numbers.new ≡ numbers.old ++ operand_numbers operand }
 {
-    match *operand {
+    match operand {
         Operand2::Imm { turn, imm8 } => show_immediate(turn, imm8, numbers),
-        Operand2::ByNum { rm, kind, amount } => {
-            numbers.push(register(rm));
-            if is_unshifted(kind, amount) {
-                return 2;
-            }
-            if is_through_carry(kind, amount) {
-                return 4;
-            }
-            numbers.push(shift_number(kind));
-            numbers.push(bits_shown(amount));
-            3
-        }
-        Operand2::ByReg { rm, kind, rs } => {
-            numbers.push(register(rm));
-            numbers.push(shift_number(kind));
-            numbers.push(register(rs));
-            5
-        }
+        Operand2::ByNum { rm, kind, amount } => show_shifted(rm, kind, amount, numbers),
+        Operand2::ByReg { rm, kind, rs } => show_shifted_by_register(rm, kind, rs, numbers),
     }
 }
 
@@ -99,6 +113,5 @@ pub fn show_alu_registers(op: AluOp, rd: Reg, rn: Reg, numbers: &mut Numbers)
         numbers.push(register(rd));
         return;
     }
-    numbers.push(register(rd));
-    numbers.push(register(rn));
+    numbers.extend(&[register(rd), register(rn)]);
 }

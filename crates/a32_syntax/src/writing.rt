@@ -99,7 +99,7 @@ pub fn write_instruction(instruction: &Instr, here: u32, line: &mut Line)
     requires room { length line.old + 83 ≤ 96 }
     ensures { line.new ≡ line.old ++ instruction_text instruction.now here }
 {
-    let shown = showing_of(instruction, here);
+    let shown = showing_of(*instruction, here);
     let mnemonic = shown.mnemonic();
     let form = form_in(operands_of(mnemonic.operation), shown.form());
     write_mnemonic(line, mnemonic);
