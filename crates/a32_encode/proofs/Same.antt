@@ -1,6 +1,6 @@
 -- Instructions that the derived `==` finds equal are the same: their fields are, one after the other.
 use Rattle.std.proofs.Common.{rules, ◌≡◌, ◌==◌, Bool, true, false, ◌&&◌, refl}
-use Rattle.std.proofs.lemmas.Bool.{eqb-true}
+use Rattle.std.proofs.lemmas.Bool.{both_ways, eqb-true}
 use Rattle.std.specs.Bool.{beq}
 use Rattle.a32_instr.specs.declared.instructions.AluOp.{AluOp}
 use Rattle.a32_instr.specs.contracts.instructions.AluOpPartialEq.TheImpl as op_eq
@@ -144,7 +144,7 @@ equal_is_same (LoadEx cond size rn rt) (LoadEx cond' size' rn' rt') e = search (
 equal_is_same (StoreEx cond size rn rd rt) (StoreEx cond' size' rn' rd' rt') e = search (same_size, rules)
 equal_is_same Clrex Clrex e = refl
 equal_is_same (Barrier kind option) (Barrier kind' option') e = search (same_barrier, rules)
-equal_is_same one it e = cc
+equal_is_same one it e = absurd (both_ways false refl e)
 
 -- and it finds the same equal
 pub same_is_equal : (one it : Instr) → it ≡ one → instr_eq.eq-value.it it one ≡ true
