@@ -1,5 +1,5 @@
 /// What a statement is, by how it begins.
-#[derive(Clone, Copy, Debug, PartialEq, Eq)]
+#[derive(Clone, Copy)]
 pub enum Head {
     /// Nothing: the line is empty, or has a label or a comment alone.
     Nothing,

@@ -17,7 +17,7 @@ use std::alloc::{AllocError, Global};
 
 /// A place between two lines: the section, the code words and the data bytes before it, and the space, with
 /// whether there was any, also of no bytes. Counts are taken modulo 2 to the 64.
-#[derive(Clone, Copy, Debug, PartialEq, Eq)]
+#[derive(Clone, Copy)]
 pub struct Spot {
     pub in_data: bool,
     pub words: u64,

@@ -21,7 +21,7 @@ use a32_syntax::{AsmKind, Labels, instruction_of, mnemonic_of};
 use llsc_base::CODE_START;
 
 /// What a line adds to a program.
-#[derive(Clone, Copy, Debug, PartialEq, Eq)]
+#[derive(Clone, Copy)]
 pub enum Added {
     Nothing,
     /// A word of the code.

@@ -9,7 +9,7 @@ use std::cmp::Ordering;
 
 /// Where a label stands: in the text, by how many bytes are before its name, and in the program, by its section and by how
 /// many bytes of the section are before it, modulo 2 to the 32.
-#[derive(Clone, Copy, Debug, PartialEq, Eq)]
+#[derive(Clone, Copy)]
 pub struct LabelPlace {
     pub at: usize,
     pub in_data: bool,

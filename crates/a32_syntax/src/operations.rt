@@ -3,7 +3,7 @@ use llsc_base::Size;
 
 /// What the base of a mnemonic names: the instructions that differ in nothing but their operands, the
 /// condition, and whether they set the flags.
-#[derive(Clone, Copy)]
+#[derive(Clone, Copy, Debug, PartialEq, Eq)]
 pub enum Operation {
     Alu(AluOp),
     Movw,
@@ -30,7 +30,7 @@ pub enum Operation {
 }
 
 /// A mnemonic: an operation, whether `s` says that it sets the flags, and its condition.
-#[derive(Clone, Copy)]
+#[derive(Clone, Copy, Debug, PartialEq, Eq)]
 pub struct Mnemonic {
     pub operation: Operation,
     pub set_flags: bool,
