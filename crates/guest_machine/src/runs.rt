@@ -65,10 +65,7 @@ fn gather<M: SharedMemory>(mem: &M, ran: Ran<M::Pass>, done: Finished<M::Pass>) 
     let Ran { mut pass, mut ends } = ran;
     let Finished { pass: other, end } = done;
     mem.join(&mut pass, other);
-    match ends.push(end) {
-        Ok(()) => {}
-        Err(_) => {}
-    }
+    ends.push_reserved(end);
     Ran { pass, ends }
 }
 
@@ -81,10 +78,7 @@ fn begin<P>(done: Finished<P>, mut ends: Vec<GuestEnd>) -> Ran<P>
     ensures capacity { vec_capacity ends ≤ vec_capacity result.ends }
 {
     let Finished { pass, end } = done;
-    match ends.push(end) {
-        Ok(()) => {}
-        Err(_) => {}
-    }
+    ends.push_reserved(end);
     Ran { pass, ends }
 }
 
