@@ -182,11 +182,11 @@ fn logs_of<M: Tried, R: Threads + Wait + Sync>(
     ensures { IfOk result (λ t. vec_len t.0 ≡ size.now.threads) }
 {
     let threads = size.threads();
+    let logs = Vec::with_capacity(alloc, threads as usize)?;
+    let log = room(alloc, threads)?;
     let (memory, mut pass) = zeros::<M>(alloc, size)?;
     let others = others(alloc, &memory, &mut pass, threads)?;
-    let first = (room(alloc, threads)?, pass);
-    let logs = Vec::with_capacity(alloc, threads as usize)?;
-    let Ran { logs, pass } = log_all(rt, &memory, first, others, logs);
+    let Ran { logs, pass } = log_all(rt, &memory, (log, pass), others, logs);
     let (rows, story) = memory.close(pass);
     drop(story);
     Ok((logs, rows))
@@ -219,7 +219,7 @@ fn plain(alloc: Global, size: &MachineSize) -> Result<PlainMemory, Fail>
     requires { size.now.mem ≡ 65536 }
     ensures { IfOk result (IsFor size.now.threads) }
 {
-    let bytes = vec![in alloc; 0; 65_536]?;
+    let bytes = vec![in alloc; 0; size.mem() as usize]?;
     Ok(PlainMemory::sized(alloc, bytes.as_slice(), size)?)
 }
 
