@@ -50,40 +50,56 @@ fn number(text: Option<&str>) -> Result<u32, Fail> {
     Ok(u32::from_str_radix(text.ok_or("a row is short")?, 16)?)
 }
 
-/// Whether the core does what a row says.
-fn agrees(alloc: Global, row: &str) -> Result<bool, Fail> {
-    if row.starts_with(';') {
-        return Ok(true);
-    }
-    let mut words = row.split_whitespace();
-    let word = number(words.next())?;
-    let regs = regs_of(
-        number(words.next())?,
-        number(words.next())?,
-        number(words.next())?,
-        number(words.next())?,
-    );
-    let flags = number(words.next())?;
-    let after = After {
-        r0: number(words.next())?,
-        r1: number(words.next())?,
-        flags: number(words.next())?,
-    };
-    let image = image_of(alloc, word)?;
-    for flags in reachable(flags) {
-        if !comes_to(core_with(alloc, regs, flags)?, &image, after) {
-            return Ok(false);
-        }
-    }
-    Ok(true)
-}
-
 /// What a row says of a core after its instruction.
 #[derive(Clone, Copy)]
 struct After {
     r0: u32,
     r1: u32,
     flags: u32,
+}
+
+/// A row: the instruction, the core before it, and the core after it.
+#[derive(Clone, Copy)]
+struct Row {
+    word: u32,
+    regs: [u32; 15],
+    flags: u32,
+    after: After,
+}
+
+/// What the text of a row says.
+fn row_of(text: &str) -> Result<Row, Fail> {
+    let mut words = text.split_whitespace();
+    Ok(Row {
+        word: number(words.next())?,
+        regs: regs_of(
+            number(words.next())?,
+            number(words.next())?,
+            number(words.next())?,
+            number(words.next())?,
+        ),
+        flags: number(words.next())?,
+        after: After {
+            r0: number(words.next())?,
+            r1: number(words.next())?,
+            flags: number(words.next())?,
+        },
+    })
+}
+
+/// Whether the core does what a row says.
+fn agrees(alloc: Global, text: &str) -> Result<bool, Fail> {
+    if text.starts_with(';') {
+        return Ok(true);
+    }
+    let row = row_of(text)?;
+    let image = image_of(alloc, row.word)?;
+    for flags in reachable(row.flags) {
+        if !comes_to(core_with(alloc, row.regs, flags)?, &image, row.after) {
+            return Ok(false);
+        }
+    }
+    Ok(true)
 }
 
 /// Whether a core's next instruction is complete, and leaves it so.

@@ -38,8 +38,15 @@ fn gives_back_words_of_each_class(rt: HostRuntime) {
     }
 }
 
-/// The answer for an instruction that no word means.
-const NONE: Result<u32, EncodeFault> = Err(EncodeFault::NoEncoding);
+/// Whether an instruction is encoded as this word.
+fn is_word(instr: &Instr, word: u32) -> bool {
+    encode(instr) == Ok(word)
+}
+
+/// Whether no word means the instruction.
+fn has_no_word(instr: &Instr) -> bool {
+    encode(instr) == Err(EncodeFault::NoEncoding)
+}
 
 fn r(num: u8) -> Reg
     requires { num < 16 }
@@ -94,55 +101,52 @@ fn gives_words_at_the_ends_of_fields(rt: HostRuntime) {
         turn: 15,
         imm8: 255,
     };
-    assert_eq!(rt;
-        encode(&operation(AluOp::Mov, false, 0, 0, number)),
-        Ok(0xE3A00FFF)
-    );
-    assert_eq!(rt; encode(&branch(0x7F_FFFF)), Ok(0xEA7FFFFF));
-    assert_eq!(rt; encode(&branch(-0x80_0000)), Ok(0xEA800000));
+    assert!(rt; is_word(&operation(AluOp::Mov, false, 0, 0, number), 0xE3A00FFF));
+    assert!(rt; is_word(&branch(0x7F_FFFF), 0xEA7FFFFF));
+    assert!(rt; is_word(&branch(-0x80_0000), 0xEA800000));
     let offset = Offset::Imm {
         add: true,
         imm: 255,
     };
-    assert_eq!(rt; encode(&ldrh(0, offset)), Ok(0xE1D10FBF));
+    assert!(rt; is_word(&ldrh(0, offset), 0xE1D10FBF));
     let barrier = Instr::Barrier {
         kind: BarrierKind::Isb,
         option: 15,
     };
-    assert_eq!(rt; encode(&barrier), Ok(0xF57FF06F));
+    assert!(rt; is_word(&barrier, 0xF57FF06F));
 }
 
 /// Fields that have no room for their number, and fields that together are no instruction.
 #[test]
 fn gives_no_word_where_there_is_none(rt: HostRuntime) {
     let turned = Operand2::Imm { turn: 16, imm8: 0 };
-    assert_eq!(rt; encode(&operation(AluOp::Mov, false, 0, 0, turned)), NONE);
-    assert_eq!(rt; encode(&operation(AluOp::Cmp, false, 0, 0, one())), NONE);
-    assert_eq!(rt; encode(&operation(AluOp::Mov, false, 0, 1, one())), NONE);
-    assert_eq!(rt; encode(&operation(AluOp::Add, true, 15, 0, one())), NONE);
-    assert_eq!(rt; encode(&branch(0x80_0000)), NONE);
-    assert_eq!(rt; encode(&branch(-0x80_0001)), NONE);
+    assert!(rt; has_no_word(&operation(AluOp::Mov, false, 0, 0, turned)));
+    assert!(rt; has_no_word(&operation(AluOp::Cmp, false, 0, 0, one())));
+    assert!(rt; has_no_word(&operation(AluOp::Mov, false, 0, 1, one())));
+    assert!(rt; has_no_word(&operation(AluOp::Add, true, 15, 0, one())));
+    assert!(rt; has_no_word(&branch(0x80_0000)));
+    assert!(rt; has_no_word(&branch(-0x80_0001)));
     let offset = Offset::Imm {
         add: true,
         imm: 256,
     };
-    assert_eq!(rt; encode(&ldrh(0, offset)), NONE);
-    assert_eq!(rt; encode(&ldrh(15, Offset::Imm { add: true, imm: 0 })), NONE);
+    assert!(rt; has_no_word(&ldrh(0, offset)));
+    assert!(rt; has_no_word(&ldrh(15, Offset::Imm { add: true, imm: 0 })));
     let call = Instr::Svc {
         cond: Cond::ALWAYS,
         imm: 0x100_0000,
     };
-    assert_eq!(rt; encode(&call), NONE);
+    assert!(rt; has_no_word(&call));
     let largest = Instr::Svc {
         cond: Cond::ALWAYS,
         imm: 0xffff_ffff,
     };
-    assert_eq!(rt; encode(&largest), NONE);
+    assert!(rt; has_no_word(&largest));
     let barrier = Instr::Barrier {
         kind: BarrierKind::Dmb,
         option: 16,
     };
-    assert_eq!(rt; encode(&barrier), NONE);
+    assert!(rt; has_no_word(&barrier));
 }
 
 #[test]
