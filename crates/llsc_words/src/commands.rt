@@ -1,12 +1,52 @@
 //! The commands, each with its options and files.
 ghost use Rattle.std.specs.Prelude.{◌≡◌, IfOk, codes};
-ghost use Rattle.clap.specs.Words.{app_of};
-ghost use Rattle.llsc_words.specs.Commands.{app_by, asm_app, check_app, dis_app, load_app, machine_app, program_app, run_app, solo_app, trace_app};
+ghost use Rattle.clap.specs.Words.{app_of, with_rule};
+ghost use Rattle.llsc_words.specs.Commands.{app_by, asm_app, check_app, dis_app, file, flat, load_app, machine_app, option_rule, plain_app, positional_rule, program_app, run_app, solo_app, trace_app};
 
 use crate::arguments::{flag, option, plain, positional};
 use crate::names::CommandName;
 use clap::Command;
 use std::alloc::{AllocError, Global};
+
+/// The command with an option more.
+fn with_option<'a>(
+    alloc: Global,
+    command: Command<'a>,
+    name: &'a str,
+) -> Result<Command<'a>, AllocError>
+    ensures { IfOk result (λ more. app_of more ≡ with_rule (app_of command.entry) (option_rule name.entry.now)) }
+{
+    command.arg(option(alloc, name))
+}
+
+/// The command with two options more.
+fn with_two_options<'a>(
+    alloc: Global,
+    command: Command<'a>,
+    first: &'a str,
+    second: &'a str,
+) -> Result<Command<'a>, AllocError>
+    ensures { IfOk result (λ more. app_of more ≡
+        with_rule (with_rule (app_of command.entry) (option_rule first.entry.now)) (option_rule second.entry.now)) }
+{
+    let command = with_option(alloc, command, first)?;
+    with_option(alloc, command, second)
+}
+
+/// The command with three options more.
+fn with_three_options<'a>(
+    alloc: Global,
+    command: Command<'a>,
+    first: &'a str,
+    second: &'a str,
+    third: &'a str,
+) -> Result<Command<'a>, AllocError>
+    ensures { IfOk result (λ more. app_of more ≡
+        with_rule (with_rule (with_rule (app_of command.entry) (option_rule first.entry.now)) (option_rule second.entry.now)) (option_rule third.entry.now)) }
+{
+    let command = with_two_options(alloc, command, first, second)?;
+    with_option(alloc, command, third)
+}
 
 /// A command that has a program's file, and its format.
 fn program<'a>(alloc: Global, name: &'a str) -> Result<Command<'a>, AllocError>
@@ -21,10 +61,7 @@ fn program<'a>(alloc: Global, name: &'a str) -> Result<Command<'a>, AllocError>
 fn machine<'a>(alloc: Global, name: &'a str) -> Result<Command<'a>, AllocError>
     ensures { IfOk result (λ command. app_of command ≡ machine_app name.entry.now) }
 {
-    program(alloc, name)?
-        .arg(option(alloc, "threads"))?
-        .arg(option(alloc, "mem"))?
-        .arg(option(alloc, "granule"))
+    with_three_options(alloc, program(alloc, name)?, "threads", "mem", "granule")
 }
 
 /// `solo`: runs one thread.
@@ -32,9 +69,7 @@ fn machine<'a>(alloc: Global, name: &'a str) -> Result<Command<'a>, AllocError>
 fn solo<'a>(alloc: Global) -> Result<Command<'a>, AllocError>
     ensures { IfOk result (λ command. app_of command ≡ solo_app) }
 {
-    program(alloc, "solo")?
-        .arg(option(alloc, "mem"))?
-        .arg(option(alloc, "budget"))
+    with_two_options(alloc, program(alloc, "solo")?, "mem", "budget")
 }
 
 /// `asm`: makes a file of a text.
@@ -58,10 +93,7 @@ fn dis<'a>(alloc: Global) -> Result<Command<'a>, AllocError>
 fn run<'a>(alloc: Global) -> Result<Command<'a>, AllocError>
     ensures { IfOk result (λ command. app_of command ≡ run_app) }
 {
-    machine(alloc, "run")?
-        .arg(option(alloc, "classes"))?
-        .arg(option(alloc, "limit"))?
-        .arg(option(alloc, "budget"))
+    with_three_options(alloc, machine(alloc, "run")?, "classes", "limit", "budget")
 }
 
 /// `trace`: records a run of all threads.
@@ -69,9 +101,16 @@ fn run<'a>(alloc: Global) -> Result<Command<'a>, AllocError>
 fn trace<'a>(alloc: Global) -> Result<Command<'a>, AllocError>
     ensures { IfOk result (λ command. app_of command ≡ trace_app) }
 {
-    machine(alloc, "trace")?
-        .arg(option(alloc, "seed"))?
-        .arg(option(alloc, "budget"))
+    with_two_options(alloc, machine(alloc, "trace")?, "seed", "budget")
+}
+
+/// A command that has a program's file and a record's.
+fn two_files<'a>(alloc: Global, name: &'a str) -> Result<Command<'a>, AllocError>
+    ensures { IfOk result (λ command. app_of command ≡ with_rule (with_rule (plain_app name.entry.now) file) (positional_rule (codes "RECORD"))) }
+{
+    plain(alloc, name)
+        .arg(positional(alloc, "FILE"))?
+        .arg(positional(alloc, "RECORD"))
 }
 
 /// `check`: checks a record.
@@ -79,11 +118,8 @@ fn trace<'a>(alloc: Global) -> Result<Command<'a>, AllocError>
 fn check<'a>(alloc: Global) -> Result<Command<'a>, AllocError>
     ensures { IfOk result (λ command. app_of command ≡ check_app) }
 {
-    plain(alloc, "check")
-        .arg(positional(alloc, "FILE"))?
-        .arg(positional(alloc, "RECORD"))?
-        .arg(flag(alloc, "flat"))?
-        .arg(option(alloc, "mem"))
+    let command = two_files(alloc, "check")?.arg(flag(alloc, "flat"))?;
+    with_option(alloc, command, "mem")
 }
 
 /// `load`: runs the counter guest of a seed.
@@ -91,11 +127,8 @@ fn check<'a>(alloc: Global) -> Result<Command<'a>, AllocError>
 fn load<'a>(alloc: Global) -> Result<Command<'a>, AllocError>
     ensures { IfOk result (λ command. app_of command ≡ load_app) }
 {
-    plain(alloc, "load")
-        .arg(positional(alloc, "SEED"))?
-        .arg(option(alloc, "threads"))?
-        .arg(option(alloc, "rounds"))?
-        .arg(option(alloc, "budget"))
+    let command = plain(alloc, "load").arg(positional(alloc, "SEED"))?;
+    with_three_options(alloc, command, "threads", "rounds", "budget")
 }
 
 /// The command of a name, with its options and files.
