@@ -27,8 +27,8 @@ impl Given<'_> {
 }
 
 /// What `solo` asks for.
-fn solo(given: Given<'_>) -> Option<Request<'_>>
-    ensures request { option_map asked result ≡ solo_for (seen given.entry) }
+fn solo<'a>(given: &Given<'a>) -> Option<Request<'a>>
+    ensures request { option_map asked result ≡ solo_for (seen given.now) }
     ensures budget { IfSome result HasBudget }
 {
     Some(Request::Solo {
@@ -40,8 +40,8 @@ fn solo(given: Given<'_>) -> Option<Request<'_>>
 }
 
 /// What `run` asks for.
-fn run(given: Given<'_>) -> Option<Request<'_>>
-    ensures request { option_map asked result ≡ run_for (seen given.entry) }
+fn run<'a>(given: &Given<'a>) -> Option<Request<'a>>
+    ensures request { option_map asked result ≡ run_for (seen given.now) }
     ensures budget { IfSome result HasBudget }
 {
     Some(Request::Run {
@@ -61,8 +61,8 @@ fn run(given: Given<'_>) -> Option<Request<'_>>
 }
 
 /// What `asm` asks for.
-fn assemble(given: Given<'_>) -> Option<Request<'_>>
-    ensures request { option_map asked result ≡ assemble_for (seen given.entry) }
+fn assemble<'a>(given: &Given<'a>) -> Option<Request<'a>>
+    ensures request { option_map asked result ≡ assemble_for (seen given.now) }
     ensures budget { IfSome result HasBudget }
 {
     Some(Request::Assemble {
@@ -72,8 +72,8 @@ fn assemble(given: Given<'_>) -> Option<Request<'_>>
 }
 
 /// What `dis` asks for.
-fn disassemble(given: Given<'_>) -> Option<Request<'_>>
-    ensures request { option_map asked result ≡ disassemble_for (seen given.entry) }
+fn disassemble<'a>(given: &Given<'a>) -> Option<Request<'a>>
+    ensures request { option_map asked result ≡ disassemble_for (seen given.now) }
     ensures budget { IfSome result HasBudget }
 {
     Some(Request::Disassemble {
@@ -84,8 +84,8 @@ fn disassemble(given: Given<'_>) -> Option<Request<'_>>
 }
 
 /// What `trace` asks for.
-fn trace(given: Given<'_>) -> Option<Request<'_>>
-    ensures request { option_map asked result ≡ trace_for (seen given.entry) }
+fn trace<'a>(given: &Given<'a>) -> Option<Request<'a>>
+    ensures request { option_map asked result ≡ trace_for (seen given.now) }
     ensures budget { IfSome result HasBudget }
 {
     Some(Request::Trace {
@@ -102,8 +102,8 @@ fn trace(given: Given<'_>) -> Option<Request<'_>>
 }
 
 /// What `check` asks for.
-fn check(given: Given<'_>) -> Option<Request<'_>>
-    ensures request { option_map asked result ≡ check_for (seen given.entry) }
+fn check<'a>(given: &Given<'a>) -> Option<Request<'a>>
+    ensures request { option_map asked result ≡ check_for (seen given.now) }
     ensures budget { IfSome result HasBudget }
 {
     Some(Request::Check {
@@ -115,8 +115,8 @@ fn check(given: Given<'_>) -> Option<Request<'_>>
 }
 
 /// What `load` asks for.
-fn load(given: Given<'_>) -> Option<Request<'_>>
-    ensures request { option_map asked result ≡ load_for (seen given.entry) }
+fn load<'a>(given: &Given<'a>) -> Option<Request<'a>>
+    ensures request { option_map asked result ≡ load_for (seen given.now) }
     ensures budget { IfSome result HasBudget }
 {
     Some(Request::Load {
@@ -130,8 +130,8 @@ fn load(given: Given<'_>) -> Option<Request<'_>>
 }
 
 /// What a command asks for.
-pub fn request_by(name: CommandName, given: Given<'_>) -> Option<Request<'_>>
-    ensures request { option_map asked result ≡ request_by name (seen given.entry) }
+pub fn request_by<'a>(name: CommandName, given: &Given<'a>) -> Option<Request<'a>>
+    ensures request { option_map asked result ≡ request_by name (seen given.now) }
     ensures budget { IfSome result HasBudget }
 {
     match name {

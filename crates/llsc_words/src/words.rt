@@ -24,7 +24,7 @@ fn request_in<'a>(
     let Some(given) = given_in(command, words)? else {
         return Ok(None);
     };
-    Ok(request_by(name, given))
+    Ok(request_by(name, &given))
 }
 
 /// What the words ask for, `None` where they are refused. The words do not include the program's name.
