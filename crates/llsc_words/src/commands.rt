@@ -85,7 +85,7 @@ fn asm<'a>(alloc: Global) -> Result<Command<'a>, AllocError>
 fn dis<'a>(alloc: Global) -> Result<Command<'a>, AllocError>
     ensures { IfOk result (λ command. app_of command ≡ dis_app) }
 {
-    program(alloc, "dis")?.arg(option(alloc, "mem"))
+    with_option(alloc, program(alloc, "dis")?, "mem")
 }
 
 /// `run`: runs all threads.
