@@ -1,12 +1,13 @@
 -- Accesses in the whole, from what their steps tell.
-use Rattle.std.proofs.Common.{ℕ, ◌*◌, ◌/◌, ◌<◌, true, false, [], ◌∷◌, ◌++◌, sym, ◌∙◌, subst, append_assoc}
+use Rattle.std.proofs.Common.{◌≡◌, ℕ, ◌*◌, ◌/◌, ◌<◌, Bool, true, false, [], ◌∷◌, ◌++◌, ap, sym, ◌∙◌, subst, append_assoc}
 use Rattle.llsc_base.specs.Memory.{row_of}
 use Rattle.llsc_base.specs.declared.access.Place.{Place}
 use Rattle.row_bytes.specs.Cell.{value_in_cell}
 use Rattle.history.specs.declared.entry.Entry.TheVariants.{Read, Write, Watch, Begin, End}
 use Rattle.shared_memory.specs.Origin.{Origin}
 use Rattle.shared_memory.proofs.Fronts.{front-all, front-more, front-trans}
-use Rattle.version_rule.specs.declared.hands.Doing.TheVariants.{Rest, Claimed, First, Second}
+use Rattle.version_rule.specs.declared.hands.Doing.{Doing}
+use Rattle.version_rule.specs.declared.hands.Doing.TheVariants.{Rest, Claimed, Holding, Written, First, Second}
 use Rattle.version_rule.specs.declared.hands.Reserve.TheVariants.{Row}
 use Rattle.version_rule.specs.declared.hands.Hand.{Hand}
 use Rattle.version_rule.specs.Exact.{IsVersion}
@@ -19,6 +20,25 @@ use Rattle.version_memory.specs.Stored.{HasLoaded, HasLoadedEx, HasStored}
 use Rattle.version_memory.proofs.After.{front-goes, room-version, stamp-version, stands-decides, stands-within, writes-watch}
 
 module _ (origin : Origin) (p : Place) (a b c d : Mine) where
+  -- a write that holds its class, to its end
+  pub held : (value version cell : ℕ) (ex : Bool) → Goes origin a [] (hand (Holding p version ex cell) a.0.doing.reserve) b
+      → Decides origin b (Write b.0.lead p value ex ∷ []) (IsVersion origin.size p version) (hand (Written p version) b.0.doing.reserve) c
+      → Goes origin c (End c.0.lead p ∷ []) (hand Rest c.0.doing.reserve) d
+      → Goes origin a (Write a.0.lead p value ex ∷ End a.0.lead p ∷ []) (hand Rest a.0.doing.reserve) d
+  held value version cell ex one two three =
+      let written = goes-then_by origin a b c [] (hand (Holding p version ex cell) a.0.doing.reserve) (λ (t : ℕ). Write t p value ex ∷ []) (λ (h : Hand). hand (Written p version) h.reserve) one two.goes in
+      goes-then_by origin a c d (Write a.0.lead p value ex ∷ []) (hand (Written p version) a.0.doing.reserve) (λ (t : ℕ). End t p ∷ []) (λ (h : Hand). hand Rest h.reserve) written three
+
+  -- and its stamp
+  pub held-stamped : (value version cell : ℕ) (ex : Bool) → Goes origin a [] (hand (Holding p version ex cell) a.0.doing.reserve) b
+      → Decides origin b (Write b.0.lead p value ex ∷ []) (IsVersion origin.size p version) (hand (Written p version) b.0.doing.reserve) c
+      → Goes origin c (End c.0.lead p ∷ []) (hand Rest c.0.doing.reserve) d
+      → IsStamped origin.size p (version / 2) (Write a.0.lead p value ex) a.0.seen d.0.seen
+  held-stamped value version cell ex one two three =
+      stands-within _ (Write a.0.lead p value ex) a.0.seen b.0.seen c.0.seen d.0.seen (front-goes origin a b _ _ one) (front-goes origin c d _ _ three)
+      (subst (λ (t : ℕ). IsStamped origin.size p (version / 2) (Write t p value ex) b.0.seen c.0.seen) one.lead
+      (stands-decides origin b c (Write b.0.lead p value ex) (IsVersion origin.size p version) _ _ two (stamp-version origin.size p version)))
+
   -- a store that is done
   pub stored : (value version : ℕ) → version < 2 * origin.size.limit → Goes origin a [] a.0.doing b
       → Decides origin b (Begin b.0.lead p ∷ []) (IsVersion origin.size p version) (hand (Claimed p version false) (reserve_after origin.size p b.0.doing.reserve)) c
@@ -50,6 +70,14 @@ module _ (origin : Origin) (p : Place) (a b c d : Mine) where
             (subst (λ (t : ℕ). IsStamped origin.size p (version / 2) (Read t p (value_in_cell cell p) false) c.0.seen d.0.seen) (two.lead ∙ one.lead)
             (stands-decides origin c d (Read c.0.lead p (value_in_cell cell p) false) (IsVersion origin.size p version) _ _ three (stamp-version origin.size p version)));
       }
+
+  -- one that isn't
+  pub found-not : (version cell : ℕ) → a.0.doing.doing ≡ Rest → Goes origin a [] (hand (First p version) a.0.doing.reserve) b
+      → Goes origin b [] (hand (Second p version cell) b.0.doing.reserve) c → Goes origin c [] (hand Rest c.0.doing.reserve) d → Goes origin a [] a.0.doing d
+  found-not version cell rest one two three =
+      let second = goes-then_by origin a b c [] (hand (First p version) a.0.doing.reserve) (λ (t : ℕ). []) (λ (h : Hand). hand (Second p version cell) h.reserve) one two in
+      subst (λ (h : Hand). Goes origin a [] h d) (ap (λ (doing : Doing). hand doing a.0.doing.reserve) (sym rest))
+      (goes-then_by origin a c d [] (hand (Second p version cell) a.0.doing.reserve) (λ (t : ℕ). []) (λ (h : Hand). hand Rest h.reserve) second three)
 
   -- a stamped load-exclusive that is done
   pub linked : (version cell : ℕ) → Goes origin a [] (hand (First p version) a.0.doing.reserve) b → Goes origin b [] (hand (Second p version cell) b.0.doing.reserve) c
