@@ -1,9 +1,12 @@
--- What holds of a pass after it was split or joined.
-use Rattle.std.proofs.Common.{◌≡◌, ◌≢◌, ◌==◌, ◌&&◌, ◌||◌, not, ℕ, Bool, true, false, if◌then◌else◌, Option, None, List, [], set, refl, ap, sym, ◌∙◌, subst, inl, inr}
-use Rattle.std.proofs.lemmas.Bool.{cases_Bool, eqb-false}
+-- What holds of a pass when its memory is made, and after it was split or joined.
+use Rattle.std.proofs.Common.{◌≡◌, ◌≢◌, ◌==◌, ◌&&◌, ◌||◌, not, ℕ, Bool, true, false, if◌then◌else◌, Option, None, List, [], set, refl, ap, sym, ◌∙◌, subst, inl, inr, ◌≤◌, nat_lt, replicate, arith}
+use Rattle.std.proofs.lemmas.Bool.{cases_Bool, cases_lt, eqb-false, le-ltb, lt-ltb}
+use Rattle.std.proofs.lemmas.List.{get_or-replicate, get_or_past, length-replicate}
+use Rattle.history.specs.declared.entry.Entry.{Entry}
+use Rattle.shared_memory.specs.Origin.{Origin}
 use Rattle.shared_memory.specs.declared.views.View.{View}
-use Rattle.shared_memory.specs.Passes.{alone_mark, joined_view, marked, merged, one_mark, without_mark}
-use Rattle.shared_memory.specs.Seen.{IsOneOf, IsSingle, joint}
+use Rattle.shared_memory.specs.Passes.{alone_mark, first_view, joined_view, marked, merged, one_mark, without_mark}
+use Rattle.shared_memory.specs.Seen.{IsOneOf, IsSingle, Sees, joint}
 use Rattle.shared_memory.proofs.Joined.{merged-left, merged-right}
 use Rattle.shared_memory.proofs.Marks.{marked-merged, marked-taken, one-here, taken-other}
 use Rattle.hst_memory.specs.declared.hands.Doing.TheVariants.{Rest}
@@ -11,11 +14,32 @@ use Rattle.hst_memory.specs.declared.hands.Reserve.TheVariants.{Nothing, Several
 use Rattle.hst_memory.specs.declared.hands.Hand.{Hand}
 use Rattle.hst_memory.specs.Hands.{hand, reserve_joined}
 use Rattle.hst_memory.specs.Passes.{IsBetween, row_of_reserve}
-use Rattle.shared_memory.specs.Told.{Settles}
+use Rattle.shared_memory.specs.Told.{Goes, Settles}
 use Rattle.hst_memory.specs.Told.{Mine}
 
 nothing-several : Nothing ≡ Several → ⊥
 nothing-several h = let f : ⊥ = cc in f
+
+-- the marks of the first numbers
+first-marked : (threads t : ℕ) → marked (replicate threads true) t ≡ nat_lt t threads
+first-marked threads t = elim (cases_lt t threads) [
+  | inl below ↦ get_or-replicate threads t true false below ∙ sym (lt-ltb t threads below)
+  | inr above ↦ get_or_past (replicate threads true) t false (let long = length-replicate threads true in omega arith) ∙ sym (le-ltb t threads above)
+]
+
+-- the pass of a memory that is made
+pub between-first : (threads : ℕ) (has : List Bool) → 1 ≤ threads → ((t : ℕ) → marked has t ≡ nat_lt t threads) → IsBetween (first_view threads (hand Rest Nothing), []) has 0 None
+between-first threads has some same = record {
+  numbers = λ t. first-marked threads t ∙ sym (same t);
+  lead = refl;
+  holds_it = same 0 ∙ lt-ltb 0 threads (omega arith);
+  left = refl;
+  right = refl;
+  rest = refl;
+  tied = refl;
+  several = λ h. absurd (nothing-several h);
+  slots = refl;
+}
 
 -- what is left of a pass that has given a number away
 pub between-left : (me : Mine) (has : List Bool) (number : ℕ) (reserved : Option ℕ) (t lead : ℕ) → IsBetween me has number reserved → IsOneOf lead (marked has) → lead ≢ t
@@ -58,8 +82,14 @@ tied-joined : (b : Bool) → row_of_reserve (if b then Nothing else Several) ≡
 tied-joined true = refl
 tied-joined false = refl
 
-lead-held : (me : Mine) (has : List Bool) (number : ℕ) (reserved : Option ℕ) → IsBetween me has number reserved → IsOneOf me.0.lead (marked me.0.numbers)
+pub lead-held : (me : Mine) (has : List Bool) (number : ℕ) (reserved : Option ℕ) → IsBetween me has number reserved → IsOneOf me.0.lead (marked me.0.numbers)
 lead-held me has number reserved b = b.numbers me.0.lead ∙ ap (marked has) b.lead ∙ b.holds_it
+
+-- what a seat has added to what a pass has seen, of its thread by its number
+pub sees-goes : (origin : Origin) (me new : Mine) (has : List Bool) (number : ℕ) (reserved : Option ℕ) (t : ℕ) (es : ℕ → List Entry) (h : Hand) → IsBetween me has number reserved
+    → IsSingle t (marked me.0.numbers) → Goes origin me (es me.0.lead) h new → Sees origin t me.0.seen (es t) new.0.seen
+sees-goes origin me new has number reserved t es h b single goes =
+    subst (λ (u : ℕ). Sees origin u me.0.seen (es u) new.0.seen) (single.only me.0.lead (lead-held me has number reserved b)) goes.sees
 
 -- a pass that has taken in another
 pub between-joined : (me other new : Mine) (has has_other has_both : List Bool) (number number_other : ℕ) (reserved reserved_other : Option ℕ)

@@ -6,7 +6,7 @@ use Rattle.history.specs.declared.entry.Entry.{Entry}
 use Rattle.history.specs.declared.entry.Entry.TheVariants.{Write, Fail, Begin, End}
 use Rattle.shared_memory.specs.Origin.{Origin}
 use Rattle.shared_memory.proofs.Fronts.{front-trans}
-use Rattle.hst_memory.specs.declared.hands.Doing.TheVariants.{Rest, AloneBegun, AloneWritten}
+use Rattle.hst_memory.specs.declared.hands.Doing.TheVariants.{Rest, Alone, AloneBegun, AloneWritten, Done}
 use Rattle.hst_memory.specs.declared.hands.Reserve.TheVariants.{Nothing}
 use Rattle.hst_memory.specs.declared.hands.Hand.{Hand}
 use Rattle.hst_memory.specs.Exact.{IsExact, IsUndisturbed}
@@ -57,3 +57,11 @@ goes-won origin place value a b c d e h enter won write leave =
     let written : Goes origin a (Begin a.0.lead place ∷ Write a.0.lead place value true ∷ []) (hand (AloneWritten place) Nothing) d =
     goes-then_by origin a c d (Begin a.0.lead place ∷ []) (hand (AloneBegun place) Nothing) (λ (t : ℕ). Write t place value true ∷ []) (λ (g : Hand). hand (AloneWritten place) Nothing) begun write in
     goes-then_by origin a d e (Begin a.0.lead place ∷ Write a.0.lead place value true ∷ []) (hand (AloneWritten place) Nothing) (λ (t : ℕ). End t place ∷ []) (λ (g : Hand). hand Rest Nothing) written leave
+
+-- and of one that has failed
+pub goes-lost : (origin : Origin) (place : Place) (value : ℕ) (a b c d : Mine) → Goes origin a [] (hand Alone a.0.doing.reserve) b → HasLost origin place value b c
+    → Goes origin c [] (hand Rest c.0.doing.reserve) d → Goes origin a (Fail a.0.lead place value Lost ∷ []) (hand Rest Nothing) d
+goes-lost origin place value a b c d enter lost leave =
+    let failed : Goes origin a (Fail a.0.lead place value Lost ∷ []) (hand Done Nothing) c =
+    goes-then_by origin a b c [] (hand Alone a.0.doing.reserve) (λ (t : ℕ). Fail t place value Lost ∷ []) (λ (g : Hand). hand Done Nothing) enter lost.goes in
+    goes-then_by origin a c d (Fail a.0.lead place value Lost ∷ []) (hand Done Nothing) (λ (t : ℕ). []) (λ (g : Hand). hand Rest g.reserve) failed leave

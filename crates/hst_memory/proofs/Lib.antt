@@ -11,3 +11,4 @@ pub mod Betweens
 pub mod Closing
 pub mod AloneSteps
 pub mod Exactly
+pub mod Whole

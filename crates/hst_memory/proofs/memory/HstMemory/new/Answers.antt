@@ -1,8 +1,19 @@
-use Rattle.std.proofs.Common.{◌≡◌, length, ap, ◌∙◌, arith}
+use Rattle.std.proofs.Common.{◌≡◌, ◌<◌, ℕ, IsTrue, length, nat_lt, refl, ap, ◌∙◌, arith}
+use Rattle.std.proofs.lemmas.Bool.{eqb-true}
+use Rattle.std.proofs.lemmas.Nat.{ones_le_self}
+use Rattle.std.specs.Int.{is_power_of_two}
+use Rattle.std.specs.Int.RustNames.{count_ones}
 use Rattle.llsc_base.specs.Images.{Program}
 use Rattle.history.specs.Memory.{IsMemory}
 use Rattle.hst_memory.proofs.Opening.{opens}
+use Rattle.hst_memory.proofs.Betweens.{between-first}
 use Rattle.hst_memory.proofs.memory.HstMemory.new.Goals as goal
+
+some-class : (classes : ℕ) → IsTrue (is_power_of_two classes) → 0 < classes
+some-class classes power =
+    let few = ones_le_self classes in
+    let one : count_ones classes ≡ 1 = eqb-true (count_ones classes) 1 power in
+    omega arith
 
 pub of_words-requires : goal.of_words-requires
 of_words-requires c =
@@ -22,3 +33,30 @@ of_words-requires c =
     (rw c.as_slice.ensures.value (omega (arith, first.long, ap length bytes)))
     (λ i h. rw c.as_slice.ensures.value (first.zeros i (omega arith)))
     (λ i h. rw (c.as_slice.ensures.value, is, ← bytes, ← classes) (first.cells i (omega (arith, ap length bytes))))
+
+pub invariant_of-memory : goal.invariant_of-memory
+invariant_of-memory c =
+    let size = c.args.size.now in
+    let long : length c.args.image.now.bytes ≡ size.mem = c.requires in
+    let classes : c.classes.result ≡ size.classes = c.classes.ensures.number in
+    let bytes : c.bytes.result.now ≡ c.args.image.now.bytes = c.bytes.ensures.items in
+    let first = c.in_ok-words.ensures in
+    let made = c.in_ok-table.ensures in
+    rw made.5 (record {
+      sized = refl;
+      made = record {
+        sized = made.0 ∙ rw c.as_slice.ensures.value (omega (arith, first.long, ap length bytes));
+        slotless = made.1;
+        few = (let number = c.threads-threads.ensures.number in let most = c.threads-threads.ensures.most in omega arith);
+        some_class = some-class size.classes (rw (← classes) c.classes.ensures.power);
+        whole = (let pages = c.mem-mem.ensures.pages in let number = c.mem-mem.ensures.number in omega arith);
+      };
+    })
+
+pub invariant_of-pass : goal.invariant_of-pass
+invariant_of-pass c =
+    let size = c.args.size.now in
+    let number : c.threads-threads.result ≡ size.threads = c.threads-threads.ensures.number in
+    rw c.in_ok-table.ensures.4 (record {
+      between = between-first size.threads c.first_marks.result (let least = c.threads-threads.ensures.least in omega arith) (λ t. c.first_marks.ensures t ∙ ap (nat_lt t) number);
+    })
