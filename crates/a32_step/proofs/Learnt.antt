@@ -1,11 +1,18 @@
 -- Instructions that are known, each in the slot of its address.
-use Rattle.std.proofs.Common.{◌≡◌, ◌<◌, ◌/◌, ◌%◌, ℕ, List, All, Some, length, slice_set, sym, ap, ◌∙◌, subst, arith}
-use Rattle.std.proofs.lemmas.List.Elements.{All-set}
-use Rattle.std.proofs.lemmas.List.{length-set, get_or-set_same}
+use Rattle.std.proofs.Common.{◌≡◌, ◌<◌, ◌/◌, ◌%◌, ℕ, List, All, Some, length, replicate, slice_set, refl, sym, ap, ◌∙◌, subst, arith}
+use Rattle.std.proofs.lemmas.List.Elements.{All-replicate, All-set}
+use Rattle.std.proofs.lemmas.List.{length-replicate, length-set, get_or-set_same}
 use Rattle.std.proofs.lemmas.Option.{slice_get-get_or}
 use Rattle.llsc_base.specs.Images.{Program}
 use Rattle.a32_step.specs.declared.code.Known.{Known}
-use Rattle.a32_step.specs.Known.{IsRight, IsKnown, known_of}
+use Rattle.a32_step.specs.Known.{IsRight, IsKnown, known_of, unknown}
+
+-- slots of which none is known
+pub none_right : (program : Program) (n : ℕ) (slots : List Known) → slots ≡ replicate n unknown → (length slots ≡ n) × All (IsRight program) slots
+none_right program n slots is = (
+  ap length is ∙ length-replicate n unknown,
+  subst (All (IsRight program)) (sym is) (All-replicate (IsRight program) n unknown (record { instr = λ aligned. absurd (omega (aligned, arith)); cond = refl })),
+)
 
 -- one more of them
 pub all_right : (program : Program) (slots : List Known) (at : ℕ) (known : Known) → All (IsRight program) slots → IsRight program known
