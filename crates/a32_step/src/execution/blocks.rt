@@ -2,7 +2,7 @@
 ghost use Rattle.std.specs.Prelude.{◌≡◌, ◌<◌, ◌≤◌, ◌+◌, ◌^◌, [], IsTrue, None, length, not};
 ghost use Rattle.llsc_base.specs.Images.{first_barred};
 ghost use Rattle.a32_instr.specs.State.{State, jumps};
-ghost use Rattle.a32_instr.specs.Block.{registers_of, count_of, block_size, block, block_ask, block_at, block_back, block_done, block_loaded, with_block};
+ghost use Rattle.a32_instr.specs.Block.{registers_of, count_of, block_size, block, block_ask, block_at, block_back, block_done, block_loaded, block_next, with_block};
 ghost use Rattle.a32_instr.specs.Effect.{acts};
 ghost use Rattle.a32_step.specs.Progress.{progress_of};
 ghost use Rattle.a32_step.specs.Classes.{instr_class, block_access};
@@ -129,11 +129,32 @@ impl Execution {
         if let Some(word) = image.test_words(lowest, count, !transfer.load) {
             return self.stop(barred(word.bar, word.addr));
         }
+        self.next_of_block(transfer, lowest, count)
+    }
+
+    /// A block that nothing bars asks for its next word, or is complete with all of them.
+    fn next_of_block(&mut self, transfer: Transfer, lowest: u32, count: u32) -> Progress
+        requires count { count ≡ count_of transfer.list }
+        requires most { count ≤ 16 }
+        ensures progress { result ≡ progress_of (block_next transfer.load lowest transfer.list (block_back transfer.wback transfer.up transfer.rn (block_size transfer.list) self.old.state) self.old.replies self.old.state) }
+        ensures state { self.new ≡ moves self.old (block_next transfer.load lowest transfer.list (block_back transfer.wback transfer.up transfer.rn (block_size transfer.list) self.old.state) self.old.replies self.old.state) }
+    {
         let replies = self.replies.count();
         if replies < count as usize {
             let ask = self.block_ask(transfer, lowest, replies);
             return self.wait(ask);
         }
+        self.finish_transfer(transfer, count)
+    }
+
+    /// A block whose words were all accessed is complete, if its PC may be.
+    fn finish_transfer(&mut self, transfer: Transfer, count: u32) -> Progress
+        requires count { count ≡ count_of transfer.list }
+        requires most { count ≤ 16 }
+        requires all { count_of transfer.list ≤ length self.old.replies }
+        ensures progress { result ≡ progress_of (block_done transfer.load transfer.list self.old.replies (block_back transfer.wback transfer.up transfer.rn (block_size transfer.list) self.old.state)) }
+        ensures state { self.new ≡ moves self.old (block_done transfer.load transfer.list self.old.replies (block_back transfer.wback transfer.up transfer.rn (block_size transfer.list) self.old.state)) }
+    {
         if transfer.load {
             return self.finish_block(transfer, count);
         }
@@ -223,21 +244,6 @@ impl Execution {
             addr = addr.wrapping_add(4);
         }
         true
-    }
-
-    /// A block whose words were all accessed is complete, if its PC may be.
-    fn finish_transfer(&mut self, transfer: Transfer, count: u32) -> Progress
-        requires count { count ≡ count_of transfer.list }
-        requires most { count ≤ 16 }
-        requires all { count_of transfer.list ≤ length self.old.replies }
-        ensures progress { result ≡ progress_of (block_done transfer.load transfer.list self.old.replies (block_back transfer.wback transfer.up transfer.rn (block_size transfer.list) self.old.state)) }
-        ensures state { self.new ≡ moves self.old (block_done transfer.load transfer.list self.old.replies (block_back transfer.wback transfer.up transfer.rn (block_size transfer.list) self.old.state)) }
-    {
-        if transfer.load {
-            return self.finish_block(transfer, count);
-        }
-        self.move_base(transfer, 4 * count);
-        self.advance()
     }
 
     /// LDM and STM (DDI 0406C A8.8.58 to A8.8.61, A8.8.199 to A8.8.202).
