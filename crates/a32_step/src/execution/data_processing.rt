@@ -61,15 +61,12 @@ impl Execution {
         if sets {
             return self.alu_with_flags(op, rd, rn, operand);
         }
-        let second = self.second_operand(operand);
-        let first = self.operand(rn);
-        match op {
-            AluOp::Tst | AluOp::Teq | AluOp::Cmp | AluOp::Cmn => self.advance(),
-            _ => {
-                let value = value_of(op, first, second, self.flags);
-                self.write(self.flags, rd, value)
-            }
+        if op.is_compare() {
+            return self.advance();
         }
+        let second = self.second_operand(operand);
+        let value = value_of(op, self.operand(rn), second, self.flags);
+        self.write(self.flags, rd, value)
     }
 }
 
