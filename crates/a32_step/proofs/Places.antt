@@ -10,15 +10,8 @@ use Rattle.a32_instr.specs.declared.instructions.Offset.{Offset}
 use Rattle.a32_instr.specs.declared.instructions.HalfKind.{HalfKind}
 use Rattle.a32_instr.specs.declared.instructions.HalfKind.TheVariants.{Strh, Ldrh, Ldrsb, Ldrsh}
 use Rattle.a32_instr.specs.Effect.{acts}
-use Rattle.a32_instr.specs.LoadStore.{access_size, accessed_address, accesses, half_accesses, half_by, distance_of, half_size, is_added, loads_half, moved, moved_address, stores, word_by, written_back}
+use Rattle.a32_instr.specs.LoadStore.{access_size, accessed_address, accesses, half_accesses, half_by, half_size, loads_half, moved_address, stores, word_by, written_back}
 use Rattle.a32_instr.specs.State.{State, register}
-
--- the moved address, as it was worked out
-pub moved_here : (rn : ℕ) (offset : Offset) (state : State) {base distance result : ℕ} {add : Bool}
-    → result ≡ moved base add distance → base ≡ register state rn → add ≡ is_added offset → distance ≡ distance_of offset state
-    → result ≡ moved_address rn offset state
-moved_here rn offset state {base} {distance} {result} {add} same base_is add_is distance_is =
-    same ∙ ap (λ b. moved b add distance) base_is ∙ ap (λ a. moved (register state rn) a distance) add_is ∙ ap (moved (register state rn) (is_added offset)) distance_is
 
 module _ (program : Program) (instr : Instr) (state : State) (cond : ℕ) (index : Index) (rn rt : ℕ) (offset : Offset) (addr moved : ℕ)
     (moved_is : moved ≡ moved_address rn offset state) (addr_is : addr ≡ accessed_address index (register state rn) moved) (had : List ℕ) where

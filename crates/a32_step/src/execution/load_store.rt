@@ -2,8 +2,8 @@
 ghost use Rattle.std.specs.Prelude.{◌≡◌, ◌<◌, ◌≤◌, ◌+◌, ◌^◌, [], length};
 ghost use Rattle.llsc_base.specs.Memory.{size_bytes};
 ghost use Rattle.llsc_base.specs.Images.{bar_of};
-ghost use Rattle.a32_instr.specs.State.{State, advanced, jumps, writes};
-ghost use Rattle.a32_instr.specs.LoadStore.{access_size, half_accesses, half_size, asks_unless, barred, distance_of, loads, loads_half, moved_address, stores, written_back};
+ghost use Rattle.a32_instr.specs.State.{State, advanced, jumps, register, writes};
+ghost use Rattle.a32_instr.specs.LoadStore.{access_size, accessed_address, half_accesses, half_size, asks_unless, barred, distance_of, loads, loads_half, moved_address, stores, written_back};
 ghost use Rattle.a32_instr.specs.Effect.{acts};
 ghost use Rattle.a32_step.specs.Progress.{progress_of};
 ghost use Rattle.a32_step.specs.Classes.{instr_class, word_access, half_access};
@@ -27,6 +27,13 @@ use llsc_base::{Bar, Image, Place, Size};
 struct WriteBack {
     index: Index,
     rn: Reg,
+    moved: u32,
+}
+
+/// The address that a load or a store accesses, and the moved one.
+#[derive(Clone, Copy)]
+struct Aim {
+    addr: u32,
     moved: u32,
 }
 
@@ -75,6 +82,20 @@ impl Execution {
         ensures { result ≡ moved_address rn offset.now self.now.state }
     {
         moved(self.operand(rn), is_added(offset), self.distance(offset))
+    }
+
+    /// The address that is accessed, and the moved one; the base register is read once for both.
+    #[inline(always)]
+    fn aim(&self, index: Index, rn: Reg, offset: &Offset) -> Aim
+        ensures addr { result.addr ≡ accessed_address index (register self.now.state rn) result.moved }
+        ensures moved { result.moved ≡ moved_address rn offset.now self.now.state }
+    {
+        let base = self.operand(rn);
+        let moved = moved(base, is_added(offset), self.distance(offset));
+        Aim {
+            addr: accessed_address(index, base, moved),
+            moved,
+        }
     }
 
     /// The moved address goes to the base register, where the index writes it back.
@@ -164,9 +185,8 @@ impl Execution {
             }
             return self.finish_store(back);
         }
-        let moved = self.moved_address(rn, offset);
         let place = Place {
-            addr: accessed_address(index, self.operand(rn), moved),
+            addr: self.aim(index, rn, offset).addr,
             size: size_of_access(byte),
         };
         if load {
@@ -203,9 +223,8 @@ impl Execution {
             }
             return self.finish_load(back, rt, loaded_half(kind, reply));
         }
-        let moved = self.moved_address(rn, offset);
         let place = Place {
-            addr: accessed_address(index, self.operand(rn), moved),
+            addr: self.aim(index, rn, offset).addr,
             size: size_of_half(kind),
         };
         self.ask_half(image, kind, place, rt)
@@ -331,20 +350,16 @@ impl Execution {
         else {
             unreachable!()
         };
-        let base = self.operand(rn);
-        let moved = moved(base, is_added(offset), self.distance(offset));
-        let addr = accessed_address(index, base, moved);
+        let Aim { addr, moved } = self.aim(index, rn, offset);
         let back = WriteBack { index, rn, moved };
-        let (word, single) = (
-            Place {
-                addr,
-                size: Size::B4,
-            },
-            Place {
-                addr,
-                size: Size::B1,
-            },
-        );
+        let word = Place {
+            addr,
+            size: Size::B4,
+        };
+        let single = Place {
+            addr,
+            size: Size::B1,
+        };
         if load {
             if byte {
                 return self.carry_load(image, single, true, back, rt, port);
@@ -385,10 +400,9 @@ impl Execution {
         else {
             unreachable!()
         };
-        let base = self.operand(rn);
-        let moved = moved(base, is_added(offset), self.distance(offset));
+        let Aim { addr, moved } = self.aim(index, rn, offset);
         let place = Place {
-            addr: accessed_address(index, base, moved),
+            addr,
             size: size_of_half(kind),
         };
         let back = WriteBack { index, rn, moved };

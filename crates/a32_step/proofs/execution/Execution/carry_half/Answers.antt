@@ -1,26 +1,26 @@
 use Rattle.std.proofs.Common.{rules, ◌%◌, ◌^◌, ap, ◌∙◌}
 use Rattle.a32_instr.specs.Effect.{acts}
-use Rattle.a32_instr.specs.LoadStore.{accessed_address, loads_half, stores, written_back}
+use Rattle.a32_instr.specs.LoadStore.{loads_half, stores, written_back}
 use Rattle.a32_step.proofs.Carrying.{carried_same}
-use Rattle.a32_step.proofs.Places.{half_is, moved_here, strh_is, ldrh_is}
+use Rattle.a32_step.proofs.Places.{half_is, strh_is, ldrh_is}
 use Rattle.a32_step.proofs.execution.Execution.carry_half.Goals as goal
 
 pub returns-then-eq-clause-carried : goal.returns-then-eq-clause-carried
 returns-then-eq-clause-carried g c =
-    carried_same g.P.Port.replies (λ had. stores c.args.image.now (record { addr = c.accessed_address.result; size = c.size_of_half.result }) (written_back c.in-Half.index c.in-Half.rn c.moved-moved.result c.args.self.now.state) c.half_stored-value.result had c.args.self.now.state) (λ had. acts c.args.instr.now c.args.image.now had c.args.self.now.state)
+    carried_same g.P.Port.replies (λ had. stores c.args.image.now (record { addr = c.aim-addr.result.addr; size = c.size_of_half.result }) (written_back c.in-Half.index c.in-Half.rn c.aim-addr.result.moved c.args.self.now.state) c.half_stored-value.result had c.args.self.now.state) (λ had. acts c.args.instr.now c.args.image.now had c.args.self.now.state)
     c.args.self.now c.args.port.now c.carry_store.result c.carry_store.new.self c.carry_store.new.port
     (λ had. half_is c.args.image.now c.args.instr.now c.args.self.now.state c.in-Half.cond c.in-Half.index c.in-Half.rn c.in-Half.rt c.in-Half.offset
-    c.accessed_address.result c.moved-moved.result (moved_here c.in-Half.rn c.in-Half.offset c.args.self.now.state c.moved-moved.ensures c.operand-base.ensures c.is_added.ensures c.distance.ensures) (c.accessed_address.ensures ∙ ap (λ b. accessed_address c.in-Half.index b c.moved-moved.result) c.operand-base.ensures) had
+    c.aim-addr.result.addr c.aim-addr.result.moved c.aim-addr.ensures.moved c.aim-addr.ensures.addr had
     c.in-Half.kind c.in-Half.is
-    ∙ strh_is c.args.image.now c.in-Half.kind c.accessed_address.result c.in-Half.rt c.size_of_half.result c.half_stored-value.result (written_back c.in-Half.index c.in-Half.rn c.moved-moved.result c.args.self.now.state) had c.args.self.now.state (search rules) c.size_of_half.ensures (c.half_stored-value.ensures ∙ ap (λ v. v % 2 ^ 16) c.operand.ensures))
+    ∙ strh_is c.args.image.now c.in-Half.kind c.aim-addr.result.addr c.in-Half.rt c.size_of_half.result c.half_stored-value.result (written_back c.in-Half.index c.in-Half.rn c.aim-addr.result.moved c.args.self.now.state) had c.args.self.now.state (search rules) c.size_of_half.ensures (c.half_stored-value.ensures ∙ ap (λ v. v % 2 ^ 16) c.operand.ensures))
     c.carry_store.ensures.carried
 
 pub returns-clause-carried : goal.returns-clause-carried
 returns-clause-carried g c =
-    carried_same g.P.Port.replies (λ had. loads_half c.in-Half.kind c.args.image.now (record { addr = c.accessed_address.result; size = c.size_of_half.result }) (written_back c.in-Half.index c.in-Half.rn c.moved-moved.result c.args.self.now.state) c.in-Half.rt had c.args.self.now.state) (λ had. acts c.args.instr.now c.args.image.now had c.args.self.now.state)
+    carried_same g.P.Port.replies (λ had. loads_half c.in-Half.kind c.args.image.now (record { addr = c.aim-addr.result.addr; size = c.size_of_half.result }) (written_back c.in-Half.index c.in-Half.rn c.aim-addr.result.moved c.args.self.now.state) c.in-Half.rt had c.args.self.now.state) (λ had. acts c.args.instr.now c.args.image.now had c.args.self.now.state)
     c.args.self.now c.args.port.now c.carry_load_half.result c.carry_load_half.new.self c.carry_load_half.new.port
     (λ had. half_is c.args.image.now c.args.instr.now c.args.self.now.state c.in-Half.cond c.in-Half.index c.in-Half.rn c.in-Half.rt c.in-Half.offset
-    c.accessed_address.result c.moved-moved.result (moved_here c.in-Half.rn c.in-Half.offset c.args.self.now.state c.moved-moved.ensures c.operand-base.ensures c.is_added.ensures c.distance.ensures) (c.accessed_address.ensures ∙ ap (λ b. accessed_address c.in-Half.index b c.moved-moved.result) c.operand-base.ensures) had
+    c.aim-addr.result.addr c.aim-addr.result.moved c.aim-addr.ensures.moved c.aim-addr.ensures.addr had
     c.in-Half.kind c.in-Half.is
-    ∙ ldrh_is c.args.image.now c.in-Half.kind c.accessed_address.result c.in-Half.rt c.size_of_half.result (written_back c.in-Half.index c.in-Half.rn c.moved-moved.result c.args.self.now.state) had c.args.self.now.state (λ e. search rules) c.size_of_half.ensures)
+    ∙ ldrh_is c.args.image.now c.in-Half.kind c.aim-addr.result.addr c.in-Half.rt c.size_of_half.result (written_back c.in-Half.index c.in-Half.rn c.aim-addr.result.moved c.args.self.now.state) had c.args.self.now.state (λ e. search rules) c.size_of_half.ensures)
     c.carry_load_half.ensures.carried
