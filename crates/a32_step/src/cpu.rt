@@ -17,7 +17,7 @@ use std::marker::Model;
 
 /// The core of one guest thread: r0 to r14, the flags, the PC, and where it stands in its
 /// instruction. Registers, flags and PC keep their values until an instruction is complete.
-#[derive(Debug, Drop)]
+#[derive(Drop)]
 pub struct Cpu {
     execution: Execution,
     /// The words that were decoded before, and the one at the PC while its instruction is in hand.

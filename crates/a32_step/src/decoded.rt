@@ -10,7 +10,6 @@ use a32_compute::conditions::condition;
 use a32_decode::decode;
 use a32_instr::{Cond, DecodeFault, Instr};
 use llsc_base::Image;
-use std::fmt;
 use std::marker::Model;
 
 /// How many words are remembered: the words of a loop of this many instructions, one after another.
@@ -47,12 +46,6 @@ impl Model for Decoded {
 
     ghost invariant = { λ d. (length d.slots ≡ 256) × All (λ slot. meaning table slot.word ≡ Ok slot.instr) d.slots
         × All (λ slot. slot.cond ≡ condition_of slot.instr) d.slots };
-}
-
-impl fmt::Debug for Decoded {
-    fn fmt<W: fmt::Write>(&self, f: &mut fmt::Formatter<W>) -> fmt::Result {
-        f.write_str("Decoded")
-    }
 }
 
 impl Decoded {

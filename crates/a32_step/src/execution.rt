@@ -39,7 +39,7 @@ fn wanted_held(hold: Hold) -> Wanted
 
 /// What an instruction works on: r0 to r14, the flags, the PC, and how far it has come. Registers,
 /// flags and PC keep their values until it is complete.
-#[derive(Debug, Drop)]
+#[derive(Drop)]
 pub struct Execution {
     regs: [u32; 15],
     flags: Flags,

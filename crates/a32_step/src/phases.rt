@@ -1,7 +1,7 @@
 use a32_instr::{Ask, CallAsk, Stop};
 
 /// The point that a thread has reached in its instruction.
-#[derive(Clone, Copy, Debug)]
+#[derive(Clone, Copy)]
 pub enum Point {
     /// Between two instructions.
     Between,
@@ -12,7 +12,7 @@ pub enum Point {
 }
 
 /// What holds a thread.
-#[derive(Clone, Copy, Debug)]
+#[derive(Clone, Copy)]
 pub enum Hold {
     /// An access, whose reply it waits for.
     Access(Ask),
@@ -36,7 +36,7 @@ pub enum Wanted {
 }
 
 /// How far an instruction has come.
-#[derive(Clone, Copy, Debug, PartialEq, Eq)]
+#[derive(Clone, Copy, PartialEq, Eq)]
 pub enum Progress {
     /// It is complete.
     Complete,

@@ -6,7 +6,7 @@ use std::marker::Model;
 const MOST: usize = 16;
 
 /// The replies that the instruction in hand has had, in order, at most 16 of them.
-#[derive(Debug, Drop)]
+#[derive(Drop)]
 pub struct Replies {
     items: [u64; MOST],
     count: usize,
