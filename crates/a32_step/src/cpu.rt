@@ -185,22 +185,17 @@ impl Cpu {
         ensures begun { IfNone result (HasBegun image.now self.old self.new) }
     {
         let pc = self.execution.pc();
-        let mut near = self.near;
-        let found = image.fetch_near(pc, &mut near);
-        self.near = near;
-        let Some(word) = found else {
+        let Some(word) = image.fetch_near(pc, &mut self.near) else {
             return Some(self.execution.stop_wanted(Stop::Outside(pc)));
         };
         if let Err(fault) = self.decoded.remember(pc, word) {
             return Some(self.execution.stop_wanted(stop_at(pc, fault)));
         }
         let cond = self.decoded.cond(pc);
-        if !self.execution.meets(cond) {
-            self.execution.advance();
-            return Some(Wanted::Done);
+        if self.execution.begin_if(cond) {
+            return None;
         }
-        self.execution.begin();
-        None
+        Some(Wanted::Done)
     }
 }
 

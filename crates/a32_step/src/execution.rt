@@ -1,5 +1,5 @@
 //! The instruction at the PC of one guest thread as it is carried out.
-ghost use Rattle.std.specs.Prelude.{◌≡◌, ◌≢◌, ◌<◌, ◌≤◌, ◌%◌, ◌∷◌, ◌++◌, length, slice_index, []};
+ghost use Rattle.std.specs.Prelude.{◌≡◌, ◌≢◌, ◌<◌, ◌≤◌, ◌%◌, ◌∷◌, ◌++◌, length, slice_index, IsFalse, IsTrue, []};
 ghost use Rattle.a32_instr.specs.State.{register, with_register, advanced, jumps, writes, answered, stops};
 ghost use Rattle.a32_instr.specs.Condition.{passes};
 ghost use Rattle.a32_instr.specs.Effect.{acts};
@@ -166,6 +166,21 @@ impl Execution {
         ensures { self.new ≡ record self.old { stage = Inside } }
     {
         self.point = Point::Inside;
+    }
+
+    /// The instruction begins if the flags meet its condition; otherwise it is complete, and does nothing. Whether it begins.
+    #[inline(always)]
+    pub fn begin_if(&mut self, cond: Cond) -> bool
+        ensures begins { result ≡ passes cond self.old.state.flags }
+        ensures begun { IsTrue result → self.new ≡ record self.old { stage = Inside } }
+        ensures passed_over { IsFalse result → self.new ≡ record self.old { state = advanced self.old.state } }
+    {
+        if !self.meets(cond) {
+            self.advance();
+            return false;
+        }
+        self.begin();
+        true
     }
 
     /// The reply to the access that is awaited.
