@@ -107,7 +107,6 @@ impl Decoded {
     }
 
     /// The instruction of a word that isn't in its slot.
-    #[tactic(auto, using(crate::proofs::Remembered::one_more, crate::proofs::Remembered::one_more_cond))]
     fn decode(&mut self, at: usize, word: u32) -> Result<(), DecodeFault>
         requires { at < 256 }
         ensures known { IfOk result (λ done. meaning table word ≡ Ok (instr_of (slice_get self.new at))) }
