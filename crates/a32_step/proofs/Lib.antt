@@ -1,3 +1,4 @@
+pub mod Accesses
 pub mod Follows
 pub mod Words
 pub mod Effects

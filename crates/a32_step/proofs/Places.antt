@@ -43,7 +43,7 @@ strh_is program kind addr rt size value back had state is size_is value_is =
     ∙ ap (λ s. stores program (record { addr = addr; size = s }) back (register state rt % 2 ^ 16) had state) (sym size_is)
     ∙ ap (λ v. stores program (record { addr = addr; size = size }) back v had state) (sym value_is)
 
-loads_by : (program : Program) (kind : HalfKind) (place : Place) (rt : ℕ) (back : State) (had : List ℕ) (state : State) → (kind ≡ Strh → ⊥)
+pub loads_by : (program : Program) (kind : HalfKind) (place : Place) (rt : ℕ) (back : State) (had : List ℕ) (state : State) → (kind ≡ Strh → ⊥)
     → half_accesses kind program place back rt had state ≡ loads_half kind program place back rt had state
 loads_by program Strh place rt back had state other = absurd (other refl)
 loads_by program Ldrh place rt back had state other = refl
