@@ -4,14 +4,14 @@ ghost use Rattle.a32_instr.specs.State.{answered};
 ghost use Rattle.a32_step.specs.Words.{AreWords};
 ghost use Rattle.a32_step.specs.Passages.{IsCarriedOn};
 ghost use Rattle.a32_step.specs.Phase as phase;
-ghost use Rattle.a32_step.specs.Machine.{start_of, given, next_effect, wanted_of, after_next, after_instr, begins, instr_at, decoded, between, Follows, HasBegun, IsReady, IsTested, IsAwaiting, IsCalling};
+ghost use Rattle.a32_step.specs.Machine.{start_of, given, next_effect, wanted_of, after_next, after_instr, begins, instr_at, between, Follows, HasBegun, IsReady, IsTested, IsAwaiting, IsCalling};
 
 use crate::code::Code;
 use crate::decoded::Decoded;
 use crate::execution::Execution;
 use crate::phases::{Passage, Point, Progress, Wanted};
 use crate::ports::Port;
-use a32_instr::{CallAsk, DecodeFault, Flags, Stop};
+use a32_instr::{CallAsk, Flags};
 use llsc_base::Image;
 use std::marker::Model;
 
@@ -129,7 +129,6 @@ impl Cpu {
     /// `Done` comes once for each complete instruction but a guest call, whose [`Cpu::answer`] ends
     /// it; after `Stopped` the same stop comes again.
     #[inline(always)]
-    #[tactic(auto, using(crate::proofs::Tested::next_tested, crate::proofs::Follows::next_follows))]
     pub fn next(&mut self, image: &Image) -> Wanted
         requires { IsReady self.old.phase }
         ensures wanted { result ≡ wanted_of (next_effect image.now self.old) }
@@ -142,7 +141,6 @@ impl Cpu {
 
     /// The instruction in hand goes on, or the next one begins, up to what is wanted.
     #[inline(always)]
-    #[tactic(auto, using(crate::proofs::ExecutionStates::acted_wants, crate::proofs::ExecutionStates::acted_stands))]
     fn go_on(&mut self, image: &Image) -> Wanted
         requires { IsReady self.old.phase }
         ensures wanted { result ≡ wanted_of (next_effect image.now self.old) }
@@ -185,11 +183,8 @@ impl Cpu {
         ensures begun { IfNone result (HasBegun image.now self.old self.new) }
     {
         let pc = self.execution.pc();
-        let Some(word) = image.fetch_near(pc, &mut self.near) else {
-            return Some(self.execution.stop_wanted(Stop::Outside(pc)));
-        };
-        if let Err(fault) = self.decoded.remember(pc, word) {
-            return Some(self.execution.stop_wanted(stop_at(pc, fault)));
+        if let Err(stop) = self.decoded.fetch(image, pc, &mut self.near) {
+            return Some(self.execution.stop_wanted(stop));
         }
         let cond = self.decoded.cond(pc);
         if self.execution.begin_if(cond) {
@@ -238,15 +233,5 @@ impl Cpu {
                 Passage::UnderWay
             }
         }
-    }
-}
-
-/// The stop at a word that is no instruction.
-fn stop_at(pc: u32, fault: DecodeFault) -> Stop
-    ensures { decoded pc (Err fault) ≡ Err result }
-{
-    match fault {
-        DecodeFault::Undefined => Stop::Undefined(pc),
-        DecodeFault::Unpredictable => Stop::Unpredictable(pc),
     }
 }

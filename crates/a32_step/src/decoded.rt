@@ -2,13 +2,13 @@
 ghost use Rattle.std.specs.Prelude.{◌≡◌, ◌<◌, ◌%◌, IfOk, IfErr, Ok, Err, slice_get};
 ghost use Rattle.a32_step.specs.Slots.{instr_of, instr_for};
 ghost use Rattle.a32_instr.specs.declared.instructions.Instr.{Instr};
-ghost use Rattle.a32_step.specs.Machine.{instr_at};
+ghost use Rattle.a32_step.specs.Machine.{decoded, instr_at};
 ghost use Rattle.a32_instr.specs.Effect.{condition_of};
 ghost use Rattle.a32_instr.specs.Table.{meaning, table};
 
 use a32_compute::conditions::condition;
 use a32_decode::decode;
-use a32_instr::{Cond, DecodeFault, Instr};
+use a32_instr::{Cond, DecodeFault, Instr, Stop};
 use llsc_base::Image;
 use std::marker::Model;
 
@@ -46,6 +46,16 @@ impl Model for Decoded {
 
     ghost invariant = { λ d. (length d.slots ≡ 256) × All (λ slot. meaning table slot.word ≡ Ok slot.instr) d.slots
         × All (λ slot. slot.cond ≡ condition_of slot.instr) d.slots };
+}
+
+/// The stop at a word that is no instruction.
+fn stop_at(pc: u32, fault: DecodeFault) -> Stop
+    ensures { decoded pc (Err fault) ≡ Err result }
+{
+    match fault {
+        DecodeFault::Undefined => Stop::Undefined(pc),
+        DecodeFault::Unpredictable => Stop::Unpredictable(pc),
+    }
 }
 
 impl Decoded {
@@ -88,6 +98,23 @@ impl Decoded {
             return Ok(());
         }
         self.decode(at, word)
+    }
+
+    /// Sees to it that the slot of an address has the instruction there, or says what stops a thread there. The span `near` is
+    /// looked at first.
+    #[inline(always)]
+    pub fn fetch(&mut self, image: &Image, addr: u32, near: &mut usize) -> Result<(), Stop>
+        requires { addr % 4 ≡ 0 }
+        ensures known { IfOk result (λ done. instr_at image.now addr ≡ Ok (instr_for self.new addr)) }
+        ensures stops { IfErr result (λ stop. instr_at image.now addr ≡ Err stop) }
+    {
+        let Some(word) = image.fetch_near(addr, near) else {
+            return Err(Stop::Outside(addr));
+        };
+        match self.remember(addr, word) {
+            Ok(()) => Ok(()),
+            Err(fault) => Err(stop_at(addr, fault)),
+        }
     }
 
     /// Sees to it that the slot of an address has the instruction there; there must be one.
