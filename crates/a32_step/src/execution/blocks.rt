@@ -133,6 +133,7 @@ impl Execution {
     }
 
     /// A block that nothing bars asks for its next word, or is complete with all of them.
+    #[inline(always)]
     fn next_of_block(&mut self, transfer: Transfer, lowest: u32, count: u32) -> Progress
         requires count { count ≡ count_of transfer.list }
         requires most { count ≤ 16 }
@@ -148,6 +149,7 @@ impl Execution {
     }
 
     /// A block whose words were all accessed is complete, if its PC may be.
+    #[inline(always)]
     fn finish_transfer(&mut self, transfer: Transfer, count: u32) -> Progress
         requires count { count ≡ count_of transfer.list }
         requires most { count ≤ 16 }
