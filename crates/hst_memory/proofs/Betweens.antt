@@ -1,12 +1,12 @@
 -- What holds of a pass when its memory is made, and after it was split or joined.
-use Rattle.std.proofs.Common.{◌≡◌, ◌≢◌, ◌==◌, ◌&&◌, ◌||◌, not, ℕ, Bool, true, false, if◌then◌else◌, Option, None, List, [], set, refl, ap, sym, ◌∙◌, subst, inl, inr, ◌≤◌, nat_lt, replicate, arith}
-use Rattle.std.proofs.lemmas.Bool.{cases_Bool, cases_lt, eqb-false, le-ltb, lt-ltb}
-use Rattle.std.proofs.lemmas.List.{get_or-replicate, get_or_past, length-replicate}
+use Rattle.std.proofs.Common.{◌≡◌, ◌≢◌, ◌==◌, ◌&&◌, ◌||◌, not, ℕ, Bool, true, false, if◌then◌else◌, Option, None, List, [], set, refl, ap, sym, ◌∙◌, subst, inl, inr, ◌≤◌, nat_lt, arith}
+use Rattle.std.proofs.lemmas.Bool.{cases_Bool, eqb-false, lt-ltb}
 use Rattle.history.specs.declared.entry.Entry.{Entry}
 use Rattle.shared_memory.specs.Origin.{Origin}
 use Rattle.shared_memory.specs.declared.views.View.{View}
 use Rattle.shared_memory.specs.Passes.{alone_mark, first_view, joined_view, marked, merged, one_mark, without_mark}
 use Rattle.shared_memory.specs.Seen.{IsOneOf, IsSingle, Sees, joint}
+use Rattle.shared_memory.proofs.FirstWords.{first-marks}
 use Rattle.shared_memory.proofs.Joined.{merged-left, merged-right}
 use Rattle.shared_memory.proofs.Marks.{marked-merged, marked-taken, one-here, taken-other}
 use Rattle.hst_memory.specs.declared.hands.Doing.TheVariants.{Rest}
@@ -20,17 +20,10 @@ use Rattle.hst_memory.specs.Told.{Mine}
 nothing-several : Nothing ≡ Several → ⊥
 nothing-several h = let f : ⊥ = cc in f
 
--- the marks of the first numbers
-first-marked : (threads t : ℕ) → marked (replicate threads true) t ≡ nat_lt t threads
-first-marked threads t = elim (cases_lt t threads) [
-  | inl below ↦ get_or-replicate threads t true false below ∙ sym (lt-ltb t threads below)
-  | inr above ↦ get_or_past (replicate threads true) t false (let long = length-replicate threads true in omega arith) ∙ sym (le-ltb t threads above)
-]
-
 -- the pass of a memory that is made
 pub between-first : (threads : ℕ) (has : List Bool) → 1 ≤ threads → ((t : ℕ) → marked has t ≡ nat_lt t threads) → IsBetween (first_view threads (hand Rest Nothing), []) has 0 None
 between-first threads has some same = record {
-  numbers = λ t. first-marked threads t ∙ sym (same t);
+  numbers = λ t. first-marks threads t ∙ sym (same t);
   lead = refl;
   holds_it = same 0 ∙ lt-ltb 0 threads (omega arith);
   left = refl;

@@ -1,19 +1,10 @@
-use Rattle.std.proofs.Common.{◌≡◌, ◌<◌, ℕ, IsTrue, length, nat_lt, refl, ap, ◌∙◌, arith}
-use Rattle.std.proofs.lemmas.Bool.{eqb-true}
-use Rattle.std.proofs.lemmas.Nat.{ones_le_self}
-use Rattle.std.specs.Int.{is_power_of_two}
-use Rattle.std.specs.Int.RustNames.{count_ones}
+use Rattle.std.proofs.Common.{◌≡◌, length, nat_lt, refl, ap, ◌∙◌, arith}
 use Rattle.llsc_base.specs.Images.{Program}
 use Rattle.history.specs.Memory.{IsMemory}
+use Rattle.shared_memory.proofs.FirstWords.{some-class}
 use Rattle.hst_memory.proofs.Opening.{opens}
 use Rattle.hst_memory.proofs.Betweens.{between-first}
 use Rattle.hst_memory.proofs.memory.HstMemory.new.Goals as goal
-
-some-class : (classes : ℕ) → IsTrue (is_power_of_two classes) → 0 < classes
-some-class classes power =
-    let few = ones_le_self classes in
-    let one : count_ones classes ≡ 1 = eqb-true (count_ones classes) 1 power in
-    omega arith
 
 pub of_words-requires : goal.of_words-requires
 of_words-requires c =
