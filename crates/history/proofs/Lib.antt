@@ -14,3 +14,6 @@ pub mod SmallHistories
 pub mod Classes
 pub mod Exclusives
 pub mod Unmarked
+pub mod Held
+pub mod SumsBelow
+pub mod WritesByThread

@@ -2,7 +2,7 @@
 -- (DDI 0406C A3.4), so its bytes are those that were read.
 use Rattle.std.specs.Prelude.{◌≡◌, ℕ, ◌==◌, ◌&&◌, Bool, true, false, List, ◌∷◌, ◌++◌, slice_index}
 use Rattle.std.specs.List.{list_any}
-use Rattle.llsc_base.specs.Memory.{row_of}
+use Rattle.llsc_base.specs.Memory.{row_of, value_at}
 use Rattle.llsc_base.specs.declared.access.Place.{Place}
 use Rattle.llsc_base.specs.declared.access.Size.TheVariants.{B1}
 use Rattle.history.specs.Monitor.{Monitor, monitor_after}
@@ -38,3 +38,8 @@ pub record IsUnwrittenSince (start : Monitor) (accesses : List Entry) (thread ro
   pub of_row : row_of start.granule place ≡ row
   pub unwritten : list_any (is_write_in start.granule row) later ≡ false
   pub kept : KeepsRow start.granule row (monitor_after start before).memory (monitor_after start accesses).memory
+
+-- the last load-exclusive of a thread read this row, and memory has now at its place what it read
+abbrev pub HoldsWhatWasRead : Monitor → List Entry → (thread row : ℕ) → Type 0
+HoldsWhatWasRead start accesses thread row =
+    (mark : IsUnwrittenSince start accesses thread row) × (value_at (monitor_after start accesses).memory mark.place ≡ mark.value)

@@ -10,7 +10,7 @@ ghost use Rattle.row_bytes.specs.Cell.{cell_at, value_in_cell};
 ghost use Rattle.history.specs.Parts.{accesses_of};
 ghost use Rattle.history.specs.Monitor.{at_rest_by, marked_row, monitor_after};
 ghost use Rattle.history.specs.ArmLegal.{IsArmLegal};
-ghost use Rattle.history.specs.Marked.{IsUnwrittenSince};
+ghost use Rattle.history.specs.Marked.{HoldsWhatWasRead, IsUnwrittenSince};
 ghost use Rattle.history.specs.Reservation.{reservation_of};
 ghost use Rattle.history.specs.Cause.{flight_of, is_begin, is_begin_of_another, is_start_of_another, since_watch, writes_in_class};
 ghost use Rattle.history.specs.Class.{comer_in, edges_of, last_of, name_of, writer_in};
@@ -41,6 +41,22 @@ pub fn successful_stores_are_undisturbed(
 )
     requires { IsArmLegal (at_rest_by granule bytes.now threads) (front.now ++ Entry.Write thread place value true ∷ back.now) }
     ensures { IsUnwrittenSince (at_rest_by granule bytes.now threads) front.now thread (row_of granule place) }
+{}
+
+/// A store-exclusive that succeeds, among accesses that Arm allows, finds in memory what the last load-exclusive of its thread
+/// read, at the place of that load-exclusive, which is of the same row.
+pub fn successful_stores_find_what_was_read(
+    granule: u32,
+    bytes: &[u8],
+    threads: u32,
+    front: &[Entry],
+    back: &[Entry],
+    thread: u32,
+    place: Place,
+    value: u64,
+)
+    requires { IsArmLegal (at_rest_by granule bytes.now threads) (front.now ++ Entry.Write thread place value true ∷ back.now) }
+    ensures { HoldsWhatWasRead (at_rest_by granule bytes.now threads) front.now thread (row_of granule place) }
 {}
 
 /// Where a thread is marked on a row after accesses that Arm allows, its last load-exclusive read that row, and nobody has

@@ -1,5 +1,5 @@
 -- One write counts once at most, and two of a class are more than one.
-use Rattle.std.proofs.Common.{◌≡◌, ◌≤◌, ◌∷◌, [], Bool, true, false, cond, arith, refl, inl, inr}
+use Rattle.std.proofs.Common.{◌≡◌, ◌∷◌, [], true, false, arith, refl, inl, inr}
 use Rattle.std.proofs.lemmas.Bool.{cases_Bool}
 use Rattle.llsc_base.specs.Memory.{class_of, row_of}
 use Rattle.history.specs.Cause.{is_write, writes_in_class}
