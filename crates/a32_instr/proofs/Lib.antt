@@ -3,3 +3,4 @@ pub mod SilentCompare
 pub mod Meanings
 pub mod Pairs
 pub mod Rotation
+pub mod WideMoves

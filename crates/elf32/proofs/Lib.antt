@@ -7,3 +7,5 @@ pub mod Stored
 pub mod WrittenFaults
 pub mod WrittenHeaders
 pub mod WrittenImage
+pub mod Fetched
+pub mod Unbarred

@@ -4,3 +4,6 @@ pub mod FewAccesses
 pub mod Listed
 pub mod SmallRuns
 pub mod Written
+pub mod Onward
+pub mod Branching
+pub mod OwnAccesses

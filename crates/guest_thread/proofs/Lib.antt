@@ -16,3 +16,4 @@ pub mod Shared
 pub mod SmallEnds
 pub mod SmallRuns
 pub mod Carried
+pub mod LeftRuns

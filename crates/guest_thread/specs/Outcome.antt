@@ -7,7 +7,7 @@ use Rattle.history.specs.Cause.{writes_in_class}
 use Rattle.history.specs.Legal.{IsLegal, IsComplete}
 use Rattle.history.specs.Marked.{byte_place}
 use Rattle.history.specs.declared.entry.Entry.{Entry}
-use Rattle.a32_instr.specs.declared.outside.Stop.TheVariants.{TagLimit}
+use Rattle.a32_instr.specs.declared.outside.Stop.TheVariants.{Exit, TagLimit}
 use Rattle.a32_step.specs.Machine.{Machine}
 use Rattle.guest_calls.specs.Run.{EndsOn}
 use Rattle.guest_calls.specs.Pairs.{pairs_of}
@@ -38,3 +38,7 @@ pub record IsOutcome (program : Program) (size : Numbers) (budget : ℕ) (histor
   pub legal : IsLegal size program.bytes history
   pub complete : IsComplete history
   pub ends : AreEndsOn program size budget history all
+
+-- each thread left by an exit call with code 0
+abbrev pub HaveLeft : List GuestEnd → Type 0
+HaveLeft all = (t : ℕ) (end : GuestEnd) → slice_get all t ≡ Some end → end.stop ≡ Exit 0
