@@ -1,7 +1,12 @@
 -- The counter guest: a program whose threads add 1 to counters of memory so many times, each time to one that a linear
 -- congruential generator draws. A thread begins the draws at its own number plus that of the program.
 use Rattle.std.specs.Prelude.{◌≡◌, ◌+◌, ◌*◌, ◌/◌, ◌%◌, ◌^◌, ◌&&◌, nat_le, if◌then◌else◌, true, Bool, List, [], ◌∷◌, codes, ℕ}
-use Rattle.llsc_base.specs.Sizes.{is_threads}
+use Rattle.llsc_base.specs.Images.{Program}
+use Rattle.llsc_base.specs.Sizes.{Numbers, is_threads}
+use Rattle.llsc_base.specs.Memory.{value_at}
+use Rattle.llsc_base.specs.declared.access.Place.{Place}
+use Rattle.llsc_base.specs.declared.access.Size.TheVariants.{B4}
+use Rattle.elf32.specs.Units.{unit_image}
 use Rattle.elf32.specs.declared.units.Unit.{Unit}
 use Rattle.guest_gen.specs.declared.faults.GenFault.{GenFault}
 use Rattle.guest_gen.specs.declared.faults.GenFault.TheVariants as fault
@@ -62,12 +67,24 @@ counter_words start rounds =
 abbrev pub counter_unit : ℕ → ℕ → Unit
 counter_unit seed rounds = record { words = counter_words (seed % 2 ^ 32) rounds; bytes = []; space = 128 }
 
+-- its image
+abbrev pub counter_image : (seed rounds : ℕ) → Numbers → Program
+counter_image seed rounds size = unit_image (counter_unit seed rounds) size
+
 -- how many counters there are, and where each begins: its word is the first four of its eight bytes
 abbrev pub counters : ℕ
 counters = 16
 
 abbrev pub counter_at : ℕ → ℕ
 counter_at index = 0x2000 + 8 * index
+
+-- its place
+abbrev pub counter_place : ℕ → Place
+counter_place index = record { addr = counter_at index; size = B4 }
+
+-- what a counter holds in a memory
+abbrev pub counter_in : List ℕ → ℕ → ℕ
+counter_in memory index = value_at memory (counter_place index)
 
 -- why there is no program of so many threads and rounds: a number is out of its range, and where none is only want of memory
 abbrev pub fault_of : ℕ → ℕ → GenFault

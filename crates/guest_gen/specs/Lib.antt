@@ -1,2 +1,4 @@
 pub mod Counters
+pub mod Namings
 pub mod Text
+pub mod Tries

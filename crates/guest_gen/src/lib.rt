@@ -9,6 +9,8 @@
 mod counter_guest;
 mod faults;
 pub mod laws;
+mod namings;
 
 pub use counter_guest::{COUNTER_COUNT, FIRST_COUNTER, counters};
 pub use faults::GenFault;
+pub use namings::named;

@@ -1,7 +1,7 @@
-//! That the program is what its text assembles to, and which numbers have none.
+//! That the program is what its text assembles to, which numbers have none, and how often counters are named.
 use a32_asm::assemble;
 use elf32::Unit;
-use guest_gen::counters;
+use guest_gen::{counters, named};
 use std::alloc::Global;
 use std::test::Fail;
 
@@ -119,5 +119,28 @@ fn ranges_end_where_they_say(rt: HostRuntime) {
             is_beyond(rt.alloc(), threads, rounds),
             "at {threads} and {rounds}"
         );
+    }
+}
+
+/// Of a seed, so many threads and rounds, and a counter, how often it is named, as a script of its own computes it.
+const NAMED: &[((u64, u32, u32, u32), u32)] = &[
+    ((0, 1, 3, 13), 1),
+    ((0, 2, 1, 3), 2),
+    ((7, 4, 1000, 0), 264),
+    ((7, 4, 1000, 15), 254),
+    ((u64::MAX, 2, 1, 3), 2),
+];
+
+/// Whether a counter is named so often, where the numbers are in their ranges.
+fn is_named(numbers: (u64, u32, u32, u32), times: u32) -> bool {
+    let (seed, threads, rounds, index) = numbers;
+    let is_known = threads >= 1 && threads <= 16 && rounds >= 1 && rounds <= 50_000 && index < 16;
+    is_known && named(seed, threads, rounds, index) == times
+}
+
+#[test]
+fn names_counters(rt: HostRuntime) {
+    for (numbers, times) in NAMED {
+        assert!(rt; is_named(*numbers, *times), "at {numbers:?}");
     }
 }

@@ -1,0 +1,40 @@
+-- The instructions of a program in its image, for any assembled program: each stands where its word does.
+use Rattle.std.proofs.Common.{◌≡◌, ℕ, zero, suc, ◌+◌, ◌*◌, ◌^◌, ◌<◌, ◌≤◌, List, [], ◌∷◌, Some, length, slice_get, slice_index, Ok, ap, ◌∙◌, arith}
+use Rattle.llsc_base.specs.Sizes.{Numbers}
+use Rattle.a32_instr.specs.Table.{meaning, table}
+use Rattle.a32_instr.specs.declared.instructions.Instr.{Instr}
+use Rattle.a32_step.specs.Machine.{decoded, instr_at, instr_of_word}
+use Rattle.elf32.specs.Units.{unit_image}
+use Rattle.elf32.specs.declared.units.Unit.{Unit}
+use Rattle.elf32.proofs.Fetched.{fetched}
+
+-- words that mean these instructions, one by one
+abbrev pub Mean : List ℕ → List Instr → Type 0
+Mean [] [] = Prim.Unit {0}
+Mean (word ∷ words) (instr ∷ instrs) = (word < 2 ^ 32) × ((meaning table word ≡ Ok instr) × Mean words instrs)
+Mean _ _ = ⊥
+
+-- one of these words
+record IsListed (words : List ℕ) (k : ℕ) (instr : Instr) : Type 0 where
+  known : k < length words
+  small : slice_index words k < 2 ^ 32
+  means : meaning table (slice_index words k) ≡ Ok instr
+
+listed : (words : List ℕ) (instrs : List Instr) → Mean words instrs → (k : ℕ) (instr : Instr) → slice_get instrs k ≡ Some instr
+    → IsListed words k instr
+listed [] [] mean k instr there = absurd (let f : ⊥ = cc in f)
+listed [] (first ∷ instrs) mean k instr there = absurd mean
+listed (word ∷ words) [] mean k instr there = absurd mean
+listed (word ∷ words) (first ∷ instrs) mean zero instr there =
+    let same : first ≡ instr = cc in
+    record { known = omega arith; small = mean.0; means = mean.1.0 ∙ ap Ok same }
+listed (word ∷ words) (first ∷ instrs) mean (suc k) instr there =
+    let rest = listed words instrs mean.1.1 k instr there in
+    record { known = let known = rest.known in omega (arith, known); small = rest.small; means = rest.means }
+
+-- The instruction at the k-th word of the code.
+pub instr_listed : (unit : Unit) (size : Numbers) (instrs : List Instr) → Mean unit.words instrs → 4096 + 4 * length unit.words ≤ size.mem
+    → (k : ℕ) (instr : Instr) → slice_get instrs k ≡ Some instr → instr_at (unit_image unit size) (4096 + 4 * k) ≡ Ok instr
+instr_listed unit size instrs mean room k instr there =
+    let is = listed unit.words instrs mean k instr there in
+    ap (instr_of_word (4096 + 4 * k)) (fetched unit size k is.known room is.small) ∙ ap (decoded (4096 + 4 * k)) is.means
