@@ -10,7 +10,7 @@ use Rattle.llsc_base.proofs.Values.{length-values_below, slice_index-values_belo
 use Rattle.row_bytes.specs.Cell.{value_in_cell}
 use Rattle.row_bytes.proofs.Memories.{value_at-cell_at}
 use Rattle.elf32.specs.Units.{code_bytes, unit_byte}
-use Rattle.guest_gen.specs.Counters.{counter_unit}
+use Rattle.guest_gen.specs.Counters.{counter_in, counter_place, counter_unit}
 use Rattle.history.specs.Legal.{IsLegal}
 use Rattle.history.specs.Monitor.{at_rest_by}
 use Rattle.history.specs.Parts.{accesses_of}
@@ -18,7 +18,7 @@ use Rattle.history.specs.declared.entry.Entry.{Entry}
 use Rattle.history.proofs.CellLaws.{CellsAre-standing}
 use Rattle.history.proofs.Marks.{IsAsLarge-monitor_after}
 use Rattle.llsc_call.specs.Beside.{AreCells, left_by}
-use Rattle.llsc_report.specs.Summary.{counter_in, counter_of, counter_place}
+use Rattle.llsc_report.specs.Summary.{counter_of}
 use Rattle.llsc_call.specs.Load.{load_program, load_size}
 
 -- ---- the program's bytes

@@ -1,29 +1,34 @@
 -- What a load is answered with.
-use Rattle.std.proofs.Common.{◌≡◌, ◌⊎◌, inl, inr, ℕ, ◌&&◌, Bool, true, false, if◌then◌else◌, List, Option, Some, None, codes, length, arith, refl, sym, ◌∙◌, ap, subst}
+use Rattle.std.proofs.Common.{◌≡◌, ◌⊎◌, inl, inr, ℕ, zero, suc, ◌==◌, [], ◌∷◌, ◌&&◌, Bool, true, false, if◌then◌else◌, List, Option, Some, None, codes, length, lit≤, eqb-true, arith, refl, sym, ◌∙◌, ap, subst}
+use Rattle.std.specs.Option.{option_or}
+use Rattle.std.proofs.lemmas.Bool.{and_parts}
 use Rattle.llsc_base.specs.Images.{Program}
 use Rattle.llsc_base.specs.Sizes.{Numbers, is_threads}
 use Rattle.llsc_base.proofs.Values.{length-values_below}
 use Rattle.elf32.specs.Units.{unit_byte, unit_image}
 use Rattle.elf32.specs.declared.units.Unit.{Unit}
-use Rattle.guest_gen.specs.Counters.{fault_of, is_rounds}
+use Rattle.guest_gen.specs.Counters.{AreInRange, fault_of, is_rounds}
+use Rattle.guest_gen.proofs.Counted.{counters_hold, most}
+use Rattle.a32_instr.specs.declared.outside.Stop.{Stop}
+use Rattle.a32_instr.specs.declared.outside.Stop.TheVariants as stop
 use Rattle.guest_gen.specs.declared.faults.GenFault.{GenFault}
 use Rattle.guest_gen.specs.declared.faults.GenFault.TheVariants as gen
 use Rattle.history.specs.Cause.{KeepsLimit}
 use Rattle.history.specs.declared.entry.Entry.{Entry}
-use Rattle.guest_thread.specs.Outcome.{IsOutcome}
+use Rattle.guest_thread.specs.Outcome.{HaveLeft, IsOutcome}
 use Rattle.guest_thread.specs.declared.ends.GuestEnd.{GuestEnd}
-use Rattle.llsc_call.specs.Beside.{Ran, left_by}
-use Rattle.llsc_report.specs.Summary.{counter_in, counter_of, summary_by, summary_of}
-use Rattle.llsc_call.specs.Load.{AnswersLoad, TellsLoad, guest_refusal, load_program, load_refusal, load_size, load_text}
+use Rattle.llsc_call.specs.Beside.{Ran}
+use Rattle.llsc_report.specs.Summary.{counter_of, load_summary, summary_by}
+use Rattle.llsc_call.specs.Load.{AnswersLoad, CountsEveryRound, TellsLoad, guest_refusal, load_program, load_refusal, load_size, load_text}
 use Rattle.llsc_host.specs.Host.{Adds, AddsFront}
 use Rattle.llsc_files.specs.Reads.{Answered}
 use Rattle.llsc_host.specs.Said.{refusal_text}
-use Rattle.llsc_files.specs.Refusals.{Refusal}
+use Rattle.llsc_files.specs.Refusals.{Refusal, size_refusal}
 use Rattle.llsc_report.specs.Report.{report_of}
 use Rattle.llsc_call.specs.Run.{UnlessRun}
-use Rattle.llsc_report.specs.Status.{have_left, status_of_all}
+use Rattle.llsc_report.specs.Status.{have_left, status_of, status_of_all}
 use Rattle.llsc_files.proofs.Answering.{answered_refused, answered_wanting}
-use Rattle.llsc_report.proofs.Counted.{summary_same}
+use Rattle.llsc_report.proofs.Counted.{summary_named}
 use Rattle.llsc_call.proofs.Left.{counters_left}
 
 -- ---- what is printed
@@ -32,16 +37,52 @@ left-all : (b : Bool) → ◌≡◌ {A = ℕ} (if b then 0 else 1) 0 → b ≡ t
 left-all true is = refl
 left-all false is = absurd (omega (arith, is))
 
+tested : (b : Bool) → ((if b then 0 else 1) == 0) ≡ true → b ≡ true
+tested true is = refl
+tested false is = absurd (let e : false ≡ true = is in let f : ⊥ = cc in f)
+
+-- a thread left with code 0
+left_0 : (why : Stop) → (status_of why == 0) ≡ true → why ≡ stop.Exit 0
+left_0 (stop.Exit code) is = ap (λ (n : ℕ). stop.Exit n) (eqb-true code 0 (tested (code == 0) is))
+left_0 (stop.Undefined addr) is = absurd (let e : false ≡ true = is in let f : ⊥ = cc in f)
+left_0 (stop.Unpredictable addr) is = absurd (let e : false ≡ true = is in let f : ⊥ = cc in f)
+left_0 (stop.Alignment addr) is = absurd (let e : false ≡ true = is in let f : ⊥ = cc in f)
+left_0 (stop.Outside addr) is = absurd (let e : false ≡ true = is in let f : ⊥ = cc in f)
+left_0 (stop.ReadOnly addr) is = absurd (let e : false ≡ true = is in let f : ⊥ = cc in f)
+left_0 (stop.Thumb addr) is = absurd (let e : false ≡ true = is in let f : ⊥ = cc in f)
+left_0 (stop.TagLimit addr) is = absurd (let e : false ≡ true = is in let f : ⊥ = cc in f)
+left_0 stop.Budget is = absurd (let e : false ≡ true = is in let f : ⊥ = cc in f)
+
+have_each : (ends : List GuestEnd) → have_left ends ≡ true → HaveLeft ends
+have_each [] all t end got = absurd (let f : ⊥ = cc in f)
+have_each (first ∷ ends) all zero end got =
+    let same : first ≡ end = cc in
+    let mine = (and_parts (status_of first.stop == 0) (have_left ends) all).0 in
+    subst (λ (e : GuestEnd). e.stop ≡ stop.Exit 0) same (left_0 first.stop mine)
+have_each (first ∷ ends) all (suc t) end got =
+    have_each ends (and_parts (status_of first.stop == 0) (have_left ends) all).1 t end got
+
+-- the numbers of a guest that there is
+guest_few : (threads rounds : ℕ) → guest_refusal threads rounds ≡ None → AreInRange threads rounds
+guest_few threads rounds clean = by_range (is_threads threads && is_rounds rounds) refl clean
+  where
+    by_range : (fits : Bool) → (is_threads threads && is_rounds rounds) ≡ fits → (if fits then None else Some (codes "Range")) ≡ None
+        → (is_threads threads && is_rounds rounds) ≡ true
+    by_range true same clean = same
+    by_range false same clean = absurd (let f : ⊥ = cc in f)
+
 -- the summary, where all threads left with code 0
 pub loaded_all : (seed threads rounds budget : ℕ) (history : List Entry) (ends : List GuestEnd) (cells : List ℕ)
-    → Ran (load_program seed threads rounds) (load_size threads) budget history ends cells → status_of_all ends ≡ 0
+    → guest_refusal threads rounds ≡ None → Ran (load_program seed threads rounds) (load_size threads) budget history ends cells → status_of_all ends ≡ 0
     → TellsLoad (Some history) seed threads rounds budget 0 (summary_by seed threads rounds (counter_of cells))
-loaded_all seed threads rounds budget history ends cells ran none =
-    let memory = left_by (load_program seed threads rounds) (load_size threads) history in
+loaded_all seed threads rounds budget history ends cells clean ran none =
     let left : have_left ends ≡ true = left-all (have_left ends) none in
-    let same : summary_by seed threads rounds (counter_of cells) ≡ summary_of seed threads rounds memory =
-    summary_same seed threads rounds (counter_of cells) (counter_in memory) (counters_left seed threads rounds history cells ran.outcome.legal ran.left) in
-    (ends, (ran.outcome, (ran.few, (sym none, same ∙ ap (λ b. if b then summary_of seed threads rounds memory else report_of budget ends) (sym left)))))
+    let few = most threads rounds (guest_few threads rounds clean) in
+    let holds = counters_hold seed rounds budget (load_size threads) history ends (lit≤ tt) few.0 few.1 ran.outcome (have_each ends left) in
+    let same : summary_by seed threads rounds (counter_of cells) ≡ load_summary seed threads rounds =
+    summary_named seed threads rounds (counter_of cells) (λ i known.
+    counters_left seed threads rounds history cells ran.outcome.legal ran.left i known ∙ holds i known) in
+    (ends, (ran.outcome, (ran.few, (sym none, same ∙ ap (λ b. if b then load_summary seed threads rounds else report_of budget ends) (sym left)))))
 
 -- ---- the answer
 
@@ -74,7 +115,7 @@ outcome_by : (against : Option (List ℕ)) (story : Option (List Entry)) (seed t
     → UnlessRun against story (TellsLoad story seed threads rounds budget) status text → (status ≡ 0) ⊎ (status ≡ 1)
     → (history : List Entry) × (ends : List GuestEnd) × ((story ≡ Some history)
     × (IsOutcome (load_program seed threads rounds) (load_size threads) budget history ends × (KeepsLimit (load_size threads) history
-    × (text ≡ load_text seed threads rounds budget (left_by (load_program seed threads rounds) (load_size threads) history) ends))))
+    × (text ≡ load_text seed threads rounds budget ends))))
 outcome_by (Some name) story seed threads rounds budget status text stands (inl is) = cc (stands.1.0, is)
 outcome_by (Some name) story seed threads rounds budget status text stands (inr is) = cc (stands.1.0, is)
 outcome_by None None seed threads rounds budget status text tells ran = absurd tells
@@ -84,6 +125,39 @@ pub load_outcome : (seed threads rounds budget : ℕ) (story : Option (List Entr
     → AnswersLoad seed threads rounds budget story status text → (status ≡ 0) ⊎ (status ≡ 1)
     → (history : List Entry) × (ends : List GuestEnd) × ((story ≡ Some history)
     × (IsOutcome (load_program seed threads rounds) (load_size threads) budget history ends × (KeepsLimit (load_size threads) history
-    × (text ≡ load_text seed threads rounds budget (left_by (load_program seed threads rounds) (load_size threads) history) ends))))
+    × (text ≡ load_text seed threads rounds budget ends))))
 load_outcome seed threads rounds budget story status text answers ran =
     outcome_by (load_refusal threads rounds) story seed threads rounds budget status text answers ran
+
+-- ---- a load that has counted every round
+
+no_guest_refusal : (threads rounds : ℕ) → load_refusal threads rounds ≡ None → guest_refusal threads rounds ≡ None
+no_guest_refusal threads rounds clean = last_none (size_refusal (load_size threads)) (guest_refusal threads rounds) clean
+  where
+    last_none : (first last : Option (List ℕ)) → option_or first last ≡ None → last ≡ None
+    last_none None last none = none
+    last_none (Some name) last none = absurd (let f : ⊥ = cc in f)
+
+pub every_round : (seed threads rounds budget : ℕ) (story : Option (List Entry)) (text : List ℕ)
+    → AnswersLoad seed threads rounds budget story 0 text
+    → (history : List Entry) × ((story ≡ Some history) × (CountsEveryRound seed threads rounds history × (text ≡ load_summary seed threads rounds)))
+every_round seed threads rounds budget story text answers = by_refusal (load_refusal threads rounds) refl story answers
+  where
+    by_refusal : (against : Option (List ℕ)) → load_refusal threads rounds ≡ against → (told : Option (List Entry))
+        → UnlessRun against told (TellsLoad told seed threads rounds budget) 0 text
+        → (history : List Entry) × ((told ≡ Some history) × (CountsEveryRound seed threads rounds history × (text ≡ load_summary seed threads rounds)))
+    by_refusal (Some name) is told stands = absurd (let four = stands.1.0 in omega (arith, four))
+    by_refusal None is None tells = absurd tells
+    by_refusal None is (Some history) tells =
+        let ends = tells.0 in
+        let left : have_left ends ≡ true = left-all (have_left ends) (sym tells.1.1.1.0) in
+        let few = most threads rounds (guest_few threads rounds (no_guest_refusal threads rounds is)) in (
+          history,
+          (
+            refl,
+            (
+              counters_hold seed rounds budget (load_size threads) history ends (lit≤ tt) few.0 few.1 tells.1.0 (have_each ends left),
+              tells.1.1.1.1 ∙ ap (λ b. if b then load_summary seed threads rounds else report_of budget ends) left,
+            ),
+          ),
+        )

@@ -20,7 +20,6 @@ use Rattle.llsc_files.specs.Programs.{image_of, program_refusal}
 use Rattle.llsc_files.specs.Refusals.{Answer, machine_of, solo_size, Unless, Is}
 use Rattle.llsc_report.specs.Report.{report_of}
 use Rattle.llsc_call.specs.Run.{ReportsRun, UnlessRun}
-use Rattle.llsc_call.specs.Beside.{left_by}
 use Rattle.llsc_call.specs.Load.{TellsLoad, load_program, load_refusal, load_size, load_text}
 use Rattle.llsc_texts.specs.Assembly.{asm_answer}
 use Rattle.llsc_texts.specs.Disassembly.{dis_answer}
@@ -107,7 +106,7 @@ load_one seed threads rounds budget (Some history) status other text more a b =
     let size = load_size threads in
     let ends : a.0 ≡ b.0 = one_list_on program size budget history a.0 b.0 a.1.0.ends b.1.0.ends in (
       a.1.1.1.0 ∙ ap status_of_all ends ∙ sym b.1.1.1.0,
-      a.1.1.1.1 ∙ ap (load_text seed threads rounds budget (left_by program size history)) ends ∙ sym b.1.1.1.1,
+      a.1.1.1.1 ∙ ap (load_text seed threads rounds budget) ends ∙ sym b.1.1.1.1,
     )
 
 unless_run_one : (against : Option (List ℕ)) (story : Option (List Entry)) (answers : ℕ → List ℕ → Type 0) → AreOne answers → AreOne (UnlessRun against story answers)

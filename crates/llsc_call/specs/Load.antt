@@ -1,20 +1,20 @@
 -- What `load` answers, and with which history: the counter guest of a seed runs, and says what its counters hold at the end.
-use Rattle.std.specs.Prelude.{◌≡◌, ℕ, ◌&&◌, if◌then◌else◌, List, Option, Some, None, codes}
+use Rattle.std.specs.Prelude.{◌≡◌, ℕ, ◌<◌, ◌&&◌, if◌then◌else◌, List, Option, Some, None, codes}
 use Rattle.std.specs.Option.{option_or}
 use Rattle.llsc_base.specs.Images.{Program}
 use Rattle.llsc_base.specs.Sizes.{Numbers, is_threads}
-use Rattle.elf32.specs.Units.{unit_image}
-use Rattle.guest_gen.specs.Counters.{counter_unit, is_rounds}
+use Rattle.guest_gen.specs.Counters.{counter_image, counter_in, counters, is_rounds}
+use Rattle.guest_gen.specs.Namings.{namings_of}
 use Rattle.history.specs.Cause.{KeepsLimit}
 use Rattle.history.specs.declared.entry.Entry.{Entry}
 use Rattle.guest_thread.specs.Outcome.{IsOutcome}
 use Rattle.guest_thread.specs.declared.ends.GuestEnd.{GuestEnd}
 use Rattle.llsc_words.specs.Request.{default_mem}
-use Rattle.llsc_call.specs.Beside.{left_by}
 use Rattle.llsc_files.specs.Refusals.{machine_of, size_refusal}
 use Rattle.llsc_report.specs.Report.{report_of}
+use Rattle.llsc_call.specs.Beside.{left_by}
 use Rattle.llsc_call.specs.Run.{UnlessRun}
-use Rattle.llsc_report.specs.Summary.{summary_of}
+use Rattle.llsc_report.specs.Summary.{load_summary}
 use Rattle.llsc_report.specs.Status.{have_left, status_of_all}
 
 -- the machine of so many threads on which a load runs
@@ -23,7 +23,7 @@ load_size threads = machine_of threads default_mem 0
 
 -- the program of a load on that machine
 abbrev pub load_program : (seed threads rounds : ℕ) → Program
-load_program seed threads rounds = unit_image (counter_unit seed rounds) (load_size threads)
+load_program seed threads rounds = counter_image seed rounds (load_size threads)
 
 -- there is a counter guest of 1 to 16 threads and 1 to 50,000 rounds, and of no others
 abbrev pub guest_refusal : (threads rounds : ℕ) → Option (List ℕ)
@@ -33,10 +33,17 @@ guest_refusal threads rounds = if is_threads threads && is_rounds rounds then No
 abbrev pub load_refusal : (threads rounds : ℕ) → Option (List ℕ)
 load_refusal threads rounds = option_or (size_refusal (load_size threads)) (guest_refusal threads rounds)
 
--- what is printed: the summary of the memory that is left where each thread left with code 0, and else the report of the threads' ends
-abbrev pub load_text : (seed threads rounds budget : ℕ) (memory : List ℕ) → List GuestEnd → List ℕ
-load_text seed threads rounds budget memory ends =
-    if have_left ends then summary_of seed threads rounds memory else report_of budget ends
+-- each counter holds, in the memory that a history leaves, how many rounds of the threads name it
+abbrev pub CountsEveryRound : (seed threads rounds : ℕ) → List Entry → Type 0
+CountsEveryRound seed threads rounds history =
+    (index : ℕ) → index < counters
+    → counter_in (left_by (load_program seed threads rounds) (load_size threads) history) index ≡ namings_of seed threads rounds index
+
+-- what is printed: where each thread left with code 0 the summary, by the numbers of the load alone, and else the report of the
+-- threads' ends
+abbrev pub load_text : (seed threads rounds budget : ℕ) → List GuestEnd → List ℕ
+load_text seed threads rounds budget ends =
+    if have_left ends then load_summary seed threads rounds else report_of budget ends
 
 -- the text of a load by a history, which is legal, complete, of the guest's threads and within the limit of writes, and the
 -- status by their stops
@@ -45,7 +52,7 @@ IsLoadOf history seed threads rounds budget status text =
     let program = load_program seed threads rounds in
     let size = load_size threads in
     (ends : List GuestEnd) × (IsOutcome program size budget history ends × (KeepsLimit size history
-    × ((status ≡ status_of_all ends) × (text ≡ load_text seed threads rounds budget (left_by program size history) ends))))
+    × ((status ≡ status_of_all ends) × (text ≡ load_text seed threads rounds budget ends))))
 
 -- threads that ran have a history, and what is printed is by it
 abbrev pub TellsLoad : Option (List Entry) → (seed threads rounds budget : ℕ) → ℕ → List ℕ → Type 0

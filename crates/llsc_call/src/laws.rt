@@ -16,11 +16,11 @@ ghost use Rattle.guest_machine.specs.Traces.{IsTraceRecord};
 ghost use Rattle.guest_machine.specs.Turns.{IsTrace};
 ghost use Rattle.run_checker.specs.Verdict.{Judges};
 ghost use Rattle.llsc_call.specs.Answer.{Answers};
-ghost use Rattle.llsc_call.specs.Beside.{left_by};
 ghost use Rattle.llsc_call.specs.Exclusives.{AreStoresExact};
-ghost use Rattle.llsc_call.specs.Load.{AnswersLoad, load_program, load_size, load_text};
+ghost use Rattle.llsc_call.specs.Load.{AnswersLoad, CountsEveryRound, load_program, load_size, load_text};
 ghost use Rattle.llsc_files.specs.Programs.{image_of};
 ghost use Rattle.llsc_report.specs.Report.{report_of};
+ghost use Rattle.llsc_report.specs.Summary.{load_summary};
 ghost use Rattle.llsc_call.specs.Run.{AnswersRun};
 ghost use Rattle.llsc_words.specs.declared.formats.Format.{Format};
 ghost use Rattle.llsc_words.specs.Request.{Request};
@@ -45,8 +45,8 @@ pub fn runs_have_one_history()
 {}
 
 /// What a load prints, where its status is 0 or 1, is by an outcome of its guest's threads: by one history, legal and complete, from
-/// the guest's memory on and within the limit of writes, that goes with the answer. It is the summary of the memory that this
-/// history leaves, where each thread left with code 0, and the report of the ends else.
+/// the guest's memory on and within the limit of writes, that goes with the answer. It is the summary of the load's numbers, where
+/// each thread left with code 0, and the report of the ends else.
 pub fn loads_have_one_history()
     ensures { (seed threads rounds budget : ℕ) (story : Option (List Entry)) (status : ℕ) (text : List ℕ) →
         AnswersLoad seed threads rounds budget story status text → (status ≡ 0) ⊎ (status ≡ 1) →
@@ -54,7 +54,17 @@ pub fn loads_have_one_history()
         let size = load_size threads in
         (history : List Entry) × (ends : List GuestEnd)
         × ((story ≡ Some history) × (IsOutcome program size budget history ends × (KeepsLimit size history
-        × (text ≡ load_text seed threads rounds budget (left_by program size history) ends)))) }
+        × (text ≡ load_text seed threads rounds budget ends)))) }
+{}
+
+/// A load with status 0 has counted every round: in the memory that its one history leaves, each counter holds exactly as many as
+/// there are rounds that name it, however its threads came to run beside each other; and so it is printed, with the rounds of all
+/// threads as the total.
+pub fn loads_count_every_round()
+    ensures { (seed threads rounds budget : ℕ) (story : Option (List Entry)) (text : List ℕ) →
+        AnswersLoad seed threads rounds budget story 0 text →
+        (history : List Entry) × ((story ≡ Some history) × (CountsEveryRound seed threads rounds history
+        × (text ≡ load_summary seed threads rounds))) }
 {}
 
 /// In the one history of a run or of a load each store-exclusive that succeeded was undisturbed: the last load-exclusive of its

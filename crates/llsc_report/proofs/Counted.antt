@@ -1,9 +1,11 @@
 -- The lines and the sum of the first counters.
-use Rattle.std.proofs.Common.{◌≡◌, ℕ, zero, suc, ◌+◌, ◌<◌, ◌≤◌, List, [], ◌++◌, Option, refl, sym, ◌∙◌, ap, arith}
+use Rattle.std.proofs.Common.{◌≡◌, ℕ, zero, suc, ◌+◌, ◌*◌, ◌<◌, ◌≤◌, List, [], ◌++◌, Option, refl, sym, ◌∙◌, ap, arith}
 use Rattle.std.specs.List.{range_with_len, sum_by}
 use Rattle.std.proofs.lemmas.List.Sums.{sum_by_push}
 use Rattle.llsc_host.specs.Host.{AddsFront}
-use Rattle.llsc_report.specs.Summary.{counter_line, counter_lines, summary_by, total_of}
+use Rattle.llsc_report.specs.Summary.{counter_line, counter_lines, load_line, load_summary, summary_by, total_line, total_of}
+use Rattle.guest_gen.specs.Namings.{namings_of}
+use Rattle.guest_gen.proofs.Totals.{all_namings}
 use Rattle.llsc_host.proofs.FirstTexts.{range_more, texts_front, texts_more}
 
 pub no_lines : (held : ℕ → ℕ) → counter_lines held 0 ≡ []
@@ -53,3 +55,14 @@ summary_same seed threads rounds one two same =
     let lines : counter_lines one 16 ≡ counter_lines two 16 = lines_same one two 16 same in
     let total : total_of one 16 ≡ total_of two 16 = total_same one two 16 same in
     rw (lines, total) refl
+
+total-namings : (seed threads rounds : ℕ) → total_of (namings_of seed threads rounds) 16 ≡ threads * rounds
+unfolding total_of
+total-namings seed threads rounds = all_namings seed threads rounds
+
+-- the summary of counters that hold their namings
+pub summary_named : (seed threads rounds : ℕ) (held : ℕ → ℕ) → ((i : ℕ) → i < 16 → held i ≡ namings_of seed threads rounds i)
+    → summary_by seed threads rounds held ≡ load_summary seed threads rounds
+summary_named seed threads rounds held same =
+    summary_same seed threads rounds held (namings_of seed threads rounds) same
+    ∙ ap (λ n. load_line seed threads rounds ++ (counter_lines (namings_of seed threads rounds) 16 ++ total_line n)) (total-namings seed threads rounds)

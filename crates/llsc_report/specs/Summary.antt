@@ -1,20 +1,11 @@
 -- The summary of a load: what the counters of its guest hold, and their sum.
-use Rattle.std.specs.Prelude.{ℕ, List, ◌++◌, codes, slice_index}
+use Rattle.std.specs.Prelude.{ℕ, ◌*◌, List, ◌++◌, codes, slice_index}
 use Rattle.std.specs.Fmt.{decimal}
 use Rattle.std.specs.List.{flat_map, range_with_len, sum_by}
-use Rattle.llsc_base.specs.Memory.{cell_of, value_at}
-use Rattle.llsc_base.specs.declared.access.Place.{Place}
-use Rattle.llsc_base.specs.declared.access.Size.TheVariants.{B4}
+use Rattle.llsc_base.specs.Memory.{cell_of}
 use Rattle.row_bytes.specs.Cell.{value_in_cell}
-use Rattle.guest_gen.specs.Counters.{counter_at, counters}
-
--- where a counter is: a word
-abbrev pub counter_place : ℕ → Place
-counter_place index = record { addr = counter_at index; size = B4 }
-
--- what a counter holds in a memory
-abbrev pub counter_in : List ℕ → ℕ → ℕ
-counter_in memory index = value_at memory (counter_place index)
+use Rattle.guest_gen.specs.Counters.{counter_place, counters}
+use Rattle.guest_gen.specs.Namings.{namings_of}
 
 -- what a counter holds in a memory of these cells
 abbrev pub counter_of : List ℕ → ℕ → ℕ
@@ -45,6 +36,8 @@ total_line total = codes "total " ++ (decimal total ++ codes "\n")
 abbrev pub summary_by : (seed threads rounds : ℕ) → (ℕ → ℕ) → List ℕ
 summary_by seed threads rounds held = load_line seed threads rounds ++ (counter_lines held counters ++ total_line (total_of held counters))
 
--- the summary of a memory
-abbrev pub summary_of : (seed threads rounds : ℕ) → List ℕ → List ℕ
-summary_of seed threads rounds memory = summary_by seed threads rounds (counter_in memory)
+-- The summary of a load of which each thread left with code 0: each counter is as often as its threads name it, and all
+-- together are the rounds of all threads.
+abbrev pub load_summary : (seed threads rounds : ℕ) → List ℕ
+load_summary seed threads rounds =
+    load_line seed threads rounds ++ (counter_lines (namings_of seed threads rounds) counters ++ total_line (threads * rounds))

@@ -3,7 +3,8 @@ ghost use Rattle.std.specs.Prelude.{◌≡◌, ◌<◌, ◌≤◌, ◌^◌, OnOk
 ghost use Rattle.llsc_base.specs.Memory.{cell_of};
 ghost use Rattle.row_bytes.specs.Cell.{value_in_cell};
 ghost use Rattle.llsc_host.specs.Host.{Adds, AddsFront, KeepsReads, Rose};
-ghost use Rattle.llsc_report.specs.Summary.{counter_line, counter_lines, counter_of, counter_place, load_line, summary_by, total_line, total_of};
+ghost use Rattle.guest_gen.specs.Counters.{counter_place};
+ghost use Rattle.llsc_report.specs.Summary.{counter_line, counter_lines, counter_of, load_line, summary_by, total_line, total_of};
 
 use crate::report::write_count;
 use guest_gen::{COUNTER_COUNT, FIRST_COUNTER};

@@ -5,7 +5,7 @@ ghost use Rattle.llsc_base.specs.Sizes.{room_of};
 ghost use Rattle.elf32.specs.Units.{IsWithin, end_of, unit_image};
 ghost use Rattle.guest_gen.specs.Counters.{counter_unit};
 ghost use Rattle.version_memory.specs.Memory.{story_history};
-ghost use Rattle.llsc_call.specs.Beside.{Ran, left_by};
+ghost use Rattle.llsc_call.specs.Beside.{Ran};
 ghost use Rattle.llsc_host.specs.Host.{Adds, AddsFront, KeepsReads, KeepsWrites, Rose};
 ghost use Rattle.llsc_call.specs.Load.{AnswersLoad, TellsLoad, guest_refusal, load_program, load_refusal, load_size, load_text};
 ghost use Rattle.llsc_files.specs.Reads.{Answered};
@@ -103,7 +103,8 @@ fn prepare<H: Host>(alloc: Global, host: &mut H, numbers: &LoadNumbers) -> Resul
 
 /// Writes the summary where each thread left by an exit call with code 0, and else the report of the threads' ends.
 fn tell<H: Host>(host: &mut H, numbers: &LoadNumbers, done: &Finished<VersionStory>) -> Said
-    requires { Ran (load_program numbers.now.seed numbers.now.threads numbers.now.rounds) (load_size numbers.now.threads) numbers.now.budget
+    requires sound { guest_refusal numbers.now.threads numbers.now.rounds ≡ None }
+    requires ran { Ran (load_program numbers.now.seed numbers.now.threads numbers.now.rounds) (load_size numbers.now.threads) numbers.now.budget
         (story_history done.now.story) done.now.ends.items done.now.rows }
     ensures answered { Answered (TellsLoad (Some (story_history done.now.story)) numbers.now.seed numbers.now.threads numbers.now.rounds numbers.now.budget)
         (H.written host.old) (H.written host.new) result.status }

@@ -14,7 +14,7 @@ returns-in-Ok-clause-answered g c =
     let all : status_of_all done.ends.items ≡ 0 = ap status_of_all (sym c.as_slice-ends.ensures.value) ∙ sym c.status_of_all-all_left.ensures.value ∙ zero in
     answered_one (g.H.Host.written c.args.host.now) (g.H.Host.written c.write_summary.new.host) 0 0
     (summary_by numbers.seed numbers.threads numbers.rounds (counter_of done.rows)) (inl refl)
-    (loaded_all numbers.seed numbers.threads numbers.rounds numbers.budget (story_history done.story) done.ends.items done.rows c.requires all)
+    (loaded_all numbers.seed numbers.threads numbers.rounds numbers.budget (story_history done.story) done.ends.items done.rows c.requires.sound c.requires.ran all)
     (inl refl) (λ same. c.in-Ok.ensures.whole) (λ five. absurd (omega (arith, five))) (λ six. absurd (omega (arith, six)))
 
 pub returns-in-Err-clause-answered : goal.returns-in-Err-clause-answered
@@ -25,5 +25,5 @@ returns-in-Err-clause-answered g c =
     let all : status_of_all done.ends.items ≡ 0 = ap status_of_all (sym c.as_slice-ends.ensures.value) ∙ sym c.status_of_all-all_left.ensures.value ∙ zero in
     answered_one (g.H.Host.written c.args.host.now) (g.H.Host.written c.write_summary.new.host) 5 0
     (summary_by numbers.seed numbers.threads numbers.rounds (counter_of done.rows)) (inl refl)
-    (loaded_all numbers.seed numbers.threads numbers.rounds numbers.budget (story_history done.story) done.ends.items done.rows c.requires all)
+    (loaded_all numbers.seed numbers.threads numbers.rounds numbers.budget (story_history done.story) done.ends.items done.rows c.requires.sound c.requires.ran all)
     (inr (inl refl)) (λ other. absurd (omega (arith, other))) (λ five. c.in-Err.ensures.front) (λ six. absurd (omega (arith, six)))
