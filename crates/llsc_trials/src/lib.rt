@@ -1,5 +1,5 @@
-//! Trials of whole calls: which status and which text the words of a call have over given files, and what each host answers.
-//! There is nothing here but tests.
+//! Trials of whole calls over hosts in memory, one of each command and where a host fails, and of each host by itself. There is
+//! nothing here but tests.
 #![tactic(auto)]
 
 #[cfg(test)]

@@ -1,19 +1,77 @@
 //! Hosts that fail, in each of their calls.
-use super::whole_calls::HI;
 use super::*;
 
-/// Calls that fail, the space for output, the status, and what is written.
-type Failure = (&'static [Failing], u32, u8, &'static str);
+/// The words of a call, the calls of the host that fail, the status, and what is written.
+type Failure = (&'static str, &'static [Failing], u8, &'static [u8]);
 
-/// A read that fails, also where the write that says so fails too, and no space for the whole report.
-const FAILURES: &[Failure] = &[
-    (&[(0, 0)], SPACE, 3, "llsc: read failed\n"),
-    (&[(0, 0), (1, 4)], SPACE, 5, "llsc"),
-    (&[], 10, 5, "thread 0 s"),
-    (&[], 0, 5, ""),
+/// What is written where a file can't be read.
+const UNREAD: &[u8] = b"llsc: read failed\n";
+
+/// The first write of a report of `leave`.
+const FIRST: &[u8] = b"thread 0 stop exit 0 steps 3 out 0\n";
+
+/// A read that fails, also where the write that says so fails too, and one of the three writes of a report, or of the five of two
+/// threads.
+const RUNS: &[Failure] = &[
+    ("solo --flat hi", &[(0, 0)], 3, UNREAD),
+    ("solo --flat hi", &[(0, 0), (1, 4)], 5, b"llsc"),
+    ("solo --flat leave", &[(2, 0)], 5, FIRST),
+    (
+        "solo --flat leave",
+        &[(3, 5)],
+        5,
+        b"thread 0 stop exit 0 steps 3 out 0\n\nreads",
+    ),
+    ("run --flat leave", &[(0, 0)], 3, UNREAD),
+    ("run --flat leave", &[(2, 0)], 5, FIRST),
+    (
+        "run --flat leave",
+        &[(4, 1)],
+        5,
+        b"thread 0 stop exit 0 steps 3 out 0\n\nthread 1 stop exit 0 steps 3 out 0\n\n",
+    ),
 ];
 
-/// The writes of the report: the number of each call, what was written before, and the text.
+/// The third write of a summary fails, and that of a refusal; and texts, three bytes of whose answers go through.
+const OTHERS: &[Failure] = &[
+    (
+        "load 0 --threads 2 --rounds 1",
+        &[(2, 4)],
+        5,
+        b"load seed 0 threads 2 rounds 1\ncounter 0 0\ncoun",
+    ),
+    ("load 7 --rounds 0", &[(0, 0)], 5, b""),
+    ("asm --flat nop", &[(1, 3)], 5, b"\x00\xf0\x20"),
+    ("asm nop", &[(1, 3)], 5, b"\x7fEL"),
+    ("asm fly", &[(1, 3)], 5, b"lls"),
+];
+
+/// The program is read before the record, which `fly` isn't. There is no file `none`.
+const CHECKS: &[Failure] = &[
+    ("check --flat none fly", &[], 3, UNREAD),
+    ("check --flat leave none", &[], 3, UNREAD),
+    ("check --flat leave fly", &[(0, 0)], 3, UNREAD),
+    ("check --flat leave fly", &[(1, 0)], 3, UNREAD),
+    ("check --flat leave fly", &[(2, 9)], 5, b"llsc: Hea"),
+];
+
+#[test]
+fn answers_each_failure(rt: HostRuntime) -> Result<(), Fail> {
+    for table in [RUNS, OTHERS, CHECKS] {
+        for (words, failing, status, text) in table {
+            compare(&rt, words, failing, SPACE, (*status, *text))?;
+        }
+    }
+    Ok(())
+}
+
+#[test]
+fn fills_a_host(rt: HostRuntime) -> Result<(), Fail> {
+    compare(&rt, "solo --flat hi", &[], 10, (5, b"thread 0 s"))?;
+    compare(&rt, "solo --flat hi", &[], 0, (5, b""))
+}
+
+/// The writes of the report of `hi`: the number of each call, what was written before, and the text.
 const WRITES: &[(u64, &str, &str)] = &[
     (1, "", "thread 0 stop exit 0 steps 8 out 2\n"),
     (2, "thread 0 stop exit 0 steps 8 out 2\n", "Hi"),
@@ -24,20 +82,6 @@ const WRITES: &[(u64, &str, &str)] = &[
         "reads 2 writes 0 fails 0\n",
     ),
 ];
-
-/// Runs the guest that writes `Hi` over a host that fails so, and compares the status and the text.
-fn fail<R: Threads + Wait + Sync + AllocGlobal + Abort>(
-    rt: &R,
-    failing: &[Failing],
-    space: u32,
-    answer: (u8, &[u8]),
-) -> Result<(), Fail> {
-    let file = bytes_of(rt.alloc(), HI)?;
-    let (status, written) = called(rt, "solo --flat p", file, failing, space)?;
-    let given = (failing, space, (status, written.as_slice()));
-    same(rt, given, (failing, space, answer));
-    Ok(())
-}
 
 /// Lets a write fail behind each front of its text, the whole text too.
 fn fail_behind_each_byte<R: Threads + Wait + Sync + AllocGlobal + Abort>(
@@ -52,45 +96,30 @@ fn fail_behind_each_byte<R: Threads + Wait + Sync + AllocGlobal + Abort>(
         };
         let mut written = before.as_bytes().to_vec(rt.alloc())?;
         written.extend_from_slice(front)?;
-        fail(rt, &[(call, passed)], SPACE, (5, written.as_slice()))?;
+        let answer = (5, written.as_slice());
+        compare(rt, "solo --flat hi", &[(call, passed)], SPACE, answer)?;
     }
     Ok(())
 }
 
 #[test]
-fn answers_each_failure(rt: HostRuntime) -> Result<(), Fail> {
-    for (failing, space, status, text) in FAILURES {
-        fail(&rt, failing, *space, (*status, text.as_bytes()))?;
-    }
+fn cuts_reports_off(rt: HostRuntime) -> Result<(), Fail> {
     for (call, before, text) in WRITES {
         fail_behind_each_byte(&rt, *call, before, text)?;
     }
     Ok(())
 }
 
-/// A guest that writes nothing, so that its report is three writes: the second of them fails, or the third one.
-const REPORTS: &[(Failing, Case)] = &[
-    (
-        (2, 0),
-        (
-            "solo --flat p",
-            Content::Words(LEAVE),
-            5,
-            "thread 0 stop exit 0 steps 3 out 0\n",
-        ),
-    ),
-    (
-        (3, 5),
-        (
-            "solo --flat p",
-            Content::Words(LEAVE),
-            5,
-            "thread 0 stop exit 0 steps 3 out 0\n\nreads",
-        ),
-    ),
-];
+/// A host that fails, the status, and how much is written of 2500 lines of 29 bytes each: a page has 2259 of them.
+const PAGES: &[(Failing, u8, usize)] = &[((9, 0), 0, 72_500), ((2, 7), 5, 65_518)];
 
 #[test]
-fn cuts_reports_off(rt: HostRuntime) -> Result<(), Fail> {
-    fail_all(&rt, REPORTS)
+fn shows_a_page_at_a_time(rt: HostRuntime) -> Result<(), Fail> {
+    for &(failing, status, length) in PAGES {
+        let file = bytes_of(rt.alloc(), &[0xe3a0_0000; 2500])?;
+        let files = holding(rt.alloc(), "moves", file)?;
+        let (ended, written) = called(&rt, "dis --flat moves", files, &[failing], SPACE)?;
+        assert!(rt; ended == status && written.len() == length);
+    }
+    Ok(())
 }

@@ -56,7 +56,7 @@ const MEMORY_WRITES: &[(&str, bool, &str)] = &[
 fn answers_from_memory(rt: HostRuntime) -> Result<(), Fail> {
     let file = TWELVE.as_bytes().to_vec(rt.alloc())?;
     let failing = vec![in rt.alloc(); (3, 1)]?;
-    let mut host = MemoryHost::new(rt.alloc(), holding(rt.alloc(), file)?, failing, 8)?;
+    let mut host = MemoryHost::new(rt.alloc(), holding(rt.alloc(), "p", file)?, failing, 8)?;
     read_all(&rt, &mut host, MEMORY_READS)?;
     for (text, is_whole, want) in MEMORY_WRITES {
         same(&rt, host.write(text.as_bytes()).is_ok(), *is_whole);
