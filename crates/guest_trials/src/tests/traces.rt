@@ -1,9 +1,7 @@
 //! Traces of small programs by the number 0.
-ghost use Rattle.std.specs.Prelude.{◌≤◌};
-
 use super::programs::{ADDS, SHARES, image_of};
 use a32_step::Stop;
-use guest_machine::{TraceFault, Traced, trace};
+use guest_machine::{Traced, trace};
 use guest_thread::GuestEnd;
 use history::{Access, Deed};
 use llsc_base::{MachineSize, Place, Size};
@@ -20,9 +18,6 @@ const CLEARS: &[u32] = &[
     0xe3a0_7001,
     0xef00_0000,
 ];
-
-/// Loads over and over.
-const LOADS: &[u32] = &[0xe590_0000, 0xeaff_fffd];
 
 /// The thread, the deed and the value of an access: a CLREX, or an access of the word at 0x2000.
 type Made = (u32, Deed, u64);
@@ -83,20 +78,6 @@ fn accesses_of(alloc: Global, list: &[Made]) -> Result<Vec<Access>, Fail> {
     Ok(accesses)
 }
 
-fn traced(
-    alloc: Global,
-    words: &[u32],
-    threads: u64,
-    budget: u64,
-) -> Result<Result<Traced, TraceFault>, Fail>
-    requires some { 1 ≤ budget }
-    requires most { budget ≤ 1000000000000 }
-{
-    let size = MachineSize::new(1_048_576, threads, 1, 1)?;
-    let image = image_of(alloc, words, &size)?;
-    Ok(trace(alloc, &image, &size, 0, budget))
-}
-
 /// How a thread ended.
 fn shown(end: &GuestEnd) -> End {
     (end.stop, end.steps, end.reads, end.writes, end.fails)
@@ -111,10 +92,10 @@ fn has(traced: &Traced, accesses: &[Access], end: End) -> bool {
 /// Whether a program's trace is as a case says.
 fn holds(alloc: Global, (words, threads, made, end): Case) -> Result<bool, Fail> {
     let accesses = accesses_of(alloc, made)?;
-    match traced(alloc, words, threads, 10_000)? {
-        Ok(traced) => Ok(has(&traced, accesses.as_slice(), end)),
-        Err(_) => Ok(false),
-    }
+    let size = MachineSize::new(1_048_576, threads, 1, 1)?;
+    let image = image_of(alloc, words, &size)?;
+    let traced = trace(alloc, &image, &size, 0, 10_000)?;
+    Ok(has(&traced, accesses.as_slice(), end))
 }
 
 #[test]
@@ -122,24 +103,5 @@ fn takes_turns(rt: HostRuntime) -> Result<(), Fail> {
     for case in CASES {
         assert!(rt; holds(rt.alloc(), *case)?);
     }
-    Ok(())
-}
-
-/// How many accesses the trace has of the program that loads.
-fn loads_made(alloc: Global, budget: u64) -> Result<Result<usize, TraceFault>, Fail>
-    requires some { 1 ≤ budget }
-    requires most { budget ≤ 1000000000000 }
-{
-    match traced(alloc, LOADS, 1, budget)? {
-        Ok(traced) => Ok(Ok(traced.run.accesses.as_slice().len())),
-        Err(fault) => Ok(Err(fault)),
-    }
-}
-
-#[test]
-fn takes_1000000_accesses_and_no_more(rt: HostRuntime) -> Result<(), Fail> {
-    assert!(rt; loads_made(rt.alloc(), 2_000_000)? == Ok(1_000_000));
-    assert!(rt; loads_made(rt.alloc(), 2_000_002)? == Err(TraceFault::TooLong));
-    assert_eq!(rt; TraceFault::TooLong.name(), "TooLong");
     Ok(())
 }

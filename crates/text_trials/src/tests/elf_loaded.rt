@@ -1,14 +1,11 @@
-//! ELF files that are loaded, and files that have a fault.
-use elf32::{ElfFault, load};
+//! An ELF file that is loaded.
+use elf32::load;
 use llsc_base::{Bar, Image, MachineSize, Place, Size, SizeFault};
 use std::alloc::{AllocError, Global};
 use std::test::Fail;
 
 /// How many bytes the file below has.
 const LEN: usize = 212;
-
-/// Where its program headers end.
-const TABLE_END: usize = 180;
 
 /// A file as the GNU linker lays it out: an exception table, code, data with eight bytes behind it that
 /// are in memory alone, and the stack's flags.
@@ -117,88 +114,6 @@ fn a_linked_file(rt: HostRuntime) -> Result<(), Fail> {
     }
     for &(addr, bar) in &BARS {
         assert!(rt; is_barred(&image, addr, bar), "at {addr}");
-    }
-    Ok(())
-}
-
-/// Where a file is changed, the bytes that are put there, and its fault then.
-const CHANGES: [(usize, &[u8], Option<ElfFault>); 26] = [
-    (0, &[0x7e], Some(ElfFault::Magic)),
-    (4, &[2], Some(ElfFault::Class)),
-    (5, &[2], Some(ElfFault::DataOrder)),
-    (16, &[3], Some(ElfFault::FileType)),
-    (18, &[62], Some(ElfFault::Machine)),
-    (42, &[40], Some(ElfFault::Headers)),
-    (44, &[0], Some(ElfFault::Headers)),
-    (44, &[65], Some(ElfFault::Headers)),
-    (28, &[85], Some(ElfFault::Headers)),
-    (148, &[2, 0, 0, 0], Some(ElfFault::Dynamic)),
-    (148, &[3, 0, 0, 0], Some(ElfFault::Dynamic)),
-    (108, &[7], Some(ElfFault::WritableCode)),
-    (108, &[4], Some(ElfFault::NoCode)),
-    (
-        124,
-        &[
-            0, 0xf0, 0xff, 0xff, 0, 0xf0, 0xff, 0xff, 4, 0, 0, 0, 0, 0x20,
-        ],
-        Some(ElfFault::SegmentBounds),
-    ),
-    (124, &[0xf5, 0xef, 0x0f], Some(ElfFault::SegmentBounds)),
-    (132, &[13], Some(ElfFault::FileBounds)),
-    (136, &[3], Some(ElfFault::FileBounds)),
-    (120, &[0xd1], Some(ElfFault::FileBounds)),
-    (124, &[0xc0, 0, 1], Some(ElfFault::Overlap)),
-    (124, &[0xcf, 0, 1], Some(ElfFault::Overlap)),
-    (24, &[0xb6], Some(ElfFault::Entry)),
-    (24, &[0xd0], Some(ElfFault::Entry)),
-    (24, &[0xb5], Some(ElfFault::ThumbEntry)),
-    (124, &[0xf4, 0xef, 0x0f], None),
-    (124, &[0xd0, 0, 1], None),
-    (24, &[0xcc], None),
-];
-
-/// Whether this is the fault of the file with such bytes put at a place in it.
-fn has_fault(
-    alloc: Global,
-    at: usize,
-    bytes: &[u8],
-    fault: Option<ElfFault>,
-) -> Result<bool, Fail> {
-    let mut file = linked(alloc)?;
-    if at >= file.len() || bytes.len() > file.len() - at {
-        return Ok(false);
-    }
-    file[at..at + bytes.len()].copy_from_slice(bytes);
-    Ok(load(alloc, &file, &size()?).err() == fault)
-}
-
-#[test]
-fn the_fault_of_each_change(rt: HostRuntime) -> Result<(), Fail> {
-    for &(at, bytes, fault) in &CHANGES {
-        assert!(rt; has_fault(rt.alloc(), at, bytes, fault)?, "at {at}");
-    }
-    Ok(())
-}
-
-/// The fault of the file's first so many bytes, which are fewer than all.
-fn fault_of_cut(len: usize) -> ElfFault {
-    if len < 52 {
-        ElfFault::Short
-    } else if len < TABLE_END {
-        ElfFault::Headers
-    } else {
-        ElfFault::FileBounds
-    }
-}
-
-#[test]
-fn every_cut_has_its_fault(rt: HostRuntime) -> Result<(), Fail> {
-    let file = linked(rt.alloc())?;
-    assert_eq!(rt; file.len(), LEN);
-    let size = size()?;
-    for len in 0..LEN {
-        let fault = load(rt.alloc(), &file[..len], &size).err();
-        assert!(rt; fault == Some(fault_of_cut(len)), "at {len}");
     }
     Ok(())
 }

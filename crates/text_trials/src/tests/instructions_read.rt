@@ -1,4 +1,4 @@
-//! Texts beside the words that the GNU assembler gives them, and texts with a fault.
+//! Texts beside the words that the GNU assembler gives them.
 ghost use Rattle.std.specs.Prelude.{codes, if◌then◌else◌, None, Some};
 ghost use Rattle.std.specs.Str.{bytes_eq};
 
@@ -70,53 +70,6 @@ fn reads_texts_of_each_class(rt: HostRuntime) {
     for &(mnemonic, operands, here, word) in &TEXTS {
         assert!(rt;
             is_word(mnemonic, operands, here, &NoLabels, word),
-            "{mnemonic} {operands}"
-        );
-    }
-}
-
-/// Whether a text beside no labels has this fault.
-fn has_fault(mnemonic: &str, operands: &str, here: u32, fault: AsmKind) -> bool {
-    read(mnemonic, operands, here, &NoLabels) == Err(fault)
-}
-
-/// A mnemonic, its operands, the address at which it stands, and its fault.
-const FAULTS: [(&str, &str, u32, AsmKind); 22] = [
-    // A number by a turn, and with one.
-    ("mov", "r0, #257", 0, AsmKind::Range),
-    ("mov", "r0, #4294967296", 0, AsmKind::Range),
-    ("mov", "r0, #1, #3", 0, AsmKind::Operand),
-    ("mov", "r0, #1, #32", 0, AsmKind::Range),
-    ("mov", "r0, #256, #3", 0, AsmKind::Operand),
-    // Shifts.
-    ("mov", "r0, r1, lsl #0", 0, AsmKind::Operand),
-    ("mov", "r0, r1, lsl #32", 0, AsmKind::Range),
-    ("mov", "r0, r1, lsr #33", 0, AsmKind::Range),
-    ("mov", "r0, r1, ror #32", 0, AsmKind::Range),
-    // Loads and stores.
-    ("ldr", "r0, [r1, #4096]", 0, AsmKind::Range),
-    ("ldrh", "r0, [r1, #256]", 0, AsmKind::Range),
-    ("ldrh", "r0, [r1, r2, lsl #1]", 0, AsmKind::Operand),
-    ("ldrexd", "r0, r2, [r1]", 0, AsmKind::Operand),
-    // The others.
-    ("uxtb", "r0, r1, ror #9", 0, AsmKind::Operand),
-    ("movw", "r0, #65536", 0, AsmKind::Range),
-    ("movw", "r0, #hi(x)", 0, AsmKind::Operand),
-    ("dmb", "#16", 0, AsmKind::Range),
-    // Branches.
-    ("b", "2", 0, AsmKind::Range),
-    ("b", "0x4000000", 0x1000, AsmKind::Range),
-    ("b", "away", 0, AsmKind::Label),
-    // Words that are no mnemonics.
-    ("cmps", "r0, #1", 0, AsmKind::Mnemonic),
-    ("clrexne", "", 0, AsmKind::Mnemonic),
-];
-
-#[test]
-fn tells_faults(rt: HostRuntime) {
-    for &(mnemonic, operands, here, fault) in &FAULTS {
-        assert!(rt;
-            has_fault(mnemonic, operands, here, fault),
             "{mnemonic} {operands}"
         );
     }

@@ -1,5 +1,5 @@
-//! The image of a flat file, and files that give none.
-use llsc_base::{Bar, BarredWord, ELF_MAGIC, FlatFault, Image, MachineSize, Place, Size};
+//! The image of a flat file.
+use llsc_base::{Bar, BarredWord, Image, MachineSize, Place, Size};
 use std::alloc::Global;
 use std::test::Fail;
 
@@ -99,24 +99,5 @@ fn blocks(rt: HostRuntime) -> Result<(), Fail> {
             "from {addr}"
         );
     }
-    Ok(())
-}
-
-/// Files with what stands against them on a machine of 65,536 bytes and 14 threads.
-const FAULTS: [(&[u8], Option<FlatFault>); 4] = [
-    (&[], Some(FlatFault::Length)),
-    (&ELF_MAGIC, Some(FlatFault::Elf)),
-    (&[1; 4100], Some(FlatFault::TooLong)),
-    (&[1; 4096], None),
-];
-
-#[test]
-fn faults(rt: HostRuntime) -> Result<(), Fail> {
-    let size = MachineSize::new(65_536, 14, 1, 1)?;
-    for &(file, fault) in &FAULTS {
-        let found = Image::flat(rt.alloc(), file, &size).err();
-        assert!(rt; found == fault, "of {} bytes", file.len());
-    }
-    assert_eq!(rt; FlatFault::TooLong.name(), "TooLong");
     Ok(())
 }
