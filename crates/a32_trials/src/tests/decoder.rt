@@ -1,8 +1,5 @@
 //! What the decoder reads of words.
-mod classes;
-mod halves_and_blocks;
 mod manual;
-mod operations;
 mod refusals;
 
 use a32_decode::decode;
@@ -12,16 +9,6 @@ use a32_instr::{DecodeFault, Instr};
 fn first_wrong(words: &[(u32, Result<Instr, DecodeFault>)]) -> Option<u32> {
     for (word, want) in words {
         if decode(*word) != *want {
-            return Some(*word);
-        }
-    }
-    None
-}
-
-/// The first word that isn't the instruction beside it.
-fn first_other(words: &[(u32, Instr)]) -> Option<u32> {
-    for (word, want) in words {
-        if decode(*word) != Ok(*want) {
             return Some(*word);
         }
     }
