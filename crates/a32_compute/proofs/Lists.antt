@@ -5,11 +5,7 @@ use Rattle.std.proofs.lemmas.Nat.{ones-le}
 use lib.Count.{ones, ones_step}
 use Rattle.a32_instr.specs.State.{low32}
 use Rattle.a32_instr.specs.Block.{is_listed, registers_of, count_of, loaded}
-
--- the registers of a list among the k highest
-unfoldable pub highest : ℕ → ℕ → List ℕ
-highest list zero = []
-highest list (suc k) = if is_listed list (15 - k) then (15 - k) ∷ highest list k else highest list k
+use Rattle.a32_compute.specs.Lists.{highest, AreLeft}
 
 -- all of them
 pub from_lowest : (list : ℕ) → highest list 16 ≡ registers_of list
@@ -87,18 +83,54 @@ registers_most list = subst (λ (rs : List ℕ). length rs ≤ 16) (from_lowest 
 pub ones_most : (list : ℕ) → list < 2 ^ 16 → ones list ≤ 16
 ones_most list small = ones-le 16 list small
 
--- The register of a number.
+-- Those that are left.
 
-pub first_is : (list r number passed x : ℕ) → r < 16 → is_listed list r ≡ true → number ≡ passed → slice_index (highest list (16 - r)) (number - passed) ≡ x → r ≡ x
-first_is list r number passed x low e same known =
-    let none : number - passed ≡ 0 = omega (arith, same) in
-    sym (ap (λ (n : ℕ). slice_index (highest list (16 - r)) n) none ∙ ap (λ (rs : List ℕ). slice_index rs 0) (at_listed list r low e)) ∙ known
+pub left_first : (list : ℕ) → AreLeft list 0 0
+left_first list =
+    let all : 16 - 0 ≡ 16 = omega arith in
+    let whole : highest list (16 - 0) ≡ registers_of list = ap (highest list) all ∙ from_lowest list in
+    record {
+      few = omega arith;
+      same = λ i. ap (λ rs. slice_index rs i) whole ∙ ap (slice_index (registers_of list)) (omega arith);
+      count = let none : 0 + length (highest list (16 - 0)) ≡ length (highest list (16 - 0)) = omega arith in none ∙ ap (λ rs. length rs) whole;
+    }
 
-pub later_is : (list r number passed x : ℕ) → r < 16 → is_listed list r ≡ true → passed < number → slice_index (highest list (16 - r)) (number - passed) ≡ x
-    → slice_index (highest list (16 - (r + 1))) (number - (passed + 1)) ≡ x
-later_is list r number passed x low e less known =
-    let more : number - passed ≡ suc (number - (passed + 1)) = omega (arith, less) in
-    sym (ap (λ (n : ℕ). slice_index (highest list (16 - r)) n) more ∙ ap (λ (rs : List ℕ). slice_index rs (suc (number - (passed + 1)))) (at_listed list r low e)) ∙ known
+-- past one that isn't listed the same are left
+pub left_unlisted : (list r number : ℕ) → r < 16 → is_listed list r ≡ false → AreLeft list r number → AreLeft list (r + 1) number
+left_unlisted list r number low unlisted left = record {
+  few = omega (arith, left.few);
+  same = λ i. ap (λ rs. slice_index rs i) (sym (at_unlisted list r low unlisted)) ∙ left.same i;
+  count = ap (λ rs. number + length rs) (sym (at_unlisted list r low unlisted)) ∙ left.count;
+}
+
+-- past the highest there are none
+pub left_end : (list r number : ℕ) → 16 ≤ r → AreLeft list r number → number ≡ count_of list
+left_end list r number past left =
+    let none : length (highest list (16 - r)) ≡ 0 = ap (λ rs. length rs) (at_end list r past) in
+    omega (arith, none, left.count)
+
+module _ (list r number : ℕ) (low : r < 16) (listed : is_listed list r ≡ true) (left : AreLeft list r number) where
+  -- the first that is left is the one of its number
+  pub next_listed : slice_index (registers_of list) number ≡ r
+  next_listed =
+      let here : number ≡ number + 0 = omega arith in
+      ap (slice_index (registers_of list)) here ∙ sym (left.same 0) ∙ ap (λ rs. slice_index rs 0) (at_listed list r low listed)
+
+  more : length (highest list (16 - r)) ≡ length (highest list (16 - (r + 1))) + 1
+  more = ap (λ rs. length rs) (at_listed list r low listed) ∙ omega arith
+
+  pub less : number < count_of list
+  less = let longer = more in omega (arith, longer, left.count)
+
+  -- past it one fewer is left
+  pub left_listed : AreLeft list (r + 1) (number + 1)
+  left_listed = record {
+    few = omega (arith, left.few);
+    same = λ i.
+        let further : number + suc i ≡ number + 1 + i = omega arith in
+        ap (λ rs. slice_index rs (suc i)) (sym (at_listed list r low listed)) ∙ left.same (suc i) ∙ ap (slice_index (registers_of list)) further;
+    count = let longer = more in omega (arith, longer, left.count);
+  }
 
 -- a list with the PC isn't empty
 highest_filled : (list k : ℕ) → is_listed list 15 ≡ true → 1 ≤ length (highest list (suc k))

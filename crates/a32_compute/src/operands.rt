@@ -1,7 +1,7 @@
 //! Addresses: of loads and stores, and of branches.
 ghost use Rattle.std.specs.Prelude.{◌≡◌, ◌%◌, ◌^◌, ◌<◌};
 ghost use Rattle.llsc_base.specs.Memory.{size_bytes};
-ghost use Rattle.a32_instr.specs.LoadStore.{moved, is_added, accessed_address, access_size, half_size, part_of};
+ghost use Rattle.a32_instr.specs.LoadStore.{moved, is_added, accessed_address, half_size, part_of};
 ghost use Rattle.a32_instr.specs.Branch.{target_of};
 
 use a32_instr::{HalfKind, Index, Offset};
@@ -36,13 +36,6 @@ pub fn accessed_address(index: Index, base: u32, moved: u32) -> u32
         Index::Plain | Index::Pre => moved,
         Index::Post => base,
     }
-}
-
-/// The size of a byte's access, or of a word's.
-pub fn size_of_access(byte: bool) -> Size
-    ensures { result ≡ access_size byte }
-{
-    if byte { Size::B1 } else { Size::B4 }
 }
 
 /// The size of a halfword's access, or of a signed byte's.

@@ -1,6 +1,7 @@
 //! Lists of registers, a bit for each (DDI 0406C A5.5).
 ghost use Rattle.std.specs.Prelude.{◌≡◌, ◌<◌, ◌≤◌, ◌*◌, slice_index};
 ghost use Rattle.a32_instr.specs.Block.{is_listed, registers_of, count_of, lowest_address};
+ghost use Rattle.a32_compute.specs.Lists.{AreLeft};
 
 use a32_instr::Reg;
 
@@ -24,10 +25,10 @@ pub fn count_of(list: u16) -> u32
 }
 
 /// The register of this number in a list, counted from the lowest.
-#[tactic(auto, using(crate::proofs::Lists::from_lowest, crate::proofs::Lists::at_listed, crate::proofs::Lists::at_unlisted, crate::proofs::Lists::at_end, crate::proofs::Lists::first_is, crate::proofs::Lists::later_is))]
 pub fn listed(list: u16, number: usize) -> Reg
     requires { number < count_of list }
-    ensures { result ≡ slice_index (registers_of list) number }
+    ensures register { result ≡ slice_index (registers_of list) number }
+    ensures left { AreLeft list result number }
 {
     let mut passed = 0usize;
     for r in 0..16u8 {

@@ -1,5 +1,5 @@
 -- What a block asks for is sound.
-use Rattle.std.proofs.Common.{◌≡◌, ◌≤◌, ◌<◌, ◌+◌, ◌*◌, ◌^◌, ◌%◌, ◌-◌, ℕ, zero, suc, Bool, true, false, not, nat_lt, List, Option, None, Some, length, slice_index, arith, refl, subst, if◌then◌else◌, ◌==◌}
+use Rattle.std.proofs.Common.{◌≡◌, ◌≤◌, ◌<◌, ◌+◌, ◌*◌, ◌^◌, ◌-◌, ℕ, zero, suc, Bool, true, false, not, nat_lt, List, Option, None, Some, length, slice_index, arith, refl, subst, if◌then◌else◌}
 use Rattle.std.proofs.lemmas.Bool.{ltb-true}
 use Rattle.llsc_base.specs.Images.{Program, bar_of, first_barred, or_later, word_place}
 use Rattle.llsc_base.specs.declared.access.Bar.{Bar}

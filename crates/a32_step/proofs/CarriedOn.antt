@@ -1,20 +1,25 @@
 -- A machine whose instruction was carried on over a port.
-use Rattle.std.proofs.Common.{◌≡◌, ◌≢◌, ℕ, true, false, if◌then◌else◌, Option, List, [], ◌∷◌, ◌++◌, Ok, refl, sym, ap, subst, ◌∙◌}
+use Rattle.std.proofs.Common.{◌≡◌, ℕ, Bool, true, false, if◌then◌else◌, Option, List, [], ◌∷◌, ◌++◌, Ok, refl, sym, ap, subst, ◌∙◌}
 use Rattle.llsc_base.specs.Images.{Program}
 use Rattle.a32_instr.specs.declared.instructions.Instr.{Instr}
 use Rattle.a32_instr.specs.declared.outside.Ask.{Ask}
 use Rattle.a32_instr.specs.Condition.{passes}
-use Rattle.a32_instr.specs.State.{State, Effect, asks, completes, advanced}
+use Rattle.a32_instr.specs.State.{State, Effect, asks, calls, completes, stops, advanced}
 use Rattle.a32_instr.specs.Effect.{acts, condition_of, effect_of}
 use Rattle.a32_step.specs.declared.phases.Passage.{Passage}
-use Rattle.a32_step.specs.declared.phases.Passage.TheVariants.{Complete, AtStart, UnderWay}
+use Rattle.a32_step.specs.declared.phases.Passage.TheVariants.{Complete, AtStart}
 use Rattle.a32_step.specs.ExecutionState.{ExecutionState, Stage, resting, phase_of, machine_in}
 use Rattle.a32_step.specs.ExecutionState as stage
 use Rattle.a32_step.specs.Machine.{Machine, between, instr_at, IsReady, moved_on, next_effect, after_next, given}
 use Rattle.a32_step.specs.Phase.{Phase}
 use Rattle.a32_step.specs.Phase as phase
 use Rattle.a32_step.specs.Ports.{Leads, goes, refused, stays}
-use Rattle.a32_step.specs.Passages.{IsGiven, begins, none_made, one_more, StandsAt, IsCarried, Comes, starts, replied, EndsAt, IsCarriedOn}
+use Rattle.a32_step.specs.Acting.{IsGiven, begins, none_made, one_more, StandsAt, IsActed}
+use Rattle.a32_step.specs.Passages.{Comes, starts, replied, EndsAt, IsCarriedOn, in_hand, passage_of}
+use Rattle.a32_step.specs.declared.phases.Progress.{Progress}
+use Rattle.a32_step.specs.declared.phases.Progress.TheVariants as progress
+use Rattle.a32_step.specs.Progress.{progress_of}
+use Rattle.a32_step.proofs.Acting.{acted_same}
 use Rattle.a32_step.proofs.Replied.{inside, first_effect, first_after}
 
 -- ---- between two instructions
@@ -42,113 +47,169 @@ rests instr standing state is =
     let none : standing.replies ≡ [] = ap (λ (m : Machine). m.replies) is in
     ap (λ s. record standing { stage = s }) at ∙ ap (λ rs. record standing { stage = stage.Between; replies = rs }) none
 
+-- a core's next instruction was found
+pub record IsFound (program : Program) (old : Machine) (standing : ExecutionState) (instr : Instr) (met : Bool) : Type 0 where
+  pub rest : standing ≡ resting standing.state
+  pub begins_at : old ≡ between standing.state
+  pub known : instr_at program standing.state.pc ≡ Ok instr
+  pub tested : met ≡ passes (condition_of instr) standing.state.flags
+
+pub found : {program before : Program} {old : Machine} {standing : ExecutionState} {instr : Instr} {met : Bool} (slot : Instr) (pc cond : ℕ) → machine_in slot standing ≡ old → old ≡ between old.state
+    → pc ≡ standing.state.pc → before ≡ program → instr_at before pc ≡ Ok instr → cond ≡ condition_of instr → met ≡ passes cond standing.state.flags
+    → IsFound program old standing instr met
+found {program} {old = old} {standing = standing} slot pc cond is rest at same known cond_is met_is = record {
+  rest = rests slot standing old.state (is ∙ rest);
+  begins_at = rest ∙ ap between (sym (ap (λ (m : Machine). m.state) is));
+  known = ap (instr_at program) (sym at) ∙ ap (λ p. instr_at p pc) (sym same) ∙ known;
+  tested = met_is ∙ ap (λ n. passes n standing.state.flags) cond_is;
+}
+
 -- ---- the machine after some replies
 
-module _ {S : Type 0} (replies : S → Ask → Option ℕ → S → Type 0) (program : Program) (instr : Instr) (state : State)
+-- a port is led on by replies to accesses, by which the machine comes to where these were had
+record IsReached {S : Type 0} (replies : S → Ask → Option ℕ → S → Type 0) (program : Program) (instr : Instr) (state : State) (from to : S) (had : List ℕ) : Type 0 where
+  pairs : List (Ask × ℕ)
+  leads : Leads replies from pairs to
+  comes : Comes program (between state) pairs (in_hand instr state had)
+
+module _ (program : Program) (instr : Instr) (state : State)
     (known : instr_at program state.pc ≡ Ok instr) (passed : passes (condition_of instr) state.flags ≡ true) where
   abbrev effect : List ℕ → Effect
   effect had = acts instr program had state
 
-  abbrev after : List ℕ → Machine
-  after [] = between state
-  after (reply ∷ had) = inside instr state (reply ∷ had)
-
-  next_is : (had : List ℕ) → next_effect program (after had) ≡ effect had
+  next_is : (had : List ℕ) → next_effect program (in_hand instr state had) ≡ effect had
   next_is [] = first_effect program instr state known ∙ ap (λ b. if b then acts instr program [] state else completes (advanced state)) passed
   next_is (reply ∷ had) = refl
 
-  given_on : (had : List ℕ) (ask : Ask) (reply : ℕ) → effect had ≡ asks ask → given (after_next program (after had)) reply ≡ after (had ++ reply ∷ [])
+  given_on : (had : List ℕ) (ask : Ask) (reply : ℕ) → effect had ≡ asks ask → given (after_next program (in_hand instr state had)) reply ≡ in_hand instr state (had ++ reply ∷ [])
   given_on [] ask reply asked =
       let all : effect_of instr program [] state ≡ asks ask = ap (λ b. if b then acts instr program [] state else completes (advanced state)) passed ∙ asked in
       ap (λ m. given m reply) (first_after program instr state known ∙ ap (moved_on instr (between state)) all)
   given_on (first ∷ had) ask reply asked = ap (λ e. given (moved_on instr (inside instr state (first ∷ had)) e) reply) asked
 
-  done_on : (had : List ℕ) (done : State) → effect had ≡ completes done → after_next program (after had) ≡ between done
+  done_on : (had : List ℕ) (done : State) → effect had ≡ completes done → after_next program (in_hand instr state had) ≡ between done
   done_on [] done is =
       let all : effect_of instr program [] state ≡ completes done = ap (λ b. if b then acts instr program [] state else completes (advanced state)) passed ∙ is in
       first_after program instr state known ∙ ap (moved_on instr (between state)) all
   done_on (first ∷ had) done is = ap (moved_on instr (inside instr state (first ∷ had))) is
 
-  ready : (had : List ℕ) → IsReady (after had).phase
-  ready [] = tt
-  ready (reply ∷ had) = tt
-
-  record IsReached (from to : S) (had : List ℕ) : Type 0 where
-    pairs : List (Ask × ℕ)
-    leads : Leads replies from pairs to
-    comes : Comes program (between state) pairs (after had)
-
-  reached : (from to : S) (had : List ℕ) → IsGiven replies effect from had to → IsReached from to had
-  reached from _ _ begins = record { pairs = []; leads = stays; comes = starts }
-  reached from _ _ (one_more had at next ask reply way asked served) =
-      let before = reached from at had way in
+  reached : {S : Type 0} {replies : S → Ask → Option ℕ → S → Type 0} {from : S} {had : List ℕ} {to : S} → IsGiven replies effect [] from had to → IsReached replies program instr state from to had
+  reached begins = record { pairs = []; leads = stays; comes = starts }
+  reached (one_more had at next ask reply way asked served) =
+      let before = reached way in
       record {
         pairs = before.pairs ++ (ask, reply) ∷ [];
         leads = goes before.pairs at next ask reply before.leads served;
         comes = subst (λ m. Comes program (between state) (before.pairs ++ (ask, reply) ∷ []) m) (given_on had ask reply asked)
-            (replied before.pairs (after had) ask reply before.comes (next_is had ∙ asked));
+            (replied before.pairs (in_hand instr state had) ask reply before.comes (next_is had ∙ asked));
       }
-  reached from _ _ (none_made had at next ask way asked served) =
-      let before = reached from at had way in
+  reached (none_made had at next ask way asked served) =
+      let before = reached way in
       record { pairs = before.pairs; leads = refused before.pairs at next ask before.leads served; comes = before.comes }
 
-  inside_after : (had : List ℕ) → had ≢ [] → inside instr state had ≡ after had
-  inside_after [] other = absurd (other refl)
-  inside_after (reply ∷ had) other = refl
+-- ---- how it was carried on
 
-  ends_at : (standing : ExecutionState) (had : List ℕ) (way : Passage) (new : ExecutionState) (held : Instr) (now : Machine)
-      → standing ≡ resting state → now ≡ machine_in held new → (way ≡ UnderWay → held ≡ instr)
-      → StandsAt effect had standing way new → EndsAt program (after had) way now
-  ends_at standing had Complete new held now rest now_is in_hand stands =
-      let there : now ≡ between stands.0 = now_is ∙ ap (machine_in held) stands.2 in
-      (stands.0, next_is had ∙ stands.1, there ∙ sym (done_on had stands.0 stands.1), there)
-  ends_at standing had AtStart new held now rest now_is in_hand stands =
-      (now_is ∙ ap (machine_in held) (stands.1 ∙ rest) ∙ ap after (sym stands.0), ready had)
-  ends_at standing had UnderWay new held now rest now_is in_hand stands = (
-    now_is ∙ ap (machine_in held) (stands.1 ∙ ap (λ (s : ExecutionState). record s { stage = stage.Inside; replies = had }) rest)
-        ∙ ap (λ i. inside i state had) (in_hand refl) ∙ inside_after had stands.0,
-    ready had,
-  )
+-- it goes on from where it came to
+goes_on_at : (program : Program) (instr : Instr) (state : State) (had : List ℕ) → EndsAt program (in_hand instr state had) (passage_of had) (in_hand instr state had)
+goes_on_at program instr state [] = (refl, tt)
+goes_on_at program instr state (reply ∷ had) = (refl, tt)
 
-  pub carried_on : (standing : ExecutionState) (from to : S) (way : Passage) (new : ExecutionState) (held : Instr) (now : Machine)
-      → standing ≡ resting state → now ≡ machine_in held new → (way ≡ UnderWay → held ≡ instr)
-      → IsCarried replies effect standing from way new to → IsCarriedOn replies program (between state) from way now to
-  carried_on standing from to way new held now rest now_is in_hand carried =
-      let way_to = reached from to carried.had carried.given in
-      record {
-        pairs = way_to.pairs;
-        machine = after carried.had;
-        leads = way_to.leads;
-        comes = way_to.comes;
-        ends = ends_at standing carried.had way new held now rest now_is in_hand carried.stands;
-      }
+module _ {S : Type 0} {replies : S → Ask → Option ℕ → S → Type 0} {program : Program} {old : Machine} {standing : ExecutionState} {instr : Instr} {met : Bool} {from : S}
+    (it : IsFound program old standing instr met) where
+  -- its condition fails
+  pub passed_over : {new : ExecutionState} (slot : Instr) → met ≡ false → new ≡ record standing { state = advanced standing.state }
+      → IsCarriedOn replies program old from Complete (machine_in slot new) from
+  passed_over {new = new} slot failed new_is =
+      let over : effect_of instr program [] standing.state ≡ completes (advanced standing.state) =
+      ap (λ b. if b then acts instr program [] standing.state else completes (advanced standing.state)) (sym it.tested ∙ failed) in
+      let now_is = ap (machine_in slot) (new_is ∙ ap (λ (s : ExecutionState). record s { state = advanced standing.state }) it.rest) in
+      subst (λ m. IsCarriedOn replies program m from Complete (machine_in slot new) from) (sym it.begins_at) (record {
+        pairs = [];
+        machine = between standing.state;
+        leads = stays;
+        comes = starts;
+        ends = (
+          advanced standing.state,
+          first_effect program instr standing.state it.known ∙ over,
+          now_is ∙ sym (first_after program instr standing.state it.known ∙ ap (moved_on instr (between standing.state)) over),
+          now_is,
+        );
+      })
 
--- ---- one that isn't carried on, and one whose condition fails
+  module _ {image : Program} {p : Progress} {acted : ExecutionState} {to : S} (passed : met ≡ true) (same : image ≡ program)
+      (done : IsActed replies (λ had. acts instr image had standing.state) standing from p acted to) where
+    abbrev does : List ℕ → Effect
+    does had = acts instr program had standing.state
 
-pub not_on : {S : Type 0} (replies : S → Ask → Option ℕ → S → Type 0) (program : Program) (old : Machine) (from to : S) → old ≡ between old.state → to ≡ from
-    → IsCarriedOn replies program old from AtStart old to
-not_on replies program old from to rest same = record {
+    here : IsActed replies does standing from p acted to
+    here = acted_same does (λ had. ap (λ m. acts instr m had standing.state) (sym same)) done
+
+    holds : passes (condition_of instr) standing.state.flags ≡ true
+    holds = sym it.tested ∙ passed
+
+    way_to : IsReached replies program instr standing.state from to here.had
+    way_to = reached program instr standing.state it.known holds
+        (subst (λ first. IsGiven replies does first from here.had to) (ap (λ (s : ExecutionState). s.replies) it.rest) here.given)
+
+    -- it is complete
+    complete_at : (e : Effect) → does here.had ≡ e → progress_of e ≡ progress.Complete → StandsAt here.had standing e acted
+        → (end : State) × (does here.had ≡ completes end) × (acted ≡ resting end)
+    complete_at (asks ask) is full stands = cc
+    complete_at (calls call) is full stands = cc
+    complete_at (completes end) is full stands = (end, is, stands.1 it.rest)
+    complete_at (stops stop) is full stands = cc
+
+    pub none_left : p ≡ progress.Complete → acted.replies ≡ []
+    none_left full = ap (λ (s : ExecutionState). s.replies) (complete_at (does here.had) refl (sym here.came ∙ full) here.stands).2
+
+    pub carried_through : (slot : Instr) → p ≡ progress.Complete → IsCarriedOn replies program old from Complete (machine_in slot acted) to
+    carried_through slot full =
+        let end = complete_at (does here.had) refl (sym here.came ∙ full) here.stands in
+        let there : machine_in slot acted ≡ between end.0 = ap (machine_in slot) end.2 in
+        subst (λ m. IsCarriedOn replies program m from Complete (machine_in slot acted) to) (sym it.begins_at) (record {
+          pairs = way_to.pairs;
+          machine = in_hand instr standing.state here.had;
+          leads = way_to.leads;
+          comes = way_to.comes;
+          ends = (end.0, next_is program instr standing.state it.known holds here.had ∙ end.1, there ∙ sym (done_on program instr standing.state it.known holds here.had end.0 end.1), there);
+        })
+
+    -- it is held, and goes on from there
+    held_at : (e : Effect) → progress_of e ≡ progress.Held → StandsAt here.had standing e acted → (acted.state ≡ standing.state) × (acted.replies ≡ here.had)
+    held_at (asks ask) held stands = (ap (λ (s : ExecutionState). s.state) stands, ap (λ (s : ExecutionState). s.replies) stands)
+    held_at (calls call) held stands = (ap (λ (s : ExecutionState). s.state) stands, ap (λ (s : ExecutionState). s.replies) stands)
+    held_at (completes end) held stands = cc
+    held_at (stops stop) held stands = (ap (λ (s : ExecutionState). s.state) stands, ap (λ (s : ExecutionState). s.replies) stands)
+
+    -- the instruction of its PC is still the same
+    pub known_still : p ≡ progress.Held → instr_at image acted.state.pc ≡ Ok instr
+    known_still held =
+        let at = held_at (does here.had) (sym here.came ∙ held) here.stands in
+        ap (λ m. instr_at m acted.state.pc) same ∙ ap (λ (s : State). instr_at program s.pc) at.0 ∙ it.known
+
+    pub carried_on : {passage : Passage} {now : Machine} → p ≡ progress.Held → passage ≡ passage_of acted.replies
+        → ((found : Instr) → instr_at image acted.state.pc ≡ Ok found → now ≡ in_hand found acted.state acted.replies)
+        → IsCarriedOn replies program old from passage now to
+    carried_on {passage} {now} held passage_is now_is =
+        let at = held_at (does here.had) (sym here.came ∙ held) here.stands in
+        let there : now ≡ in_hand instr standing.state here.had =
+        now_is instr (known_still held) ∙ ap (λ s. in_hand instr s acted.replies) at.0 ∙ ap (in_hand instr standing.state) at.1 in
+        subst (λ m. IsCarriedOn replies program m from passage now to) (sym it.begins_at) (record {
+          pairs = way_to.pairs;
+          machine = in_hand instr standing.state here.had;
+          leads = way_to.leads;
+          comes = way_to.comes;
+          ends = subst (λ w. EndsAt program (in_hand instr standing.state here.had) w now) (sym (passage_is ∙ ap passage_of at.1))
+              (subst (λ m. EndsAt program (in_hand instr standing.state here.had) (passage_of here.had) m) (sym there) (goes_on_at program instr standing.state here.had));
+        })
+
+-- ---- one that isn't carried on
+
+pub not_on : {S : Type 0} {replies : S → Ask → Option ℕ → S → Type 0} {program : Program} {old : Machine} {from : S} → old ≡ between old.state → IsCarriedOn replies program old from AtStart old from
+not_on {old = old} rest = record {
   pairs = [];
   machine = old;
-  leads = subst (λ port. Leads replies from [] port) (sym same) stays;
+  leads = stays;
   comes = starts;
   ends = (refl, subst (λ (m : Machine). IsReady m.phase) (sym rest) tt);
 }
-
-pub passed_over : {S : Type 0} (replies : S → Ask → Option ℕ → S → Type 0) (program : Program) (instr : Instr) (state : State) (from : S) (now : Machine)
-    → instr_at program state.pc ≡ Ok instr → passes (condition_of instr) state.flags ≡ false → now ≡ between (advanced state)
-    → IsCarriedOn replies program (between state) from Complete now from
-passed_over replies program instr state from now known failed now_is =
-    let over : effect_of instr program [] state ≡ completes (advanced state) = ap (λ b. if b then acts instr program [] state else completes (advanced state)) failed in
-    record {
-      pairs = [];
-      machine = between state;
-      leads = stays;
-      comes = starts;
-      ends = (
-        advanced state,
-        first_effect program instr state known ∙ over,
-        now_is ∙ sym (first_after program instr state known ∙ ap (moved_on instr (between state)) over),
-        now_is,
-      );
-    }

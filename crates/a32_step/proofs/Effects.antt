@@ -1,5 +1,5 @@
 -- What is so of an instruction's effect behind so many replies.
-use Rattle.std.proofs.Common.{◌≡◌, ℕ, ◌%◌, ◌<◌, ◌==◌, if◌then◌else◌, Bool, true, false, List, length}
+use Rattle.std.proofs.Common.{ℕ, ◌%◌, ◌<◌, ◌==◌, if◌then◌else◌, Bool, true, false, List, length}
 use Rattle.llsc_base.specs.Images.{Program}
 use Rattle.llsc_base.specs.declared.access.Bar.{Bar}
 use Rattle.llsc_base.specs.declared.access.Bar.TheVariants as bar
@@ -8,7 +8,7 @@ use Rattle.a32_instr.specs.declared.outside.Stop.{Stop}
 use Rattle.a32_instr.specs.declared.outside.Stop.TheVariants as stop
 use Rattle.a32_instr.specs.State.{State, Effect, asks, calls, completes, stops, jumps, writes}
 use Rattle.a32_instr.specs.LoadStore.{barred}
-use Rattle.a32_step.specs.Machine.{wanted_of, IsAllowed, IsTested, PassesTests, ValueFits}
+use Rattle.a32_step.specs.Machine.{wanted_of, IsTested, PassesTests, ValueFits}
 
 -- a stop that an instruction may make: each but that for want of a tag, which is memory's
 abbrev pub IsOwn : Stop → Type 0

@@ -98,23 +98,23 @@ inside_moves program instr standing (Stopped stop) inside = absurd inside
 
 pub acted_wants : (program : Program) (old now : Machine) (slots : List Slot) (pc : ℕ) (instr : Instr) (before after : ExecutionState) (p : Progress) (w : Wanted)
     → now ≡ machine_in (instr_for slots before.state.pc) before → HasBegun program old now → pc ≡ before.state.pc → instr ≡ instr_for slots pc
-    → p ≡ progress_of (acts instr program before.replies before.state) → after ≡ moves before (acts instr program before.replies before.state)
+    → p ≡ progress_of (acts instr program before.replies before.state) → wanted_at p after.stage ≡ wanted_at p (moves before (acts instr program before.replies before.state)).stage
     → w ≡ wanted_at p after.stage → w ≡ wanted_of (next_effect program old)
 acted_wants program old now slots pc instr before after p w same begun at held same_p same_after same_w =
     let here : instr ≡ instr_for slots before.state.pc = held ∙ ap (λ a. instr_for slots a) at in
     let known : HasBegun program old (machine_in instr before) = subst (λ m. HasBegun program old m) (same ∙ ap (λ i. machine_in i before) (sym here)) begun in
     let effect : Effect = acts instr program before.replies before.state in
-    same_w ∙ ap (λ q. wanted_at q after.stage) same_p ∙ ap (λ s. wanted_at (progress_of effect) s.stage) same_after ∙ effect_wants before effect
+    same_w ∙ same_after ∙ ap (λ q. wanted_at q (moves before effect).stage) same_p ∙ effect_wants before effect
     ∙ ap wanted_of (sym (inside_acts program instr before before.stage known.0) ∙ known.1)
 
 pub acted_stands : (program : Program) (old now : Machine) (slots : List Slot) (pc : ℕ) (instr : Instr) (before after new : ExecutionState) (p : Progress)
     → now ≡ machine_in (instr_for slots before.state.pc) before → HasBegun program old now → pc ≡ before.state.pc → instr ≡ instr_for slots pc
-    → p ≡ progress_of (acts instr program before.replies before.state) → after ≡ moves before (acts instr program before.replies before.state) → new ≡ settled p after
+    → p ≡ progress_of (acts instr program before.replies before.state) → settled p after ≡ settled p (moves before (acts instr program before.replies before.state)) → new ≡ settled p after
     → machine_in (instr_for slots new.state.pc) new ≡ after_next program old
 acted_stands program old now slots pc instr before after new p same begun at held same_p same_after same_new =
     let here : instr_for slots before.state.pc ≡ instr = sym (held ∙ ap (λ a. instr_for slots a) at) in
     let known : HasBegun program old (machine_in instr before) = subst (λ m. HasBegun program old m) (same ∙ ap (λ i. machine_in i before) here) begun in
     let effect : Effect = acts instr program before.replies before.state in
-    let over : new ≡ settles before effect = same_new ∙ ap (λ q. settled q after) same_p ∙ ap (settled (progress_of effect)) same_after in
+    let over : new ≡ settles before effect = same_new ∙ same_after ∙ ap (λ q. settled q (moves before effect)) same_p in
     ap (λ s. machine_in (instr_for slots s.state.pc) s) over ∙ slot_stays slots before effect ∙ ap (λ i. machine_in i (settles before effect)) here
     ∙ moves_is instr before effect ∙ sym (inside_moves program instr before before.stage known.0) ∙ known.2

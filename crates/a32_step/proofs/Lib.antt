@@ -1,4 +1,3 @@
-pub mod Accesses
 pub mod Follows
 pub mod Words
 pub mod Effects
@@ -9,7 +8,7 @@ pub mod Replied
 pub mod Remembered
 pub mod ExecutionStates
 pub mod Learnt
-pub mod Carrying
+pub mod Acting
 pub mod Placed
 pub mod Places
 pub mod BlockPassages

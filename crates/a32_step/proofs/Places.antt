@@ -1,5 +1,5 @@
 -- Loads and stores, by the address that was worked out and what is moved.
-use Rattle.std.proofs.Common.{◌≡◌, ◌^◌, ◌%◌, ℕ, Bool, List, refl, sym, ap, ◌∙◌}
+use Rattle.std.proofs.Common.{◌≡◌, ◌^◌, ◌%◌, ℕ, Bool, List, [], refl, sym, ap, ◌∙◌}
 use Rattle.llsc_base.specs.Images.{Program}
 use Rattle.llsc_base.specs.declared.access.Place.{Place}
 use Rattle.llsc_base.specs.declared.access.Size.{Size}
@@ -9,9 +9,12 @@ use Rattle.a32_instr.specs.declared.instructions.Index.{Index}
 use Rattle.a32_instr.specs.declared.instructions.Offset.{Offset}
 use Rattle.a32_instr.specs.declared.instructions.HalfKind.{HalfKind}
 use Rattle.a32_instr.specs.declared.instructions.HalfKind.TheVariants.{Strh, Ldrh, Ldrsb, Ldrsh}
+use Rattle.a32_instr.specs.declared.outside.Ask.TheVariants.{LoadEx, StoreEx}
 use Rattle.a32_instr.specs.Effect.{acts}
+use Rattle.a32_instr.specs.Exclusive.{load_exclusive, store_exclusive, stored_part}
 use Rattle.a32_instr.specs.LoadStore.{access_size, accessed_address, accesses, half_accesses, half_by, half_size, loads_half, moved_address, stores, word_by, written_back}
 use Rattle.a32_instr.specs.State.{State, register}
+use Rattle.a32_step.specs.Acting.{asked_first}
 
 module _ (program : Program) (instr : Instr) (state : State) (cond : ℕ) (index : Index) (rn rt : ℕ) (offset : Offset) (addr moved : ℕ)
     (moved_is : moved ≡ moved_address rn offset state) (addr_is : addr ≡ accessed_address index (register state rn) moved) (had : List ℕ) where
@@ -56,3 +59,14 @@ pub ldrh_is : (program : Program) (kind : HalfKind) (addr rt : ℕ) (size : Size
 ldrh_is program kind addr rt size back had state other size_is =
     loads_by program kind (record { addr = addr; size = half_size kind }) rt back had state other
     ∙ ap (λ s. loads_half kind program (record { addr = addr; size = s }) back rt had state) (sym size_is)
+
+-- an exclusive's access, by the address and the value that were worked out
+pub load_exclusive_asks : (program : Program) (size : Size) (rn rt : ℕ) (state : State) {addr : ℕ} → addr ≡ register state rn
+    → load_exclusive size rn rt program [] state ≡ asked_first program (LoadEx (record { addr = addr; size = size }))
+load_exclusive_asks program size rn rt state addr_is = ap (λ a. asked_first program (LoadEx (record { addr = a; size = size }))) (sym addr_is)
+
+pub store_exclusive_asks : (program : Program) (size : Size) (rn rd rt : ℕ) (state : State) {addr value : ℕ} → addr ≡ register state rn → value ≡ stored_part size rt state
+    → store_exclusive size rn rd rt program [] state ≡ asked_first program (StoreEx (record { addr = addr; size = size }) value)
+store_exclusive_asks program size rn rd rt state {addr} addr_is value_is =
+    ap (λ a. asked_first program (StoreEx (record { addr = a; size = size }) (stored_part size rt state))) (sym addr_is)
+    ∙ ap (λ v. asked_first program (StoreEx (record { addr = addr; size = size }) v)) (sym value_is)

@@ -1,12 +1,12 @@
 -- What a machine asks for next has passed its tests, and a stop that it comes to is an instruction's.
-use Rattle.std.proofs.Common.{◌≡◌, ℕ, ◌<◌, if◌then◌else◌, Option, Some, None, Result, Ok, Err, List, [], length, refl, sym, ap, subst, ◌∙◌}
+use Rattle.std.proofs.Common.{◌≡◌, ℕ, ◌<◌, Option, Some, None, Result, Ok, Err, List, [], length, refl, sym, subst}
 use Rattle.llsc_base.specs.Images.{Program, word_at}
 use Rattle.a32_instr.specs.declared.outside.Ask.{Ask}
 use Rattle.a32_instr.specs.declared.outside.Stop.{Stop}
 use Rattle.a32_instr.specs.declared.instructions.DecodeFault.{DecodeFault}
 use Rattle.a32_instr.specs.declared.instructions.DecodeFault.TheVariants as fault
 use Rattle.a32_instr.specs.declared.instructions.Instr.{Instr}
-use Rattle.a32_instr.specs.State.{State, Effect, asks, completes, stops, advanced}
+use Rattle.a32_instr.specs.State.{State, asks, completes, stops, advanced}
 use Rattle.a32_instr.specs.Condition.{passes}
 use Rattle.a32_instr.specs.Effect.{acts, condition_of}
 use Rattle.a32_instr.specs.Table.{table, meaning}

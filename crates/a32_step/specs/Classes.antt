@@ -35,3 +35,14 @@ instr_class (LoadEx cond size rn rt) = synchronization
 instr_class (StoreEx cond size rn rd rt) = synchronization
 instr_class Clrex = synchronization
 instr_class (Barrier kind option) = hint_or_barrier
+
+-- classes whose instructions ask for nothing, and whose rare ones are carried out apart
+abbrev pub IsApart : Class → Type 0
+IsApart data_processing = Unit {0}
+IsApart multiplication = ⊥
+IsApart word_access = ⊥
+IsApart half_access = ⊥
+IsApart block_access = ⊥
+IsApart synchronization = ⊥
+IsApart branch_or_call = Unit {0}
+IsApart hint_or_barrier = Unit {0}

@@ -10,3 +10,4 @@ pub mod Slots
 pub mod Ports
 pub mod Known
 pub mod Passages
+pub mod Acting

@@ -1,8 +1,9 @@
 //! One guest thread's core.
-ghost use Rattle.std.specs.Prelude.{◌≡◌, ◌≤◌, ◌%◌, ◌+◌, ◌^◌, length, slice_index, IfSome, IfNone, IsTrue, []};
+ghost use Rattle.std.specs.Prelude.{◌≡◌, ◌≤◌, ◌%◌, ◌+◌, ◌^◌, length, slice_index, IfSome, IfNone, IsTrue, Ok, []};
+ghost use Rattle.a32_instr.specs.declared.instructions.Instr.{Instr};
 ghost use Rattle.a32_instr.specs.State.{answered};
 ghost use Rattle.a32_step.specs.Words.{AreWords};
-ghost use Rattle.a32_step.specs.Passages.{IsCarriedOn};
+ghost use Rattle.a32_step.specs.Passages.{IsCarriedOn, in_hand, passage_of};
 ghost use Rattle.a32_step.specs.Phase as phase;
 ghost use Rattle.a32_step.specs.Machine.{start_of, given, next_effect, wanted_of, after_next, after_instr, begins, instr_at, between, Follows, HasBegun, IsReady, IsTested, IsAwaiting, IsCalling};
 
@@ -11,6 +12,7 @@ use crate::decoded::Decoded;
 use crate::execution::Execution;
 use crate::phases::{Passage, Point, Progress, Wanted};
 use crate::ports::Port;
+use crate::sources::Nobody;
 use a32_instr::{CallAsk, Flags};
 use llsc_base::Image;
 use std::marker::Model;
@@ -152,7 +154,10 @@ impl Cpu {
             return wanted;
         }
         let instr = self.decoded.at(self.execution.pc());
-        let progress = self.execution.act(instr, image);
+        let mut nobody = Nobody {
+            bytes: image.bytes().len(),
+        };
+        let progress = self.execution.act(instr, image, &mut nobody);
         self.execution.settle(progress)
     }
 
@@ -223,15 +228,28 @@ impl Cpu {
             return Passage::Complete;
         }
         let image = code.image();
-        match self.execution.carry(&known.instr, image, port) {
-            Passage::Complete => Passage::Complete,
-            Passage::AtStart => Passage::AtStart,
-            Passage::UnderWay => {
-                // They are 16 at most.
-                self.execution.count_replies();
-                self.decoded.keep(image, pc);
-                Passage::UnderWay
-            }
+        match self.execution.act(&known.instr, image, port) {
+            Progress::Complete => Passage::Complete,
+            Progress::Held => self.put_back(image),
         }
+    }
+
+    /// The instruction at the PC, which is held, goes on after the replies that it had, or is at its start again where it had
+    /// none.
+    #[cold]
+    #[inline(never)]
+    fn put_back(&mut self, image: &Image) -> Passage
+        requires { (instr : Instr) × (instr_at image.now self.old.state.pc ≡ Ok instr) }
+        ensures passage { result ≡ passage_of self.old.replies }
+        ensures machine { (instr : Instr) → instr_at image.now self.old.state.pc ≡ Ok instr → self.new ≡ in_hand instr self.old.state self.old.replies }
+        ensures room { length self.new.replies ≤ 16 }
+    {
+        if self.execution.count_replies() == 0 {
+            self.execution.finish();
+            return Passage::AtStart;
+        }
+        self.decoded.keep(image, self.execution.pc());
+        self.execution.begin();
+        Passage::UnderWay
     }
 }

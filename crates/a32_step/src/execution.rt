@@ -1,21 +1,26 @@
 //! The instruction at the PC of one guest thread as it is carried out.
-ghost use Rattle.std.specs.Prelude.{◌≡◌, ◌≢◌, ◌<◌, ◌≤◌, ◌%◌, ◌∷◌, ◌++◌, length, slice_index, IsFalse, IsTrue, []};
+ghost use Rattle.llsc_base.specs.Images.{Program};
+ghost use Rattle.std.specs.Prelude.{◌≡◌, ◌≢◌, ◌<◌, ◌≤◌, ◌%◌, ◌+◌, ◌^◌, ◌∷◌, ◌++◌, length, slice_index, IsFalse, IsTrue, []};
 ghost use Rattle.a32_instr.specs.State.{register, with_register, advanced, jumps, writes, answered, stops};
 ghost use Rattle.a32_instr.specs.Condition.{passes};
 ghost use Rattle.a32_instr.specs.Effect.{acts};
 ghost use Rattle.a32_step.specs.Progress.{progress_of, stop_of};
 ghost use Rattle.a32_step.specs.Words.{AreWords};
+ghost use Rattle.a32_step.specs.Classes.{instr_class, IsApart};
+ghost use Rattle.a32_step.specs.Acting.{IsActed};
 ghost use Rattle.a32_step.specs.ExecutionState.{Between, Inside, Awaiting, Calling, Stopped, IsAwaited, IsCalled, resting, moves, settled, wanted_at};
 ghost use Rattle.a32_step.specs.Inside.{stage_held};
 ghost use Rattle.a32_step.specs.Machine.{wanted_of};
 
 use crate::phases::{Hold, Point, Progress, Wanted};
 use crate::replies::Replies;
+use crate::sources::Source;
 use a32_compute::conditions::passes;
 use a32_instr::{Ask, CallAsk, Cond, Flags, Instr, Reg, Stop};
 use llsc_base::Image;
 use std::marker::Model;
 
+mod accesses;
 mod blocks;
 mod branches;
 mod data_processing;
@@ -23,7 +28,6 @@ mod exclusives;
 mod load_store;
 mod moves;
 mod multiply;
-mod passages;
 
 /// What is wanted by a thread that is held.
 #[inline]
@@ -241,7 +245,7 @@ impl Execution {
 
     /// The instruction is over.
     #[inline]
-    fn finish(&mut self)
+    pub fn finish(&mut self)
         ensures { self.new ≡ resting self.old.state }
     {
         self.point = Point::Between;
@@ -250,14 +254,12 @@ impl Execution {
 
     /// The instruction waits for the reply to an access.
     #[inline]
-    fn wait(&mut self, ask: Ask) -> Progress
+    fn wait(&mut self, ask: Ask)
         requires { length self.old.replies < 16 }
-        ensures progress { result ≡ Progress.Held }
-        ensures state { self.new ≡ record self.old { stage = Awaiting ask } }
+        ensures { self.new ≡ record self.old { stage = Awaiting ask } }
     {
         self.point = Point::Held;
         self.hold = Hold::Access(ask);
-        Progress::Held
     }
 
     /// The thread stops.
@@ -332,11 +334,45 @@ impl Execution {
 }
 
 impl Execution {
-    /// What the instruction does, its condition passed.
+    /// What the instruction does, its condition passed. The source is asked for the accesses to which it has had no reply.
     #[inline(always)]
-    pub fn act(&mut self, instr: &Instr, image: &Image) -> Progress
-        ensures progress { result ≡ progress_of (acts instr.now image.now self.old.replies self.old.state) }
-        ensures state { self.new ≡ moves self.old (acts instr.now image.now self.old.replies self.old.state) }
+    pub fn act<S: Source>(&mut self, instr: &Instr, image: &Image, source: &mut S) -> Progress
+        requires fresh { IsFalse S.RESUMES → self.old.replies ≡ [] }
+        requires mem { S.mem source.old ≡ length image.now.bytes }
+        requires few { S.counted source.old + 16 ≤ 2 ^ 63 }
+        ensures acted { IsActed S.replies (λ had. acts instr.now image.now had self.old.state) self.old source.old result self.new source.new }
+        ensures mem { S.mem source.new ≡ S.mem source.old }
+        ensures counted { S.counted source.new ≤ S.counted source.old + 16 }
+    {
+        match *instr {
+            Instr::Alu {
+                op,
+                s,
+                rd,
+                rn,
+                operand,
+                ..
+            } => self.alu(op, s, rd, rn, operand),
+            Instr::Branch { link, words, .. } => self.branch(link, words),
+            Instr::Word { .. } => self.access_word(instr, image, source),
+            Instr::Half { .. } => self.access_half(instr, image, source),
+            Instr::Block { .. } => self.access_block(instr, image, source),
+            Instr::LoadEx { .. } | Instr::StoreEx { .. } | Instr::Clrex => {
+                self.synchronize(instr, image, source)
+            }
+            Instr::Mul { .. } | Instr::Mla { .. } | Instr::Mls { .. } | Instr::Long { .. } => {
+                self.multiplication(instr)
+            }
+            _ => self.act_apart(instr),
+        }
+    }
+
+    /// What an instruction that is rare and asks for nothing does.
+    #[inline(never)]
+    fn act_apart(&mut self, instr: &Instr) -> Progress
+        requires { IsApart (instr_class instr.now) }
+        ensures progress { (program : Program) → result ≡ progress_of (acts instr.now program self.old.replies self.old.state) }
+        ensures state { (program : Program) → self.new ≡ moves self.old (acts instr.now program self.old.replies self.old.state) }
     {
         match *instr {
             Instr::Alu { .. }
@@ -345,28 +381,11 @@ impl Execution {
             | Instr::Clz { .. }
             | Instr::Extend { .. }
             | Instr::Rev { .. } => self.process_data(instr),
-            Instr::Mul { .. } | Instr::Mla { .. } | Instr::Mls { .. } | Instr::Long { .. } => {
-                self.multiplication(instr)
-            }
-            Instr::Word { .. } => self.access_word(instr, image),
-            Instr::Half { .. } => self.access_half(instr, image),
-            Instr::Block { .. } => self.access_block(instr, image),
-            Instr::LoadEx { .. } | Instr::StoreEx { .. } | Instr::Clrex => {
-                self.synchronize(instr, image)
-            }
             Instr::Branch { .. } | Instr::BranchReg { .. } | Instr::Svc { .. } => {
                 self.branch_or_call(instr)
             }
             Instr::Nop { .. } | Instr::Yield { .. } | Instr::Barrier { .. } => self.advance(),
+            _ => unreachable!(),
         }
-    }
-
-    /// As [`Execution::act`], apart from the way of the instructions that are frequent.
-    #[inline(never)]
-    fn act_apart(&mut self, instr: &Instr, image: &Image) -> Progress
-        ensures progress { result ≡ progress_of (acts instr.now image.now self.old.replies self.old.state) }
-        ensures state { self.new ≡ moves self.old (acts instr.now image.now self.old.replies self.old.state) }
-    {
-        self.act(instr, image)
     }
 }

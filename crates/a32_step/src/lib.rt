@@ -17,6 +17,7 @@ pub mod laws;
 mod phases;
 mod ports;
 mod replies;
+mod sources;
 
 pub use a32_instr::{Ask, CallAsk, Flags, Stop};
 pub use code::Code;

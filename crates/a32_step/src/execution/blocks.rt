@@ -1,18 +1,19 @@
 //! Loads and stores of a block of registers (DDI 0406C A5.5).
-ghost use Rattle.std.specs.Prelude.{◌≡◌, ◌<◌, ◌≤◌, ◌+◌, ◌^◌, [], IsTrue, None, length, not};
+ghost use Rattle.std.specs.Prelude.{◌≡◌, ◌<◌, ◌≤◌, ◌+◌, ◌^◌, IsFalse, IsTrue, None, length, not, []};
 ghost use Rattle.llsc_base.specs.Images.{first_barred};
-ghost use Rattle.a32_instr.specs.State.{State, jumps};
-ghost use Rattle.a32_instr.specs.Block.{registers_of, count_of, block_size, block, block_ask, block_at, block_back, block_done, block_loaded, block_next, with_block};
+ghost use Rattle.a32_instr.specs.State.{State, asks, jumps};
+ghost use Rattle.a32_instr.specs.Block.{registers_of, count_of, block_size, block, block_at, block_back, block_done, block_loaded, with_block};
 ghost use Rattle.a32_instr.specs.Effect.{acts};
 ghost use Rattle.a32_step.specs.Progress.{progress_of};
 ghost use Rattle.a32_step.specs.Classes.{instr_class, block_access};
-ghost use Rattle.a32_step.specs.ExecutionState.{Inside, moves, resting};
-ghost use Rattle.a32_step.specs.Passages.{IsCarried, IsGiven, word_ask};
+ghost use Rattle.a32_step.specs.ExecutionState.{Awaiting, Inside, moves, resting};
+ghost use Rattle.a32_compute.specs.Lists.{AreLeft};
+ghost use Rattle.a32_step.specs.Acting.{IsActed, IsGiven, word_ask};
 
 use super::Execution;
 use super::load_store::barred;
-use crate::phases::{Passage, Progress};
-use crate::ports::Port;
+use crate::phases::Progress;
+use crate::sources::Source;
 use a32_compute::operands::moved;
 use a32_compute::parts::low_word;
 use a32_compute::registers::{count_of, is_listed, listed, lowest_address};
@@ -39,25 +40,6 @@ impl Execution {
             let base = moved(self.operand(transfer.rn), transfer.up, bytes);
             self.set(transfer.rn, base);
         }
-    }
-
-    /// The access of the register of this number in the list, whose block begins at this address.
-    fn block_ask(&self, transfer: Transfer, lowest: u32, number: usize) -> Ask
-        requires listed { number < count_of transfer.list }
-        requires few { number < 16 }
-        ensures { result ≡ block_ask transfer.load lowest (registers_of transfer.list) self.now.state number }
-    {
-        let place = Place {
-            addr: lowest.wrapping_add(4 * number as u32),
-            size: Size::B4,
-        };
-        if transfer.load {
-            return Ask::Load(place);
-        }
-        Ask::Store(
-            place,
-            u64::from(self.operand(listed(transfer.list, number))),
-        )
     }
 
     /// Each listed register gets its reply.
@@ -114,40 +96,6 @@ impl Execution {
         Progress::Complete
     }
 
-    /// LDM and STM (DDI 0406C A8.8.58 to A8.8.61, A8.8.199 to A8.8.202).
-    pub(super) fn block(&mut self, image: &Image, transfer: Transfer) -> Progress
-        ensures progress { result ≡ progress_of (block image.now transfer.load transfer.before transfer.up transfer.wback transfer.rn transfer.list self.old.replies self.old.state) }
-        ensures state { self.new ≡ moves self.old (block image.now transfer.load transfer.before transfer.up transfer.wback transfer.rn transfer.list self.old.replies self.old.state) }
-    {
-        let count = count_of(transfer.list);
-        let lowest = lowest_address(
-            transfer.up,
-            transfer.before,
-            self.operand(transfer.rn),
-            4 * count,
-        );
-        if let Some(word) = image.test_words(lowest, count, !transfer.load) {
-            return self.stop(barred(word.bar, word.addr));
-        }
-        self.next_of_block(transfer, lowest, count)
-    }
-
-    /// A block that nothing bars asks for its next word, or is complete with all of them.
-    #[inline(always)]
-    fn next_of_block(&mut self, transfer: Transfer, lowest: u32, count: u32) -> Progress
-        requires count { count ≡ count_of transfer.list }
-        requires most { count ≤ 16 }
-        ensures progress { result ≡ progress_of (block_next transfer.load lowest transfer.list (block_back transfer.wback transfer.up transfer.rn (block_size transfer.list) self.old.state) self.old.replies self.old.state) }
-        ensures state { self.new ≡ moves self.old (block_next transfer.load lowest transfer.list (block_back transfer.wback transfer.up transfer.rn (block_size transfer.list) self.old.state) self.old.replies self.old.state) }
-    {
-        let replies = self.replies.count();
-        if replies < count as usize {
-            let ask = self.block_ask(transfer, lowest, replies);
-            return self.wait(ask);
-        }
-        self.finish_transfer(transfer, count)
-    }
-
     /// A block whose words were all accessed is complete, if its PC may be.
     #[inline(always)]
     fn finish_transfer(&mut self, transfer: Transfer, count: u32) -> Progress
@@ -162,38 +110,6 @@ impl Execution {
         }
         self.move_base(transfer, 4 * count);
         self.advance()
-    }
-}
-
-impl Execution {
-    /// A load or a store of a block (DDI 0406C A5.5).
-    #[inline(always)]
-    pub(super) fn access_block(&mut self, instr: &Instr, image: &Image) -> Progress
-        requires { instr_class instr.now ≡ block_access }
-        ensures progress { result ≡ progress_of (acts instr.now image.now self.old.replies self.old.state) }
-        ensures state { self.new ≡ moves self.old (acts instr.now image.now self.old.replies self.old.state) }
-    {
-        let Instr::Block {
-            load,
-            before,
-            up,
-            wback,
-            rn,
-            list,
-            ..
-        } = *instr
-        else {
-            unreachable!()
-        };
-        let transfer = Transfer {
-            load,
-            before,
-            up,
-            wback,
-            rn,
-            list,
-        };
-        self.block(image, transfer)
     }
 }
 
@@ -213,33 +129,41 @@ impl Execution {
         Ask::Store(place, u64::from(self.operand(r)))
     }
 
-    /// The accesses of a block whose lowest word is at this address, from the lowest register up, as far as the port replies, and
-    /// whether it did to all of them.
-    fn access_each<P: Port>(
+    /// The accesses of a block of so many words, whose lowest is at this address, from the lowest register up, past those that have
+    /// had their replies, as far as the source replies. Whether all have had theirs.
+    fn access_each<S: Source>(
         &mut self,
         image: &Image,
         load: bool,
         list: u16,
+        count: u32,
         lowest: u32,
-        port: &mut P,
+        source: &mut S,
     ) -> bool
-        requires begun { (self.old.stage ≡ Inside) × (self.old.replies ≡ []) }
+        requires begun { self.old.stage ≡ Inside }
+        requires count { count ≡ count_of list }
         requires passes { first_barred image.now (not load) lowest (count_of list) ≡ None }
-        requires mem { P.mem port.old ≡ length image.now.bytes }
-        requires few { P.counted port.old + 16 ≤ 2 ^ 63 }
-        ensures given { (back : State) → IsGiven P.replies (λ had. block_at image.now load lowest list back had self.old.state) port.old self.new.replies port.new }
-        ensures state { self.new ≡ record self.old { replies = self.new.replies } }
-        ensures all { IsTrue result → length self.new.replies ≡ count_of list }
-        ensures mem { P.mem port.new ≡ P.mem port.old }
-        ensures counted { P.counted port.new ≤ P.counted port.old + 16 }
+        requires fresh { IsFalse S.RESUMES → self.old.replies ≡ [] }
+        requires mem { S.mem source.old ≡ length image.now.bytes }
+        requires few { S.counted source.old + 16 ≤ 2 ^ 63 }
+        ensures given { (back : State) → IsGiven S.replies (λ had. block_at image.now load lowest list back had self.old.state) self.old.replies source.old self.new.replies source.new }
+        ensures all { IsTrue result → (self.new ≡ record self.old { replies = self.new.replies }) × (count_of list ≤ length self.new.replies) }
+        ensures held { IsFalse result → (ask : Ask) × ((back : State) → block_at image.now load lowest list back self.new.replies self.old.state ≡ asks ask) × (self.new ≡ record self.old { stage = Awaiting ask; replies = self.new.replies }) }
+        ensures mem { S.mem source.new ≡ S.mem source.old }
+        ensures counted { S.counted source.new ≤ S.counted source.old + 16 }
     {
-        let mut addr = lowest;
-        for r in 0..16u8 {
+        let had = if S::RESUMES { self.replies.count() } else { 0 };
+        if count as usize <= had {
+            return true;
+        }
+        let mut addr = lowest.wrapping_add(4 * had as u32);
+        for r in first_left(list, had)..16u8 {
             if !is_listed(list, r) {
                 continue;
             }
             let ask = self.word_ask(load, addr, Reg::new(r));
-            let Some(reply) = port.reply(ask) else {
+            let Some(reply) = source.reply(ask) else {
+                self.wait(ask);
                 return false;
             };
             self.replies.push(reply);
@@ -249,49 +173,56 @@ impl Execution {
     }
 
     /// LDM and STM (DDI 0406C A8.8.58 to A8.8.61, A8.8.199 to A8.8.202).
-    fn carry_transfer<P: Port>(
-        &mut self,
-        image: &Image,
-        transfer: Transfer,
-        port: &mut P,
-    ) -> Passage
-        requires resting { self.old ≡ resting self.old.state }
-        requires mem { P.mem port.old ≡ length image.now.bytes }
-        requires few { P.counted port.old + 16 ≤ 2 ^ 63 }
-        ensures carried { IsCarried P.replies (λ had. block image.now transfer.load transfer.before transfer.up transfer.wback transfer.rn transfer.list had self.old.state) self.old port.old result self.new port.new }
-        ensures mem { P.mem port.new ≡ P.mem port.old }
-        ensures counted { P.counted port.new ≤ P.counted port.old + 16 }
+    fn block<S: Source>(&mut self, image: &Image, transfer: Transfer, source: &mut S) -> Progress
+        requires fresh { IsFalse S.RESUMES → self.old.replies ≡ [] }
+        requires mem { S.mem source.old ≡ length image.now.bytes }
+        requires few { S.counted source.old + 16 ≤ 2 ^ 63 }
+        ensures acted { IsActed S.replies (λ had. block image.now transfer.load transfer.before transfer.up transfer.wback transfer.rn transfer.list had self.old.state) self.old source.old result self.new source.new }
+        ensures mem { S.mem source.new ≡ S.mem source.old }
+        ensures counted { S.counted source.new ≤ S.counted source.old + 16 }
     {
         let count = count_of(transfer.list);
         let base = self.operand(transfer.rn);
         let lowest = lowest_address(transfer.up, transfer.before, base, 4 * count);
-        if image.test_words(lowest, count, !transfer.load).is_some() {
-            return Passage::AtStart;
+        if let Some(word) = image.test_words(lowest, count, !transfer.load) {
+            return self.stop(barred(word.bar, word.addr));
         }
         self.begin();
-        let replied = self.access_each(image, transfer.load, transfer.list, lowest, port);
-        if !replied {
-            return self.go_on();
+        if !self.access_each(image, transfer.load, transfer.list, count, lowest, source) {
+            return Progress::Held;
         }
         let progress = self.finish_transfer(transfer, count);
         self.after_all(progress)
     }
 
+    /// Where the block is complete, it is over.
+    #[inline(always)]
+    fn after_all(&mut self, progress: Progress) -> Progress
+        ensures progress { result ≡ progress }
+        ensures complete { progress ≡ Progress.Complete → self.new ≡ resting self.old.state }
+        ensures held { progress ≡ Progress.Held → self.new ≡ self.old }
+    {
+        if progress == Progress::Complete {
+            self.finish();
+        }
+        progress
+    }
+
     /// A load or a store of a block (DDI 0406C A5.5).
     #[inline(never)]
-    pub(super) fn carry_block<P: Port>(
+    pub(super) fn access_block<S: Source>(
         &mut self,
         instr: &Instr,
         image: &Image,
-        port: &mut P,
-    ) -> Passage
+        source: &mut S,
+    ) -> Progress
         requires class { instr_class instr.now ≡ block_access }
-        requires resting { self.old ≡ resting self.old.state }
-        requires mem { P.mem port.old ≡ length image.now.bytes }
-        requires few { P.counted port.old + 16 ≤ 2 ^ 63 }
-        ensures carried { IsCarried P.replies (λ had. acts instr.now image.now had self.old.state) self.old port.old result self.new port.new }
-        ensures mem { P.mem port.new ≡ P.mem port.old }
-        ensures counted { P.counted port.new ≤ P.counted port.old + 16 }
+        requires fresh { IsFalse S.RESUMES → self.old.replies ≡ [] }
+        requires mem { S.mem source.old ≡ length image.now.bytes }
+        requires few { S.counted source.old + 16 ≤ 2 ^ 63 }
+        ensures acted { IsActed S.replies (λ had. acts instr.now image.now had self.old.state) self.old source.old result self.new source.new }
+        ensures mem { S.mem source.new ≡ S.mem source.old }
+        ensures counted { S.counted source.new ≤ S.counted source.old + 16 }
     {
         let Instr::Block {
             load,
@@ -313,6 +244,18 @@ impl Execution {
             rn,
             list,
         };
-        self.carry_transfer(image, transfer, port)
+        self.block(image, transfer, source)
     }
+}
+
+/// A register from which up those of a block are left, past so many that have had their replies.
+#[inline(always)]
+fn first_left(list: u16, had: usize) -> u8
+    requires { had < count_of list }
+    ensures { AreLeft list result had }
+{
+    if had == 0 {
+        return 0;
+    }
+    listed(list, had).num()
 }

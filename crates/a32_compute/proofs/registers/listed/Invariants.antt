@@ -1,11 +1,7 @@
--- The register of the number stands among those that are left.
-use Rattle.std.proofs.Common.{◌≡◌, ◌<◌, ◌≤◌, ◌-◌, slice_index, length}
-use Rattle.a32_instr.specs.Block.{registers_of}
-use Rattle.a32_compute.proofs.Lists.{highest}
+-- So many registers have been passed, and those from here up are left.
+use Rattle.std.proofs.Common.{◌≤◌}
+use Rattle.a32_compute.specs.Lists.{AreLeft}
 use Rattle.a32_compute.proofs.registers.listed.Given as goal
 
 abbrev pub invariant-loop-r : goal.invariant-loop-r
-invariant-loop-r l =
-    (l.passed ≤ l.number)
-    × (slice_index (highest l.list (16 - l.r)) (l.number - l.passed) ≡ slice_index (registers_of l.list) l.number)
-    × (l.number - l.passed < length (highest l.list (16 - l.r)))
+invariant-loop-r l = AreLeft l.list l.r l.passed × (l.passed ≤ l.number)

@@ -1,13 +1,17 @@
 use Rattle.std.proofs.Common.{sym}
+use Rattle.a32_instr.specs.Effect.{acts}
+use Rattle.a32_step.proofs.Acting.{acted_alone}
 use Rattle.a32_step.proofs.ExecutionStates.{acted_stands, acted_wants}
 use Rattle.a32_step.proofs.cpu.Cpu.go_on.Goals as goal
 
 pub returns-clause-wanted : goal.returns-clause-wanted
 returns-clause-wanted c =
+    let alone = acted_alone (λ had. acts c.at-instr.result.now c.args.image.now had c.self.inside.execution.state) c.act-progress.ensures.acted in
     acted_wants c.args.image.now c.args.self.now c.begin.new.self c.self.inside.decoded c.pc.result c.at-instr.result.now c.self.inside.execution c.act-progress.new.self c.act-progress.result c.settle.result
-    (sym c.self.view_is) c.in_default.ensures.begun c.pc.ensures.pc c.at-instr.ensures c.act-progress.ensures.progress c.act-progress.ensures.state c.settle.ensures.wanted
+    (sym c.self.view_is) c.in_default.ensures.begun c.pc.ensures.pc c.at-instr.ensures alone.came alone.wants c.settle.ensures.wanted
 
 pub returns-clause-state : goal.returns-clause-state
 returns-clause-state c =
+    let alone = acted_alone (λ had. acts c.at-instr.result.now c.args.image.now had c.self.inside.execution.state) c.act-progress.ensures.acted in
     acted_stands c.args.image.now c.args.self.now c.begin.new.self c.self.inside.decoded c.pc.result c.at-instr.result.now c.self.inside.execution c.act-progress.new.self c.settle.new.self c.act-progress.result
-    (sym c.self.view_is) c.in_default.ensures.begun c.pc.ensures.pc c.at-instr.ensures c.act-progress.ensures.progress c.act-progress.ensures.state c.settle.ensures.state
+    (sym c.self.view_is) c.in_default.ensures.begun c.pc.ensures.pc c.at-instr.ensures alone.came alone.stands c.settle.ensures.state

@@ -1,19 +1,23 @@
-use Rattle.std.proofs.Common.{rules, ◌≡◌, Some, slice_get, sym, ap, ◌∙◌}
-use Rattle.a32_step.specs.ExecutionState.{ExecutionState, moves}
-use Rattle.a32_step.specs.Progress.{progress_of}
-use Rattle.a32_step.proofs.Accesses.{half_loaded, half_stored}
+use Rattle.std.proofs.Common.{rules, ◌%◌, ◌^◌, ap, ◌∙◌}
+use Rattle.a32_instr.specs.Effect.{acts}
+use Rattle.a32_instr.specs.LoadStore.{written_back}
+use Rattle.a32_step.proofs.Acting.{acted_same}
+use Rattle.a32_step.proofs.Places.{half_is, strh_is, ldrh_is}
 use Rattle.a32_step.proofs.execution.Execution.access_half.Goals as goal
 
-pub returns-then-eq : goal.returns-then-eq
-returns-then-eq c =
-    let first : slice_get c.args.self.now.replies 0 ≡ Some c.in-Some.reply = ap (λ (s : ExecutionState). slice_get s.replies 0) (sym c.self.view_is) ∙ sym c.first.ensures ∙ c.in-Some.is in
-    let same = half_stored c.args.image.now c.args.instr.now c.args.self.now.state c.in-Half.cond c.in-Half.index c.in-Half.rn c.in-Half.rt c.in-Half.offset c.args.self.now.replies c.in-Half.kind c.in-Half.is
-    c.in-Some.reply _ (search rules) first c.back-back.ensures in
-    record { progress = c.finish_store.ensures.progress ∙ ap progress_of same; state = c.finish_store.ensures.state ∙ ap (moves c.args.self.now) same }
+pub returns-then-eq-clause-acted : goal.returns-then-eq-clause-acted
+returns-then-eq-clause-acted g c =
+    acted_same (λ had. acts c.args.instr.now c.args.image.now had c.args.self.now.state)
+    (λ had. half_is c.args.image.now c.args.instr.now c.args.self.now.state c.in-Half.cond c.in-Half.index c.in-Half.rn c.in-Half.rt c.in-Half.offset c.aim-addr.result.addr c.aim-addr.result.moved
+    c.aim-addr.ensures.moved c.aim-addr.ensures.addr had c.in-Half.kind c.in-Half.is
+    ∙ strh_is c.args.image.now c.in-Half.kind c.aim-addr.result.addr c.in-Half.rt c.size_of_half.result c.half_stored-value.result (written_back c.in-Half.index c.in-Half.rn c.aim-addr.result.moved c.args.self.now.state) had c.args.self.now.state
+    (search rules) c.size_of_half.ensures (c.half_stored-value.ensures ∙ ap (λ v. v % 2 ^ 16) c.operand.ensures))
+    c.store.ensures.acted
 
-pub returns-in-Some : goal.returns-in-Some
-returns-in-Some c =
-    let first : slice_get c.args.self.now.replies 0 ≡ Some c.in-Some.reply = ap (λ (s : ExecutionState). slice_get s.replies 0) (sym c.self.view_is) ∙ sym c.first.ensures ∙ c.in-Some.is in
-    let same = half_loaded c.args.image.now c.args.instr.now c.args.self.now.state c.in-Half.cond c.in-Half.index c.in-Half.rn c.in-Half.rt c.in-Half.offset c.args.self.now.replies c.in-Half.kind c.in-Half.is
-    c.in-Some.reply c.loaded_half.result _ (λ e. search rules) first c.loaded_half.ensures c.back-back.ensures in
-    record { progress = c.finish_load.ensures.progress ∙ ap progress_of same; state = c.finish_load.ensures.state ∙ ap (moves c.args.self.now) same }
+pub returns-clause-acted : goal.returns-clause-acted
+returns-clause-acted g c =
+    acted_same (λ had. acts c.args.instr.now c.args.image.now had c.args.self.now.state)
+    (λ had. half_is c.args.image.now c.args.instr.now c.args.self.now.state c.in-Half.cond c.in-Half.index c.in-Half.rn c.in-Half.rt c.in-Half.offset c.aim-addr.result.addr c.aim-addr.result.moved
+    c.aim-addr.ensures.moved c.aim-addr.ensures.addr had c.in-Half.kind c.in-Half.is
+    ∙ ldrh_is c.args.image.now c.in-Half.kind c.aim-addr.result.addr c.in-Half.rt c.size_of_half.result (written_back c.in-Half.index c.in-Half.rn c.aim-addr.result.moved c.args.self.now.state) had c.args.self.now.state (λ e. search rules) c.size_of_half.ensures)
+    c.load_half.ensures.acted

@@ -1,7 +1,7 @@
 -- The registers that are left get the replies that are left.
 use Rattle.std.proofs.Common.{◌≡◌, ◌+◌, ◌-◌, ◌≤◌, drop, length}
 use Rattle.a32_instr.specs.Block.{registers_of, loaded}
-use Rattle.a32_compute.proofs.Lists.{highest}
+use Rattle.a32_compute.specs.Lists.{highest}
 use Rattle.a32_step.proofs.execution.Execution.set_listed.Given as goal
 
 abbrev pub invariant-loop-r : goal.invariant-loop-r
