@@ -1,4 +1,5 @@
 pub mod Ends
+pub mod Cuts
 pub mod Appends
 pub mod Marks
 pub mod Kept

@@ -1,12 +1,14 @@
 -- Each beginning of a legal history is legal.
-use Rattle.std.proofs.Common.{ℕ, List, ◌∷◌, ◌++◌, ap, subst, ◌∙◌, append_assoc}
+use Rattle.std.proofs.Common.{ℕ, List, ◌++◌, subst, append_assoc}
 use Rattle.llsc_base.specs.Sizes.{Numbers}
 use Rattle.history.specs.Parts.{accesses_of, entries_of}
 use Rattle.history.specs.Monitor.{at_rest_by}
 use Rattle.history.specs.ArmLegal.{IsArmLegal}
 use Rattle.history.specs.Operation.{AreFinished, AreOperations}
+use Rattle.history.specs.Cause.{HasCause}
 use Rattle.history.specs.Legal.{IsLegal}
 use Rattle.history.specs.declared.entry.Entry.{Entry}
+use Rattle.history.proofs.Cuts.{each-front}
 use Rattle.history.proofs.Appends.{IsArmLegal-front, accesses_of-append, entries_of-append}
 
 -- the first of some operations' entries are operations, of which the last may be unfinished
@@ -22,6 +24,5 @@ IsLegal-front size bytes front back h = record {
   operations = λ thread.
       AreOperations-front thread (entries_of thread front) (entries_of thread back)
       (subst (AreOperations thread) (entries_of-append thread front back) (h.operations thread));
-  causes = λ past entry rest are.
-      h.causes past entry (rest ++ back) (ap (λ (xs : List Entry). xs ++ back) are ∙ append_assoc past (entry ∷ rest) back);
+  causes = each-front (HasCause size) front back h.causes;
 }

@@ -9,7 +9,9 @@ pub mod Operation
 pub mod Since
 pub mod Reservation
 pub mod Cause
+pub mod Each
 pub mod Legal
+pub mod Steady
 pub mod Standing
 pub mod Follow
 pub mod Marked

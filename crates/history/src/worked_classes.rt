@@ -4,6 +4,7 @@ ghost use Rattle.history.specs.Cause.{KeepsLimit, MayFail, writes_in_class};
 ghost use Rattle.history.specs.Class.{comer_in, edges_of, last_of, name_of, writer_in};
 ghost use Rattle.history.specs.Entry.{is_in_class};
 ghost use Rattle.history.specs.Reservation.{reservation_of};
+ghost use Rattle.history.specs.Steady.{AreSteady, IsSteady};
 ghost use Rattle.history.specs.Worked.{cell_before, far_word, next_row, small_machine, word};
 
 use crate::entry::{Cause, Entry};
@@ -40,6 +41,20 @@ pub fn failing_by_a_load_exclusive()
     ensures not_by_its_own { ¬ MayFail (small_machine 1) (Entry.Watch 0 word ∷ Entry.Watch 0 word ∷ []) 0 word Cause.Lost }
     ensures not_by_others { ¬ MayFail (small_machine 1) (Entry.Watch 0 word ∷ Entry.Read 1 word 0 true ∷ Entry.Clear 1 ∷ Entry.End 1 word ∷ []) 0 word Cause.Lost }
     ensures full { MayFail (small_machine 1) (Entry.Write 1 word 5 false ∷ Entry.Watch 0 word ∷ Entry.Watch 1 word ∷ []) 0 word Cause.Limit }
+{}
+
+/// A store-exclusive that has lost to a load-exclusive of another has its cause, and isn't steady.
+#[tactic(auto, unfolding(llsc_base::specs::Memory::row_of, llsc_base::specs::Memory::class_of))]
+pub fn losses_that_are_steady()
+    ensures by_a_write { IsSteady (small_machine 1) (Entry.Watch 0 word ∷ Entry.Begin 1 next_row ∷ []) (Entry.Fail 0 word 9 Cause.Lost) }
+    ensures by_a_load_exclusive { ¬ IsSteady (small_machine 1) (Entry.Watch 0 word ∷ Entry.Watch 1 word ∷ []) (Entry.Fail 0 word 9 Cause.Lost) }
+    ensures before_its_watch { ¬ IsSteady (small_machine 1) (Entry.Begin 1 word ∷ Entry.Watch 0 word ∷ []) (Entry.Fail 0 word 9 Cause.Lost) }
+    ensures by_its_own { ¬ IsSteady (small_machine 1) (Entry.Watch 0 word ∷ Entry.Begin 0 word ∷ []) (Entry.Fail 0 word 9 Cause.Lost) }
+    ensures in_another_class { ¬ IsSteady (small_machine 4096) (Entry.Watch 0 word ∷ Entry.Begin 1 next_row ∷ []) (Entry.Fail 0 word 9 Cause.Lost) }
+    ensures has_its_cause { MayFail (small_machine 1) (Entry.Watch 0 word ∷ Entry.Watch 1 word ∷ []) 0 word Cause.Lost }
+    ensures of_another_cause { IsSteady (small_machine 1) [] (Entry.Fail 0 word 9 Cause.Absent) }
+    ensures in_a_history { AreSteady (small_machine 1) (Entry.Watch 0 word ∷ Entry.Begin 1 word ∷ Entry.Fail 0 word 9 Cause.Lost ∷ []) }
+    ensures not_in_a_history { ¬ AreSteady (small_machine 1) (Entry.Watch 0 word ∷ Entry.Watch 1 word ∷ Entry.Fail 0 word 9 Cause.Lost ∷ []) }
 {}
 
 /// Rows are dealt out to the classes in turn.

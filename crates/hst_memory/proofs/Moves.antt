@@ -43,7 +43,7 @@ module _ (plan : Plan) (words : List ℕ) (views : List (View Hand)) (k : Kept p
       → ((j : ℕ) (w : View Hand) → j ≢ seat → get_elem? views j ≡ some w → (u : ℕ) → IsOneOf u (marked w.numbers) → u ≢ v.lead → Knows plan.size k.standing u w.doing
       → Knows plan.size (standing_after plan.size k.standing es) u w.doing)
       → Goes (origin_of plan) (v, slots) es h (moved v k.history es h, slots)
-  told es h slots by may known frame = goes-grown (Knows plan.size) plan.size plan.image.value.bytes views k.history k.standing seat v k.tells at single plan.size.threads false es h slots by may known frame
+  told es h slots by may known frame = goes-grown (Knows plan.size) plan.size plan.image.value.bytes views k.history k.standing seat v k.tells at single plan.size.threads false false es h slots by may known frame
 
   -- no entry
   pub moves-none : (words' : List ℕ) (h : Hand) → Knows plan.size k.standing v.lead h → IsLaid plan.size words' k.standing

@@ -47,4 +47,4 @@ KeptBy plan state = Kept plan state.words state.views
 
 -- what such a memory was made with
 abbrev pub origin_of : Plan → Origin
-origin_of plan = record { size = plan.size; first = plan.size.threads; bytes = plan.image.value.bytes; spends = false }
+origin_of plan = record { size = plan.size; first = plan.size.threads; bytes = plan.image.value.bytes; spends = false; steady = false }

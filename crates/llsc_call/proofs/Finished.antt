@@ -6,7 +6,6 @@ use Rattle.std.proofs.lemmas.List.Sums.{sum_by-le}
 use Rattle.llsc_base.specs.Images.{Program}
 use Rattle.llsc_base.specs.Sizes.{Numbers}
 use Rattle.row_bytes.specs.Cell.{cell_at}
-use Rattle.history.specs.Cause.{KeepsLimit}
 use Rattle.history.specs.Legal.{IsComplete, IsLegal}
 use Rattle.history.specs.Monitor.{at_rest_by, monitor_after}
 use Rattle.history.specs.Parts.{accesses_of}
@@ -15,6 +14,7 @@ use Rattle.guest_thread.specs.Counting.{accesses_counted, counts_in}
 use Rattle.guest_thread.specs.Outcome.{AreEndsOn, IsOutcome}
 use Rattle.guest_thread.specs.declared.ends.GuestEnd.{GuestEnd}
 use Rattle.llsc_call.specs.Beside.{AreCells, Ran, left_by}
+use Rattle.llsc_call.specs.Versions.{KeepsVersions}
 use Rattle.llsc_report.specs.Report.{HasSums}
 
 -- the counts of 16 threads are small
@@ -43,13 +43,13 @@ closed_cells program size bytes history seen cells same begins count each =
 
 -- the threads of a closed memory
 pub ran : (program : Program) (size : Numbers) (budget : ℕ) (bytes : List ℕ) (history seen : List Entry) (ends : List GuestEnd) (cells : List ℕ)
-    → history ≡ seen → bytes ≡ program.bytes → IsLegal size bytes seen → IsComplete seen → AreEndsOn program size budget seen ends → KeepsLimit size seen
+    → history ≡ seen → bytes ≡ program.bytes → IsLegal size bytes seen → IsComplete seen → AreEndsOn program size budget seen ends → KeepsVersions size seen
     → HasSums ends → AreCells size (left_by program size history) cells
     → Ran program size budget history ends cells
-ran program size budget bytes history seen ends cells same begins legal complete are few sums cells_are = record {
+ran program size budget bytes history seen ends cells same begins legal complete are versions sums cells_are = record {
   outcome = subst (λ h. IsOutcome program size budget h ends) (sym same)
       (record { legal = subst (λ b. IsLegal size b seen) begins legal; complete = complete; ends = are });
-  few = subst (λ h. KeepsLimit size h) (sym same) few;
+  versions = subst (λ h. KeepsVersions size h) (sym same) versions;
   sums = sums;
   left = cells_are;
 }

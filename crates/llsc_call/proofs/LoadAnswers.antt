@@ -13,11 +13,11 @@ use Rattle.a32_instr.specs.declared.outside.Stop.{Stop}
 use Rattle.a32_instr.specs.declared.outside.Stop.TheVariants as stop
 use Rattle.guest_gen.specs.declared.faults.GenFault.{GenFault}
 use Rattle.guest_gen.specs.declared.faults.GenFault.TheVariants as gen
-use Rattle.history.specs.Cause.{KeepsLimit}
 use Rattle.history.specs.declared.entry.Entry.{Entry}
 use Rattle.guest_thread.specs.Outcome.{HaveLeft, IsOutcome}
 use Rattle.guest_thread.specs.declared.ends.GuestEnd.{GuestEnd}
 use Rattle.llsc_call.specs.Beside.{Ran}
+use Rattle.llsc_call.specs.Versions.{KeepsVersions}
 use Rattle.llsc_report.specs.Summary.{counter_of, load_summary, summary_by}
 use Rattle.llsc_call.specs.Load.{AnswersLoad, CountsEveryRound, TellsLoad, guest_refusal, load_program, load_refusal, load_size, load_text}
 use Rattle.llsc_host.specs.Host.{Adds, AddsFront}
@@ -82,7 +82,7 @@ loaded_all seed threads rounds budget history ends cells clean ran none =
     let same : summary_by seed threads rounds (counter_of cells) ≡ load_summary seed threads rounds =
     summary_named seed threads rounds (counter_of cells) (λ i known.
     counters_left seed threads rounds history cells ran.outcome.legal ran.left i known ∙ holds i known) in
-    (ends, (ran.outcome, (ran.few, (sym none, same ∙ ap (λ b. if b then load_summary seed threads rounds else report_of budget ends) (sym left)))))
+    (ends, (ran.outcome, (ran.versions, (sym none, same ∙ ap (λ b. if b then load_summary seed threads rounds else report_of budget ends) (sym left)))))
 
 -- ---- the answer
 
@@ -114,7 +114,7 @@ load_ran seed threads rounds budget story clean status text tells =
 outcome_by : (against : Option (List ℕ)) (story : Option (List Entry)) (seed threads rounds budget status : ℕ) (text : List ℕ)
     → UnlessRun against story (TellsLoad story seed threads rounds budget) status text → (status ≡ 0) ⊎ (status ≡ 1)
     → (history : List Entry) × (ends : List GuestEnd) × ((story ≡ Some history)
-    × (IsOutcome (load_program seed threads rounds) (load_size threads) budget history ends × (KeepsLimit (load_size threads) history
+    × (IsOutcome (load_program seed threads rounds) (load_size threads) budget history ends × (KeepsVersions (load_size threads) history
     × (text ≡ load_text seed threads rounds budget ends))))
 outcome_by (Some name) story seed threads rounds budget status text stands (inl is) = cc (stands.1.0, is)
 outcome_by (Some name) story seed threads rounds budget status text stands (inr is) = cc (stands.1.0, is)
@@ -124,7 +124,7 @@ outcome_by None (Some history) seed threads rounds budget status text tells ran 
 pub load_outcome : (seed threads rounds budget : ℕ) (story : Option (List Entry)) (status : ℕ) (text : List ℕ)
     → AnswersLoad seed threads rounds budget story status text → (status ≡ 0) ⊎ (status ≡ 1)
     → (history : List Entry) × (ends : List GuestEnd) × ((story ≡ Some history)
-    × (IsOutcome (load_program seed threads rounds) (load_size threads) budget history ends × (KeepsLimit (load_size threads) history
+    × (IsOutcome (load_program seed threads rounds) (load_size threads) budget history ends × (KeepsVersions (load_size threads) history
     × (text ≡ load_text seed threads rounds budget ends))))
 load_outcome seed threads rounds budget story status text answers ran =
     outcome_by (load_refusal threads rounds) story seed threads rounds budget status text answers ran

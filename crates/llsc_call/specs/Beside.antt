@@ -3,13 +3,13 @@ use Rattle.std.specs.Prelude.{◌≡◌, ℕ, ◌<◌, ◌*◌, List, length, sl
 use Rattle.llsc_base.specs.Images.{Program}
 use Rattle.llsc_base.specs.Sizes.{Numbers}
 use Rattle.row_bytes.specs.Cell.{cell_at}
-use Rattle.history.specs.Cause.{KeepsLimit}
 use Rattle.history.specs.Monitor.{at_rest_by, monitor_after}
 use Rattle.history.specs.Parts.{accesses_of}
 use Rattle.history.specs.declared.entry.Entry.{Entry}
 use Rattle.guest_thread.specs.Outcome.{IsOutcome}
 use Rattle.guest_thread.specs.declared.ends.GuestEnd.{GuestEnd}
 use Rattle.llsc_report.specs.Report.{HasSums}
+use Rattle.llsc_call.specs.Versions.{KeepsVersions}
 
 -- the memory that a history leaves, from a program's bytes on
 abbrev pub left_by : Program → Numbers → List Entry → List ℕ
@@ -20,9 +20,9 @@ pub record AreCells (size : Numbers) (memory cells : List ℕ) : Type 0 where
   pub count : 8 * length cells ≡ size.mem
   pub each : (i : ℕ) → i < length cells → slice_index cells i ≡ cell_at memory i
 
--- the threads ended so by a history in which no class had more writes than it takes, and it left these cells
+-- the threads ended so by a history of memory that is kept by versions, and it left these cells
 pub record Ran (program : Program) (size : Numbers) (budget : ℕ) (history : List Entry) (ends : List GuestEnd) (cells : List ℕ) : Type 0 where
   pub outcome : IsOutcome program size budget history ends
-  pub few : KeepsLimit size history
+  pub versions : KeepsVersions size history
   pub sums : HasSums ends
   pub left : AreCells size (left_by program size history) cells

@@ -1,4 +1,5 @@
 pub mod Trace
+pub mod Versions
 pub mod Run
 pub mod Exclusives
 pub mod Beside

@@ -5,7 +5,6 @@ use Rattle.llsc_base.specs.Images.{Program}
 use Rattle.llsc_base.specs.Sizes.{Numbers, is_threads}
 use Rattle.guest_gen.specs.Counters.{counter_image, counter_in, counters, is_rounds}
 use Rattle.guest_gen.specs.Namings.{namings_of}
-use Rattle.history.specs.Cause.{KeepsLimit}
 use Rattle.history.specs.declared.entry.Entry.{Entry}
 use Rattle.guest_thread.specs.Outcome.{IsOutcome}
 use Rattle.guest_thread.specs.declared.ends.GuestEnd.{GuestEnd}
@@ -14,6 +13,7 @@ use Rattle.llsc_files.specs.Refusals.{machine_of, size_refusal}
 use Rattle.llsc_report.specs.Report.{report_of}
 use Rattle.llsc_call.specs.Beside.{left_by}
 use Rattle.llsc_call.specs.Run.{UnlessRun}
+use Rattle.llsc_call.specs.Versions.{KeepsVersions}
 use Rattle.llsc_report.specs.Summary.{load_summary}
 use Rattle.llsc_report.specs.Status.{have_left, status_of_all}
 
@@ -45,13 +45,13 @@ abbrev pub load_text : (seed threads rounds budget : ℕ) → List GuestEnd → 
 load_text seed threads rounds budget ends =
     if have_left ends then load_summary seed threads rounds else report_of budget ends
 
--- the text of a load by a history, which is legal, complete, of the guest's threads and within the limit of writes, and the
+-- the text of a load by a history, which is legal, complete, of the guest's threads and of memory kept by versions, and the
 -- status by their stops
 abbrev pub IsLoadOf : List Entry → (seed threads rounds budget : ℕ) → ℕ → List ℕ → Type 0
 IsLoadOf history seed threads rounds budget status text =
     let program = load_program seed threads rounds in
     let size = load_size threads in
-    (ends : List GuestEnd) × (IsOutcome program size budget history ends × (KeepsLimit size history
+    (ends : List GuestEnd) × (IsOutcome program size budget history ends × (KeepsVersions size history
     × ((status ≡ status_of_all ends) × (text ≡ load_text seed threads rounds budget ends))))
 
 -- threads that ran have a history, and what is printed is by it

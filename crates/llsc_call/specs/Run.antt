@@ -3,7 +3,6 @@ use Rattle.std.specs.Prelude.{◌≡◌, ℕ, List, Option, Some, None}
 use Rattle.std.specs.Option.{option_map}
 use Rattle.llsc_base.specs.Images.{Program}
 use Rattle.llsc_base.specs.Sizes.{Numbers}
-use Rattle.history.specs.Cause.{KeepsLimit}
 use Rattle.history.specs.declared.entry.Entry.{Entry}
 use Rattle.version_memory.specs.declared.passes.VersionStory.{VersionStory}
 use Rattle.version_memory.specs.Memory.{story_history}
@@ -14,16 +13,17 @@ use Rattle.llsc_files.specs.Programs.{image_of, program_refusal}
 use Rattle.llsc_host.specs.Said.{refusal_text}
 use Rattle.llsc_report.specs.Report.{report_of}
 use Rattle.llsc_report.specs.Status.{status_of_all}
+use Rattle.llsc_call.specs.Versions.{KeepsVersions}
 
 -- the history that a story has, where there is one
 abbrev pub told : Option VersionStory → Option (List Entry)
 told story = option_map story_history story
 
--- the report of the threads' ends in a history, which is legal, complete, their own and within the limit of writes, and the
+-- the report of the threads' ends in a history, which is legal, complete, their own and of memory kept by versions, and the
 -- status by their stops
 abbrev pub IsReportOf : List Entry → Program → Numbers → ℕ → ℕ → List ℕ → Type 0
 IsReportOf history program size budget status text =
-    (ends : List GuestEnd) × (IsOutcome program size budget history ends × (KeepsLimit size history
+    (ends : List GuestEnd) × (IsOutcome program size budget history ends × (KeepsVersions size history
     × ((status ≡ status_of_all ends) × (text ≡ report_of budget ends))))
 
 -- threads that ran have a history, and are reported by it

@@ -24,7 +24,8 @@ pub struct Finished<S> {
     pub story: S,
 }
 
-/// Runs an image's threads on a memory that counts the writes of a class, with the pass of all of them, and closes it.
+/// Runs an image's threads on a memory that counts the writes of a class, and on which a store-exclusive loses to nothing but
+/// writes, with the pass of all of them, and closes it.
 fn run_over<M: SharedMemory, R: Threads + Wait + Sync>(
     rt: &R,
     alloc: Global,
@@ -39,6 +40,7 @@ fn run_over<M: SharedMemory, R: Threads + Wait + Sync>(
     requires first { (M.origin memory).first ≡ (M.origin memory).size.threads }
     requires bytes { (M.origin memory).bytes ≡ image.now.bytes }
     requires spends { (M.origin memory).spends ≡ true }
+    requires steady { (M.origin memory).steady ≡ true }
     requires whole { length image.now.bytes ≡ (M.origin memory).size.mem }
     requires budget { budget ≤ most_budget }
     ensures { IfOk result (λ done. HasRun image.now (M.origin memory).size budget (M.history done.story) done.ends.items done.rows) }

@@ -3,7 +3,6 @@ ghost use Rattle.std.specs.Prelude.{◌≡◌, ◌⊎◌, ℕ, List, Option, Som
 ghost use Rattle.llsc_base.specs.Images.{Program};
 ghost use Rattle.llsc_base.specs.Sizes.{Numbers};
 ghost use Rattle.history.specs.Accesses.{history_of};
-ghost use Rattle.history.specs.Cause.{KeepsLimit};
 ghost use Rattle.history.specs.declared.entry.Access.{Access};
 ghost use Rattle.history.specs.declared.entry.Entry.{Entry};
 ghost use Rattle.guest_thread.specs.End.{IsEndIn};
@@ -22,6 +21,7 @@ ghost use Rattle.llsc_files.specs.Programs.{image_of};
 ghost use Rattle.llsc_report.specs.Report.{report_of};
 ghost use Rattle.llsc_report.specs.Summary.{load_summary};
 ghost use Rattle.llsc_call.specs.Run.{AnswersRun};
+ghost use Rattle.llsc_call.specs.Versions.{KeepsVersions};
 ghost use Rattle.llsc_words.specs.declared.formats.Format.{Format};
 ghost use Rattle.llsc_words.specs.Request.{Request};
 
@@ -35,25 +35,28 @@ pub fn answers_are_one()
 {}
 
 /// What a run prints, where its status is 0 or 1, is the report of an outcome of its threads: of one history, legal and complete,
-/// from the program's memory on, that goes with the answer. In it no class of rows has had more writes than the machine lets it.
+/// from the program's memory on, that goes with the answer. In it no class of rows has had more writes than the machine lets it; and
+/// loads, load-exclusives, failed store-exclusives and CLREX of others end no reservation: a store-exclusive has lost only where a
+/// write of another thread in the class of its row had begun since its load-exclusive.
 pub fn runs_have_one_history()
     ensures { (format : Format) (size : Numbers) (budget : ℕ) (file : List ℕ) (story : Option (List Entry)) (status : ℕ) (text : List ℕ) →
         AnswersRun format size budget file story status text → (status ≡ 0) ⊎ (status ≡ 1) →
         (history : List Entry) × (ends : List GuestEnd)
         × ((story ≡ Some history) × (IsOutcome (image_of format file size) size budget history ends
-        × (KeepsLimit size history × (text ≡ report_of budget ends)))) }
+        × (KeepsVersions size history × (text ≡ report_of budget ends)))) }
 {}
 
 /// What a load prints, where its status is 0 or 1, is by an outcome of its guest's threads: by one history, legal and complete, from
-/// the guest's memory on and within the limit of writes, that goes with the answer. It is the summary of the load's numbers, where
-/// each thread left with code 0, and the report of the ends else.
+/// the guest's memory on, that goes with the answer. In it too no class of rows has had more writes than it may, and a
+/// store-exclusive has lost only to a write of another thread. What is printed is the summary of the load's numbers, where each
+/// thread left with code 0, and the report of the ends else.
 pub fn loads_have_one_history()
     ensures { (seed threads rounds budget : ℕ) (story : Option (List Entry)) (status : ℕ) (text : List ℕ) →
         AnswersLoad seed threads rounds budget story status text → (status ≡ 0) ⊎ (status ≡ 1) →
         let program = load_program seed threads rounds in
         let size = load_size threads in
         (history : List Entry) × (ends : List GuestEnd)
-        × ((story ≡ Some history) × (IsOutcome program size budget history ends × (KeepsLimit size history
+        × ((story ≡ Some history) × (IsOutcome program size budget history ends × (KeepsVersions size history
         × (text ≡ load_text seed threads rounds budget ends)))) }
 {}
 

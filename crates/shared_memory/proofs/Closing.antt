@@ -23,9 +23,9 @@ module _ {D : Type 0} (knows : Standing → ℕ → D → Type 0) (plan : Plan) 
   pub all-seen : v.seen ≡ history
   all-seen = whole knows plan.size plan.image.value.bytes views history s seat v tells at all
 
-  pub legal-seen : (spends : Bool) → IsLegalFrom (record { size = plan.size; first = plan.size.threads; bytes = plan.image.value.bytes; spends = spends }) v.seen
-  legal-seen spends = subst (λ (l : List Entry). IsLegalFrom (record { size = plan.size; first = plan.size.threads; bytes = plan.image.value.bytes; spends = spends }) l) (sym all-seen)
-      (legal-tells knows plan.size plan.image.value.bytes views history s plan.size.threads spends tells)
+  pub legal-seen : (spends steady : Bool) → IsLegalFrom (record { size = plan.size; first = plan.size.threads; bytes = plan.image.value.bytes; spends = spends; steady = steady }) v.seen
+  legal-seen spends steady = subst (λ (l : List Entry). IsLegalFrom (record { size = plan.size; first = plan.size.threads; bytes = plan.image.value.bytes; spends = spends; steady = steady }) l) (sym all-seen)
+      (legal-tells knows plan.size plan.image.value.bytes views history s plan.size.threads spends steady tells)
 
   pub complete-seen : ((t : ℕ) → knows s t v.doing → s.stage t ≡ rests) → IsComplete v.seen
   complete-seen rest = subst IsComplete (sym all-seen) (complete knows plan.size plan.image.value.bytes views history s seat v tells at all rest)

@@ -140,6 +140,6 @@ sees-grown origin lead numbers seen history es part has by legal = record {
 }
 
 -- the history is legal
-pub legal-tells : {D : Type 0} (knows : Standing → ℕ → D → Type 0) (size : Numbers) (bytes : List ℕ) (views : List (View D)) (history : List Entry) (s : Standing) (first : ℕ) (spends : Bool)
-    → Tells knows size bytes views history s → IsLegalFrom (record { size = size; first = first; bytes = bytes; spends = spends }) history
-legal-tells knows size bytes views history s first spends t = record { legal = IsLegal-MayFollow size bytes history t.memory t.follows; known = t.outside }
+pub legal-tells : {D : Type 0} (knows : Standing → ℕ → D → Type 0) (size : Numbers) (bytes : List ℕ) (views : List (View D)) (history : List Entry) (s : Standing) (first : ℕ) (spends steady : Bool)
+    → Tells knows size bytes views history s → IsLegalFrom (record { size = size; first = first; bytes = bytes; spends = spends; steady = steady }) history
+legal-tells knows size bytes views history s first spends steady t = record { legal = IsLegal-MayFollow size bytes history t.memory t.follows; known = t.outside }

@@ -5,13 +5,14 @@ use Rattle.history.specs.Parts.{entries_of}
 use Rattle.history.specs.Legal.{IsLegal}
 use Rattle.history.specs.declared.entry.Entry.{Entry}
 
--- the machine's numbers, how many threads begin by themselves, the bytes of memory at first, and whether a store may be
--- refused because its class has had all of its writes
+-- the machine's numbers, how many threads begin by themselves, the bytes of memory at first, whether a store may be refused
+-- because its class has had all of its writes, and whether a store-exclusive loses to nothing but writes of other threads
 pub record Origin : Type 0 where
   pub size : Numbers
   pub first : ℕ
   pub bytes : List ℕ
   pub spends : Bool
+  pub steady : Bool
 
 -- a history of such a memory: it is legal, and no thread that the machine doesn't have stands in it
 pub record IsLegalFrom (origin : Origin) (history : List Entry) : Type 0 where

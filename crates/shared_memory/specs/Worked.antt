@@ -1,12 +1,13 @@
 -- What the worked cases are about: machines, memories, and thread numbers. This project's own.
-use Rattle.std.specs.Prelude.{ℕ, Bool, ◌==◌, nat_lt, replicate}
+use Rattle.std.specs.Prelude.{ℕ, Bool, false, ◌==◌, nat_lt, replicate}
 use Rattle.llsc_base.specs.Sizes.{Numbers}
 use Rattle.history.specs.Worked.{small_machine}
 use Rattle.shared_memory.specs.Origin.{Origin}
 
--- a memory of 32 bytes that are 0, which counts the writes of its classes or doesn't
+-- a memory of 32 bytes that are 0, which counts the writes of its classes or doesn't, and of which it isn't said that a
+-- store-exclusive loses to nothing but writes
 abbrev pub made : Numbers → Bool → Origin
-made size spends = record { size = size; first = 2; bytes = replicate 32 0; spends = spends }
+made size spends = record { size = size; first = 2; bytes = replicate 32 0; spends = spends; steady = false }
 
 -- a small machine of two threads with so many classes, each of which takes so many writes
 abbrev pub limited_machine : (classes limit : ℕ) → Numbers

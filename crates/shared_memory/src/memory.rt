@@ -10,6 +10,7 @@ ghost use Rattle.history.specs.Legal.{IsComplete};
 ghost use Rattle.history.specs.Monitor.{at_rest_by, monitor_after};
 ghost use Rattle.history.specs.Parts.{accesses_of, entries_of};
 ghost use Rattle.history.specs.Operation.{clear, entries_of_operation, fail, load, load_missed, load_watched, store};
+ghost use Rattle.history.specs.Steady.{AreSteady};
 ghost use Rattle.history.specs.declared.entry.Cause.{Cause};
 ghost use Rattle.history.specs.declared.entry.Entry.{Entry};
 ghost use Rattle.shared_memory.specs.Origin.{Origin, IsLegalFrom};
@@ -168,7 +169,8 @@ pub trait SharedMemory: Sync + Drop {
         ensures memory { home pass.new ≡ home pass.old };
 
     /// Memory as it is left, cell by cell, and its history, once a pass holds the numbers of all threads. Where the memory counts
-    /// the writes of a class, no class has had more of them than it takes.
+    /// the writes of a class, no class has had more of them than it takes. Where a store-exclusive loses on it to nothing but
+    /// writes, each that has lost has lost to a write of another thread.
     fn close(self, pass: Self::Pass) -> (Rows, Self::Story)
         requires memory { home pass ≡ id self }
         requires all { (t : ℕ) → t < (origin self).size.threads → IsOneOf t (numbers pass) }
@@ -176,6 +178,7 @@ pub trait SharedMemory: Sync + Drop {
         ensures legal { IsLegalFrom (origin self) (seen pass) }
         ensures complete { IsComplete (seen pass) }
         ensures few { (origin self).spends ≡ true → KeepsLimit (origin self).size (seen pass) }
+        ensures steady { (origin self).steady ≡ true → AreSteady (origin self).size (seen pass) }
         ensures count { 8 * length result.0 ≡ (origin self).size.mem }
         ensures rows { (i : ℕ) → i < length result.0 → slice_index result.0 i ≡ cell_at (monitor_after (at_rest_by (origin self).size.granule (origin self).bytes (origin self).size.threads) (accesses_of (seen pass))).memory i };
 }

@@ -6,6 +6,7 @@ use Rattle.llsc_base.specs.declared.access.Place.{Place}
 use Rattle.history.specs.Entry.{thread_of}
 use Rattle.history.specs.Standing.{Standing, begun, joined, rests, written}
 use Rattle.history.specs.Follow.{MayJoin, flight_at}
+use Rattle.history.specs.declared.entry.Cause.TheVariants.{Lost}
 use Rattle.history.specs.declared.entry.Entry.{Entry}
 use Rattle.history.specs.declared.entry.Entry.TheVariants.{Read, Write, Fail, Clear, Watch, Miss, Begin, End}
 use Rattle.history.proofs.Marks.{updated-other, updated-same}
@@ -16,10 +17,11 @@ use Rattle.version_rule.specs.Knowledge.{Flies}
 use Rattle.shared_memory.proofs.Apart.{stage-other, stage-own}
 
 -- what is asked of an entry beside its being legal: a write begins where none of its class is in flight and the class may take
--- one, and is over where it was written, once
+-- one, and is over where it was written, once; a store-exclusive has lost only where a write of another has begun
 abbrev pub IsOrderly : Numbers → Standing → Entry → Type 0
 IsOrderly size s (Begin thread place) = (s.edges (class_at size place) % 2 ≡ 0) × (s.edges (class_at size place) < 2 * size.limit)
 IsOrderly size s (End thread place) = 2 * s.writes (class_at size place) ≡ s.edges (class_at size place) + 1
+IsOrderly size s (Fail thread place value Lost) = s.overtaken thread ≡ true
 IsOrderly size s _ = Unit {0}
 
 -- ---- flights

@@ -9,6 +9,7 @@ use Rattle.history.specs.Legal.{IsComplete}
 use Rattle.history.specs.Monitor.{at_rest_by, monitor_after}
 use Rattle.history.specs.Parts.{accesses_of}
 use Rattle.history.specs.Standing.{Standing, rests}
+use Rattle.history.specs.Steady.{AreSteady}
 use Rattle.history.proofs.Flags.{writes_in_class-standing}
 use Rattle.history.proofs.Legality.{rests-IsComplete}
 use Rattle.atomic_table.specs.Table.{Final, Seen}
@@ -29,7 +30,12 @@ use Rattle.version_rule.proofs.Classes.{flies-none}
 module _ (plan : Plan) (words : List ℕ) (slots : List (Unit {0})) (seat : ℕ) (v : View Hand) (all : (t : ℕ) → t < plan.size.threads → IsOneOf t (marked v.numbers)) (rest : v.doing.doing ≡ Rest)
     (final : Final (Seen (KeptBy plan) seat v) words slots) where
   pub legal-closed : IsLegalFrom (origin_of plan) v.seen
-  legal-closed = let k = final.1.0 in legal-seen (Knows plan.size) plan final.0.views k.history k.standing seat v k.tells final.1.1 all true
+  legal-closed = let k = final.1.0 in legal-seen (Knows plan.size) plan final.0.views k.history k.standing seat v k.tells final.1.1 all true true
+
+  pub steady-closed : AreSteady plan.size v.seen
+  steady-closed =
+      let k = final.1.0 in
+      subst (AreSteady plan.size) (sym (all-seen (Knows plan.size) plan final.0.views k.history k.standing seat v k.tells final.1.1 all)) k.steady
 
   pub complete-closed : IsComplete v.seen
   complete-closed =

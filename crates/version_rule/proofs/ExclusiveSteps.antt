@@ -221,12 +221,12 @@ module _ (plan : Plan) where
               keeps,
               tt,
               subst (λ b. Kept plan (set s.words i (either b (version + 1) n)) (set s.views seat w)) (sym (ne_eqb n version miss))
-                  (as-found plan s.words i (set s.views seat w) (moves-one plan s.words s.views k seat v at single fail refl may tt s.words lost after
+                  (as-found plan s.words i (set s.views seat w) (moves-one plan s.words s.views k seat v at single fail refl may gone s.words lost after
                   (laid-same plan.size s.words k.standing (joined plan.size k.standing fail) refl refl k.laid))),
               (
                 (λ hit. absurd (miss hit)),
                 λ not. decides plan s.words s.views k seat v at single (fail ∷ []) lost me.1 (HasLost (ask (origin_of plan) p value) v.lead) fact
-                    (told-one plan s.words s.views k seat v at single fail refl may tt lost me.1 after),
+                    (told-one plan s.words s.views k seat v at single fail refl may gone lost me.1 after),
               ),
             )
       ]

@@ -1,4 +1,5 @@
 mod Classes
+mod Steady
 mod Held
 mod Others
 mod Own

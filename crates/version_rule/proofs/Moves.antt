@@ -1,11 +1,14 @@
 -- A seat's step: from what is kept before it to what is kept after it, and what is told.
-use Rattle.std.proofs.Common.{◌≡◌, ◌≢◌, ℕ, true, List, [], ◌∷◌, ◌++◌, set, refl, ◌∙◌}
+use Rattle.std.proofs.Common.{◌≡◌, ◌≢◌, ℕ, true, List, [], ◌∷◌, ◌++◌, set, refl, sym, ap, ◌∙◌}
 use mathlib.Core.Option.{some}
 use lib.ListN.{get_elem?}
 use Rattle.history.specs.Entry.{thread_of}
-use Rattle.history.specs.Standing.{joined, standing_after}
+use Rattle.history.specs.Standing.{Standing, joined, standing_after, standing_of}
+use Rattle.history.specs.Steady.{AreSteady, IsSteady}
 use Rattle.history.specs.Follow.{MayFollow, MayJoin}
 use Rattle.history.specs.declared.entry.Entry.{Entry}
+use Rattle.history.proofs.Appends.{standing_after-push}
+use Rattle.history.proofs.Cuts.{each-more, each-still, each-two}
 use Rattle.shared_memory.specs.declared.views.View.{View}
 use Rattle.shared_memory.specs.Seen.{IsOneOf, IsSingle}
 use Rattle.shared_memory.specs.Passes.{marked, moved}
@@ -19,20 +22,22 @@ use Rattle.shared_memory.specs.Told.{Goes}
 use Rattle.version_rule.specs.Told.{Decides}
 use Rattle.version_rule.proofs.Classes.{IsOrderly, classes-joined}
 use Rattle.version_rule.proofs.Others.{knows-other}
+use Rattle.version_rule.proofs.Steady.{steady-joins}
 
 module _ (plan : Plan) (words : List ℕ) (views : List (View Hand)) (k : Kept plan words views) (seat : ℕ) (v : View Hand) (at : get_elem? views seat ≡ some v)
     (single : IsSingle v.lead (marked v.numbers)) where
   -- what is kept after entries of the seat's thread
-  moves : (words' : List ℕ) (es : List Entry) (h : Hand) → AreBy v.lead es → MayFollow plan.size k.standing es
+  moves : (words' : List ℕ) (es : List Entry) (h : Hand) → AreBy v.lead es → AreSteady plan.size (k.history ++ es) → MayFollow plan.size k.standing es
       → Knows plan.size (standing_after plan.size k.standing es) v.lead h
       → ((j : ℕ) (w : View Hand) → j ≢ seat → get_elem? views j ≡ some w → (u : ℕ) → IsOneOf u (marked w.numbers) → u ≢ v.lead → Knows plan.size k.standing u w.doing
       → Knows plan.size (standing_after plan.size k.standing es) u w.doing)
       → IsLaid plan.size words' (standing_after plan.size k.standing es)
       → AreClasses plan.size (standing_after plan.size k.standing es)
       → Kept plan words' (set views seat (moved v k.history es h))
-  moves words' es h by may known frame laid classes = record {
+  moves words' es h by steady may known frame laid classes = record {
     history = k.history ++ es;
     standing = standing_after plan.size k.standing es;
+    steady = steady;
     tells = grown (Knows plan.size) plan.size plan.image.value.bytes views k.history es k.standing (standing_after plan.size k.standing es) seat v h k.tells at single by may refl known frame;
     laid = laid;
     classes = classes;
@@ -43,7 +48,7 @@ module _ (plan : Plan) (words : List ℕ) (views : List (View Hand)) (k : Kept p
       → ((j : ℕ) (w : View Hand) → j ≢ seat → get_elem? views j ≡ some w → (u : ℕ) → IsOneOf u (marked w.numbers) → u ≢ v.lead → Knows plan.size k.standing u w.doing
       → Knows plan.size (standing_after plan.size k.standing es) u w.doing)
       → Goes (origin_of plan) (v, slots) es h (moved v k.history es h, slots)
-  told es h slots by may known frame = goes-grown (Knows plan.size) plan.size plan.image.value.bytes views k.history k.standing seat v k.tells at single plan.size.threads true es h slots by may known frame
+  told es h slots by may known frame = goes-grown (Knows plan.size) plan.size plan.image.value.bytes views k.history k.standing seat v k.tells at single plan.size.threads true true es h slots by may known frame
 
   -- what holds of the history before
   pub decides : (es : List Entry) (h : Hand) (slots : List (ℕ × Unit {0})) (about : List Entry → Type 0) → about k.history
@@ -53,7 +58,7 @@ module _ (plan : Plan) (words : List ℕ) (views : List (View Hand)) (k : Kept p
   -- no entry
   pub moves-none : (words' : List ℕ) (h : Hand) → Knows plan.size k.standing v.lead h → IsLaid plan.size words' k.standing
       → Kept plan words' (set views seat (moved v k.history [] h))
-  moves-none words' h known laid = moves words' [] h (are_by-none v.lead) tt known (λ j w ne there u has other knows. knows) laid k.classes
+  moves-none words' h known laid = moves words' [] h (are_by-none v.lead) (each-still (IsSteady plan.size) k.history k.steady) tt known (λ j w ne there u has other knows. knows) laid k.classes
 
   pub told-none : (h : Hand) (slots : List (ℕ × Unit {0})) → Knows plan.size k.standing v.lead h
       → Goes (origin_of plan) (v, slots) [] h (moved v k.history [] h, slots)
@@ -61,13 +66,16 @@ module _ (plan : Plan) (words : List ℕ) (views : List (View Hand)) (k : Kept p
 
   -- one entry
   module _ (e : Entry) (own : thread_of e ≡ v.lead) (may : MayJoin plan.size k.standing e) (orderly : IsOrderly plan.size k.standing e) where
+    steady-one : IsSteady plan.size k.history e
+    steady-one = steady-joins plan.size plan.image.value.bytes k.history k.standing e k.tells.standing_is may orderly
+
     frame : (j : ℕ) (w : View Hand) → j ≢ seat → get_elem? views j ≡ some w → (u : ℕ) → IsOneOf u (marked w.numbers) → u ≢ v.lead → Knows plan.size k.standing u w.doing
         → Knows plan.size (joined plan.size k.standing e) u w.doing
     frame j w ne there u has other known = knows-other plan.size k.standing k.classes e u w.doing (λ same. other (same ∙ own)) may orderly known
 
     pub moves-one : (words' : List ℕ) (h : Hand) → Knows plan.size (joined plan.size k.standing e) v.lead h → IsLaid plan.size words' (joined plan.size k.standing e)
         → Kept plan words' (set views seat (moved v k.history (e ∷ []) h))
-    moves-one words' h known laid = moves words' (e ∷ []) h (are_by-one e v.lead own) (may, tt) known frame laid (classes-joined plan.size k.standing e may orderly k.classes)
+    moves-one words' h known laid = moves words' (e ∷ []) h (are_by-one e v.lead own) (each-more (IsSteady plan.size) k.history e k.steady steady-one) (may, tt) known frame laid (classes-joined plan.size k.standing e may orderly k.classes)
 
     pub told-one : (h : Hand) (slots : List (ℕ × Unit {0})) → Knows plan.size (joined plan.size k.standing e) v.lead h
         → Goes (origin_of plan) (v, slots) (e ∷ []) h (moved v k.history (e ∷ []) h, slots)
@@ -75,6 +83,13 @@ module _ (plan : Plan) (words : List ℕ) (views : List (View Hand)) (k : Kept p
 
     -- and another
     module _ (f : Entry) (own_f : thread_of f ≡ v.lead) (may_f : MayJoin plan.size (joined plan.size k.standing e) f) (orderly_f : IsOrderly plan.size (joined plan.size k.standing e) f) where
+      steady-two : AreSteady plan.size (k.history ++ e ∷ f ∷ [])
+      steady-two =
+          let bytes = plan.image.value.bytes in
+          let standing = ap (λ (x : Standing). joined plan.size x e) k.tells.standing_is ∙ sym (standing_after-push plan.size (standing_of bytes) k.history e) in
+          each-two (IsSteady plan.size) k.history e f k.steady steady-one
+          (steady-joins plan.size bytes (k.history ++ e ∷ []) (joined plan.size k.standing e) f standing may_f orderly_f)
+
       frame-two : (j : ℕ) (w : View Hand) → j ≢ seat → get_elem? views j ≡ some w → (u : ℕ) → IsOneOf u (marked w.numbers) → u ≢ v.lead → Knows plan.size k.standing u w.doing
           → Knows plan.size (joined plan.size (joined plan.size k.standing e) f) u w.doing
       frame-two j w ne there u has other known = knows-other plan.size (joined plan.size k.standing e) (classes-joined plan.size k.standing e may orderly k.classes) f u w.doing (λ same. other (same ∙ own_f)) may_f orderly_f
@@ -82,7 +97,7 @@ module _ (plan : Plan) (words : List ℕ) (views : List (View Hand)) (k : Kept p
 
       pub moves-two : (words' : List ℕ) (h : Hand) → Knows plan.size (joined plan.size (joined plan.size k.standing e) f) v.lead h → IsLaid plan.size words' (joined plan.size (joined plan.size k.standing e) f)
           → Kept plan words' (set views seat (moved v k.history (e ∷ f ∷ []) h))
-      moves-two words' h known laid = moves words' (e ∷ f ∷ []) h (are_by-two e f v.lead own own_f) (may, (may_f, tt)) known frame-two laid
+      moves-two words' h known laid = moves words' (e ∷ f ∷ []) h (are_by-two e f v.lead own own_f) steady-two (may, (may_f, tt)) known frame-two laid
           (classes-joined plan.size (joined plan.size k.standing e) f may_f orderly_f (classes-joined plan.size k.standing e may orderly k.classes))
 
       pub told-two : (h : Hand) (slots : List (ℕ × Unit {0})) → Knows plan.size (joined plan.size (joined plan.size k.standing e) f) v.lead h

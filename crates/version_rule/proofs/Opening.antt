@@ -6,6 +6,8 @@ use Rattle.shared_memory.specs.Passes.{first_view}
 use Rattle.shared_memory.proofs.Closed.{opened}
 use Rattle.history.specs.Memory.{IsMemory}
 use Rattle.history.specs.Standing.{standing_of}
+use Rattle.history.specs.Steady.{IsSteady}
+use Rattle.history.proofs.Cuts.{each-none}
 use Rattle.llsc_base.specs.Sizes.{Numbers}
 use Rattle.version_rule.specs.declared.hands.Doing.TheVariants.{Rest}
 use Rattle.version_rule.specs.declared.hands.Reserve.TheVariants.{Nothing}
@@ -32,6 +34,7 @@ pub opens : (plan : Plan) (words : List ℕ) → IsMemory plan.size plan.image.v
 opens plan words memory long zeros cells = record {
   history = [];
   standing = standing_of plan.image.value.bytes;
+  steady = each-none (IsSteady plan.size);
   tells = opened (Knows plan.size) plan.size plan.image.value.bytes (hand Rest Nothing) memory (λ t. record { at = refl; reserve = refl; agrees = tt });
   laid = record { long = long; first = zeros 0 (omega arith); tags = λ c h. zeros (1 + c) (omega arith); cells = cells };
   classes = classes-first plan.size plan.image.value.bytes;

@@ -1,7 +1,7 @@
 use Rattle.std.proofs.Common.{◌≡◌, ◌+◌, ◌/◌, ◌<◌, ℕ, List, length, take, drop, slice_index, ap, ◌∙◌, length-take, arith}
 use Rattle.std.specs.Mem.Slots.{slots_items}
 use Rattle.llsc_base.specs.Sizes.{Numbers}
-use Rattle.version_rule.proofs.Closing.{complete-closed, few-closed, legal-closed, rows-closed}
+use Rattle.version_rule.proofs.Closing.{complete-closed, few-closed, legal-closed, rows-closed, steady-closed}
 use Rattle.shared_memory.proofs.Closing.{part-at}
 use Rattle.version_memory.proofs.sharing.VersionMemorySharedMemory.close.Goals as goal
 
@@ -18,6 +18,10 @@ returns-clause-complete c = complete-closed c.args.self.table.shared.key (slots_
 
 pub returns-clause-few : goal.returns-clause-few
 returns-clause-few c spends = few-closed c.args.self.table.shared.key (slots_items c.close_with-closed.result.words) (slots_items c.close_with-closed.result.slots) c.args.pass.seat.id c.args.pass.seat.me.0
+    c.requires.all c.args.pass.between.rest c.close_with-closed.ensures.values.2
+
+pub returns-clause-steady : goal.returns-clause-steady
+returns-clause-steady c steady = steady-closed c.args.self.table.shared.key (slots_items c.close_with-closed.result.words) (slots_items c.close_with-closed.result.slots) c.args.pass.seat.id c.args.pass.seat.me.0
     c.requires.all c.args.pass.between.rest c.close_with-closed.ensures.values.2
 
 pub returns-clause-rows : goal.returns-clause-rows
