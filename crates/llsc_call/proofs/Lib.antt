@@ -1,11 +1,13 @@
+pub mod Statuses
+pub mod Outcomes
 pub mod CheckAnswers
-pub mod SoloAnswers
 pub mod Finished
 pub mod RunAnswers
 pub mod Left
 pub mod LoadAnswers
-pub mod TraceAnswers
 pub mod Asked
+pub mod Had
+pub mod Said
 pub mod OneAnswer
 pub mod GoodTraces
 pub mod TracesAlone

@@ -1,5 +1,5 @@
 -- What a load is answered with.
-use Rattle.std.proofs.Common.{◌≡◌, ◌⊎◌, inl, inr, ℕ, zero, suc, ◌==◌, [], ◌∷◌, ◌&&◌, Bool, true, false, if◌then◌else◌, List, Option, Some, None, codes, length, lit≤, eqb-true, arith, refl, sym, ◌∙◌, ap, subst}
+use Rattle.std.proofs.Common.{◌≡◌, ◌⊎◌, inl, inr, ℕ, zero, suc, ◌==◌, ◌≤◌, [], ◌∷◌, ◌&&◌, Bool, true, false, if◌then◌else◌, List, Option, Some, None, codes, length, lit≤, eqb-true, arith, refl, sym, ◌∙◌, ap, subst}
 use Rattle.std.specs.Option.{option_or}
 use Rattle.std.proofs.lemmas.Bool.{and_parts}
 use Rattle.llsc_base.specs.Images.{Program}
@@ -20,14 +20,13 @@ use Rattle.llsc_call.specs.Beside.{Ran}
 use Rattle.llsc_call.specs.Versions.{KeepsVersions}
 use Rattle.llsc_report.specs.Summary.{counter_of, load_summary, summary_by}
 use Rattle.llsc_call.specs.Load.{AnswersLoad, CountsEveryRound, TellsLoad, guest_refusal, load_program, load_refusal, load_size, load_text}
-use Rattle.llsc_host.specs.Host.{Adds, AddsFront}
-use Rattle.llsc_files.specs.Reads.{Answered}
-use Rattle.llsc_host.specs.Said.{refusal_text}
-use Rattle.llsc_files.specs.Refusals.{Refusal, size_refusal}
+use Rattle.llsc_files.specs.declared.refusals.Refusal.{Refusal}
+use Rattle.llsc_files.specs.declared.refusals.Refusal.TheVariants as refusal
+use Rattle.llsc_files.specs.Refusals.{IsRefusal, size_refusal}
 use Rattle.llsc_report.specs.Report.{report_of}
 use Rattle.llsc_call.specs.Run.{UnlessRun}
 use Rattle.llsc_report.specs.Status.{have_left, status_of, status_of_all}
-use Rattle.llsc_files.proofs.Answering.{answered_refused, answered_wanting}
+use Rattle.llsc_files.proofs.Answering.{refused_by}
 use Rattle.llsc_report.proofs.Counted.{summary_named}
 use Rattle.llsc_call.proofs.Left.{counters_left}
 
@@ -84,6 +83,23 @@ loaded_all seed threads rounds budget history ends cells clean ran none =
     counters_left seed threads rounds history cells ran.outcome.legal ran.left i known ∙ holds i known) in
     (ends, (ran.outcome, (ran.versions, (sym none, same ∙ ap (λ b. if b then load_summary seed threads rounds else report_of budget ends) (sym left)))))
 
+-- the report, where one didn't
+not-left : (b : Bool) → (◌≡◌ {A = ℕ} (if b then 0 else 1) 0 → ⊥) → b ≡ false
+not-left true some = absurd (some refl)
+not-left false some = refl
+
+pub loaded_some : (seed threads rounds budget : ℕ) (history : List Entry) (ends : List GuestEnd) (cells : List ℕ)
+    → Ran (load_program seed threads rounds) (load_size threads) budget history ends cells → (status_of_all ends ≡ 0 → ⊥)
+    → TellsLoad (Some history) seed threads rounds budget (status_of_all ends) (report_of budget ends)
+loaded_some seed threads rounds budget history ends cells ran some =
+    let none : have_left ends ≡ false = not-left (have_left ends) some in
+    (ends, (ran.outcome, (ran.versions, (refl, ap (λ b. if b then load_summary seed threads rounds else report_of budget ends) (sym none)))))
+
+-- there are cells where the counters stand
+pub rows_enough : (seed threads rounds budget : ℕ) (history : List Entry) (ends : List GuestEnd) (cells : List ℕ)
+    → Ran (load_program seed threads rounds) (load_size threads) budget history ends cells → 2000 ≤ length cells
+rows_enough seed threads rounds budget history ends cells ran = omega (arith, ran.left.count)
+
 -- ---- the answer
 
 -- the image of a program is as long as the machine's memory
@@ -91,23 +107,15 @@ pub unit_sized : (unit : Unit) (size : Numbers) (image : Program) → image ≡ 
 unit_sized unit size image is = ap (λ (i : Program). length i.bytes) is ∙ length-values_below size.mem (unit_byte unit)
 
 -- numbers that no guest has, or want of memory for it
-pub guest_unmade : (threads rounds : ℕ) (fault : GenFault) (old new : Option (List ℕ)) (status : ℕ) → fault ≡ fault_of threads rounds
-    → (fault ≡ gen.Memory → status ≡ 6) → (status ≡ 4) ⊎ ((status ≡ 5) ⊎ (status ≡ 6))
-    → (status ≡ 4 → Adds old new (refusal_text (codes "Range"))) → (status ≡ 5 → AddsFront old new (refusal_text (codes "Range")))
-    → (status ≡ 6 → new ≡ old) → Answered (Refusal (guest_refusal threads rounds)) old new status
-guest_unmade threads rounds fault old new status is alone ended said cut memory = by_range (is_threads threads && is_rounds rounds) refl is
+pub guest_unmade : (threads rounds : ℕ) (fault : GenFault) (r : Refusal) → fault ≡ fault_of threads rounds
+    → (fault ≡ gen.Memory → r ≡ refusal.Memory) → IsRefusal (Some (codes "Range")) r → IsRefusal (guest_refusal threads rounds) r
+guest_unmade threads rounds fault r is alone named = by_range (is_threads threads && is_rounds rounds) refl is
   where
     by_range : (fits : Bool) → (is_threads threads && is_rounds rounds) ≡ fits → fault ≡ (if fits then gen.Memory else gen.Range)
-        → Answered (Refusal (guest_refusal threads rounds)) old new status
-    by_range true same wanting = answered_wanting old new status (alone wanting) (memory (alone wanting))
-    by_range false same range = answered_refused (guest_refusal threads rounds) (codes "Range") old new status
-        (ap (λ b. if b then None else Some (codes "Range")) same) ended said cut memory
-
--- a run of the guest
-pub load_ran : (seed threads rounds budget : ℕ) (story : Option (List Entry)) → load_refusal threads rounds ≡ None
-    → (status : ℕ) (text : List ℕ) → TellsLoad story seed threads rounds budget status text → AnswersLoad seed threads rounds budget story status text
-load_ran seed threads rounds budget story clean status text tells =
-    subst (λ a. UnlessRun a story (TellsLoad story seed threads rounds budget) status text) (sym clean) tells
+        → IsRefusal (guest_refusal threads rounds) r
+    by_range true same wanting = subst (IsRefusal (guest_refusal threads rounds)) (sym (alone wanting)) tt
+    by_range false same range = refused_by (Some (codes "Range")) (guest_refusal threads rounds) r
+        (λ name stands. ap (λ b. if b then None else Some (codes "Range")) same ∙ stands) named
 
 -- ---- the history of an answer
 

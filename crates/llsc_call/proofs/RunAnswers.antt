@@ -1,5 +1,5 @@
 -- What a run is answered with.
-use Rattle.std.proofs.Common.{◌≡◌, ◌⊎◌, inl, inr, ℕ, List, Option, Some, None, refl, sym, subst}
+use Rattle.std.proofs.Common.{◌≡◌, ◌⊎◌, inl, inr, ℕ, List, Option, Some, None, refl}
 use Rattle.llsc_base.specs.Images.{Program}
 use Rattle.llsc_base.specs.Sizes.{Numbers}
 use Rattle.history.specs.declared.entry.Entry.{Entry}
@@ -9,7 +9,6 @@ use Rattle.llsc_words.specs.declared.formats.Format.{Format}
 use Rattle.llsc_call.specs.Beside.{Ran}
 use Rattle.llsc_call.specs.Versions.{KeepsVersions}
 use Rattle.llsc_files.specs.Programs.{image_of, program_refusal}
-use Rattle.llsc_files.specs.Refusals.{Refuses}
 use Rattle.llsc_report.specs.Report.{report_of}
 use Rattle.llsc_call.specs.Run.{AnswersRun, IsReportOf, ReportsRun, UnlessRun}
 use Rattle.llsc_report.specs.Status.{status_of_all}
@@ -19,26 +18,6 @@ use Rattle.llsc_report.specs.Status.{status_of_all}
 pub reported : (program : Program) (size : Numbers) (budget : ℕ) (history : List Entry) (ends : List GuestEnd) (cells : List ℕ)
     → Ran program size budget history ends cells → IsReportOf history program size budget (status_of_all ends) (report_of budget ends)
 reported program size budget history ends cells ran = (ends, (ran.outcome, (ran.versions, (refl, refl))))
-
--- ---- the answer
-
-pub run_refused_by : (against : Option (List ℕ)) (story : Option (List Entry)) (answers : ℕ → List ℕ → Type 0) (name : List ℕ) (status : ℕ) (text : List ℕ)
-    → against ≡ Some name → UnlessRun (Some name) story answers status text → UnlessRun against story answers status text
-run_refused_by against story answers name status text is stands = subst (λ a. UnlessRun a story answers status text) (sym is) stands
-
--- a refusal
-pub run_refused : (format : Format) (size : Numbers) (budget : ℕ) (story : Option (List Entry)) → story ≡ None → (file : List ℕ) (status : ℕ) (text : List ℕ)
-    → Refuses (program_refusal format size) file status text → AnswersRun format size budget file story status text
-run_refused format size budget story none file status text refused =
-    run_refused_by (program_refusal format size file) story (ReportsRun story (image_of format file size) size budget) refused.0 status text refused.1.0 (none, refused.1.1)
-
--- a run of an image
-pub run_ran : (format : Format) (size : Numbers) (budget : ℕ) (story : Option (List Entry)) (file : List ℕ) (made : Numbers) (image : Program)
-    → program_refusal format size file ≡ None → made ≡ size → image ≡ image_of format file size
-    → (status : ℕ) (text : List ℕ) → ReportsRun story image made budget status text → AnswersRun format size budget file story status text
-run_ran format size budget story file made image clean same whole status text reports =
-    subst (λ a. UnlessRun a story (ReportsRun story (image_of format file size) size budget) status text) (sym clean)
-    (subst (λ i. ReportsRun story i size budget status text) whole (subst (λ s. ReportsRun story image s budget status text) same reports))
 
 -- ---- the history of an answer
 

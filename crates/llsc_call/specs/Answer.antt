@@ -17,7 +17,6 @@ use Rattle.llsc_call.specs.Trace.{AnswersTrace}
 use Rattle.llsc_call.specs.Check.{AnswersCheck}
 use Rattle.llsc_call.specs.Load.{AnswersLoad}
 use Rattle.llsc_host.specs.Said.{words_text, read_text}
-use Rattle.llsc_files.specs.Reads.{EndsFor}
 use Rattle.llsc_files.specs.Refusals.{machine_of, most_program, solo_size, size_refusal, too_long, Unless}
 use Rattle.llsc_files.specs.Programs.{image_of, program_refusal}
 
@@ -43,12 +42,6 @@ Answers (Trace name format threads mem granule seed budget) (file ∷ []) story 
 Answers (Check name other format mem) (file ∷ recorded ∷ []) story status text = (story ≡ None) × AnswersCheck format mem file recorded status text
 Answers (Load seed threads rounds budget) [] story status text = AnswersLoad seed threads rounds budget story status text
 Answers _ _ story status text = ⊥
-
--- it runs no threads beside each other
-abbrev pub IsAlone : Request → Type 0
-IsAlone (Run name format size budget) = ⊥
-IsAlone (Load seed threads rounds budget) = ⊥
-IsAlone _ = Unit {0}
 
 -- these are bytes that the files of these names may hold, one for each
 abbrev pub AreFiles : (List ℕ → Option (List ℕ)) → (names files : List (List ℕ)) → Type 0
@@ -96,8 +89,3 @@ IsCut held request story read_failed old new =
     ((request ≡ None) × (story ≡ None) × AddsFront old new words_text)
     ⊎ (((status : ℕ) × (text : List ℕ) × (IsAnswer held request story status text × AddsFront old new text))
     ⊎ (read_failed × (story ≡ None) × AddsFront old new read_text))
-
--- a call ended with a history, or none, that had the files of a request to answer for
-abbrev pub EndsAsked : (List ℕ → Option (List ℕ)) → Request → Option (List Entry) → Type 0 → Option (List ℕ) → Option (List ℕ) → ℕ → Type 0
-EndsAsked held asked story read_failed old new status =
-    EndsFor (λ files. Answers asked files story) (AreFiles held (files_of asked)) (read_failed × (story ≡ None)) old new status

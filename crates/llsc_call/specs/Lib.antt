@@ -6,3 +6,6 @@ pub mod Beside
 pub mod Load
 pub mod Check
 pub mod Answer
+pub mod Files
+pub mod Outcome
+pub mod Comes

@@ -7,10 +7,11 @@ ghost use Rattle.llsc_call.specs.Run.{told};
 ghost use Rattle.llsc_call.specs.Answer.{Answers, AreTold, IsNoneOf, IsAnswer, ReadFailed, IsCut};
 ghost use Rattle.llsc_files.specs.Reads.{IsDone};
 
-use crate::commands;
+use crate::answer::Answer;
+use crate::answering::answer_words;
 use crate::ended::Ended;
-use llsc_host::{Host, out_of_memory, say};
-use llsc_words::parse;
+use crate::say::say;
+use llsc_host::Host;
 use std::alloc::Global;
 use std::sync::Wait;
 use std::thread::Threads;
@@ -58,11 +59,7 @@ pub fn llsc<H: Host, R: Threads + Wait + Sync>(
     // Want of memory leaves no trace.
     ensures memory { result.status ≡ 6 → (H.written host.new ≡ H.written host.old) × (result.story ≡ None) }
 {
-    let Ok(request) = parse(alloc, words) else {
-        return Ended::from(out_of_memory());
-    };
-    match request {
-        None => Ended::from(say(host, b"llsc: words\n", 2)),
-        Some(request) => commands::answer(rt, alloc, host, request),
-    }
+    let Answer { outcome, story } = answer_words(rt, alloc, host, words);
+    let status = say(host, outcome);
+    Ended { status, story }
 }

@@ -1,86 +1,98 @@
-//! The commands.
-ghost use Rattle.std.specs.Prelude.{◌≡◌, ◌≢◌, None};
-ghost use Rattle.llsc_host.specs.Host.{Rose};
-ghost use Rattle.llsc_words.specs.Request.{asked, HasBudget};
-ghost use Rattle.llsc_call.specs.Answer.{IsAlone, IsDue, EndsAsked};
-ghost use Rattle.llsc_call.specs.Run.{told};
+//! The commands: what each answers to the bytes of its files, without a host.
+ghost use Rattle.std.specs.Prelude.{◌≡◌, None, IfErr, OnOk};
+ghost use Rattle.std.specs.Option.{option_map};
+ghost use Rattle.llsc_words.specs.Request.{asked, machine_by, HasBudget};
+ghost use Rattle.llsc_files.specs.Refusals.{IsRefusal};
+ghost use Rattle.llsc_call.specs.Answer.{Answers};
+ghost use Rattle.llsc_call.specs.Files.{barred, files_by, machine_wanted, AreShort};
+ghost use Rattle.llsc_call.specs.Outcome.{GivesBy};
 
+mod asm;
 mod check;
+mod dis;
 mod load;
 mod run;
 mod solo;
 mod trace;
 
-use crate::ended::Ended;
-use llsc_host::{Host, Said};
-use llsc_texts::{asm, dis};
-use llsc_words::Request;
+use crate::answer::Answer;
+use crate::files::Files;
+use llsc_files::{LEAST_GRANULE, Refusal, machine, numbers_of};
+use llsc_words::{MachineNumbers, Request};
 use std::alloc::Global;
 use std::sync::Wait;
 use std::thread::Threads;
 
-/// Answers a request that runs no threads beside each other.
-fn answer_alone<H: Host>(alloc: Global, host: &mut H, request: Request<'_>) -> Said
-    requires budget { HasBudget request }
-    requires alone { IsAlone (asked request) }
-    ensures ends { EndsAsked (H.file host.old) (asked request.entry) None
-        (Rose (H.read_faults host.old) (H.read_faults host.new) × IsDue (H.file host.old) (asked request.entry) (H.lost host.new))
-        (H.written host.old) (H.written host.new) result.status }
-    ensures write { result.status ≡ 5 → Rose (H.write_faults host.old) (H.write_faults host.new) }
-    ensures write_answered { result.status ≢ 5 → H.write_faults host.new ≡ H.write_faults host.old }
-    ensures read_answered { result.status ≢ 3 → result.status ≢ 5 → H.read_faults host.new ≡ H.read_faults host.old }
+/// The numbers of the machine that a request names; one for a text or a record names none.
+fn machine_named(request: Request<'_>) -> Option<MachineNumbers>
+    ensures { option_map machine_by result ≡ machine_wanted (asked request.entry) }
 {
     match request {
-        Request::Solo {
-            file,
-            format,
-            mem,
-            budget,
-        } => solo::answer(alloc, host, file, format, mem, budget),
-        Request::Assemble { file, format } => asm::answer(alloc, host, file, format),
-        Request::Disassemble { file, format, mem } => dis::answer(alloc, host, file, format, mem),
-        Request::Trace {
-            file,
-            format,
-            numbers,
-        } => trace::answer(alloc, host, file, format, numbers),
-        Request::Check {
-            file,
-            recorded,
-            format,
-            mem,
-        } => check::answer(alloc, host, file, recorded, format, mem),
-        Request::Run { .. } | Request::Load { .. } => unreachable!(),
+        Request::Solo { mem, .. } | Request::Disassemble { mem, .. } => {
+            Some(numbers_of(1, mem, LEAST_GRANULE))
+        }
+        Request::Run { numbers, .. } => Some(numbers.machine),
+        Request::Trace { numbers, .. } => {
+            Some(numbers_of(numbers.threads, numbers.mem, numbers.granule))
+        }
+        Request::Assemble { .. } | Request::Check { .. } | Request::Load { .. } => None,
     }
 }
 
-/// Answers a request.
-pub fn answer<H: Host, R: Threads + Wait + Sync>(
+/// Nothing, where no machine that a request names stands against it before its files are read.
+///
+/// # Errors
+///
+/// The refusal by the first number of that machine that is out of its range.
+pub fn admit(alloc: Global, request: Request<'_>) -> Result<(), Refusal>
+    ensures admitted { OnOk result (barred (asked request.entry) ≡ None) }
+    ensures refused { IfErr result (IsRefusal (barred (asked request.entry))) }
+{
+    let Some(numbers) = machine_named(request) else {
+        return Ok(());
+    };
+    match machine(alloc, numbers) {
+        Ok(_) => Ok(()),
+        Err(refusal) => Err(refusal),
+    }
+}
+
+/// Answers a request by the bytes of its files, none of which is too long.
+pub fn answer<R: Threads + Wait + Sync>(
     rt: &R,
     alloc: Global,
-    host: &mut H,
     request: Request<'_>,
-) -> Ended
-    requires { HasBudget request }
-    ensures ends { EndsAsked (H.file host.old) (asked request.entry) (told result.story)
-        (Rose (H.read_faults host.old) (H.read_faults host.new) × IsDue (H.file host.old) (asked request.entry) (H.lost host.new))
-        (H.written host.old) (H.written host.new) result.status }
-    ensures memory { result.status ≡ 6 → result.story ≡ None }
-    ensures write { result.status ≡ 5 → Rose (H.write_faults host.old) (H.write_faults host.new) }
-    ensures write_answered { result.status ≢ 5 → H.write_faults host.new ≡ H.write_faults host.old }
-    ensures read_answered { result.status ≢ 3 → result.status ≢ 5 → H.read_faults host.new ≡ H.read_faults host.old }
+    files: Files,
+) -> Answer
+    requires budget { HasBudget request }
+    requires short { AreShort (asked request) files }
+    ensures { GivesBy (Answers (asked request.entry) (files_by (asked request.entry) files)) result.outcome result.story }
 {
+    let Files { first, second } = files;
     match request {
+        Request::Solo {
+            format,
+            mem,
+            budget,
+            ..
+        } => Answer::from(solo::outcome(alloc, format, mem, budget, first)),
         Request::Run {
-            file,
             format,
             numbers,
-        } => run::answer(rt, alloc, host, file, format, numbers),
-        Request::Load { numbers } => load::answer(rt, alloc, host, numbers),
-        Request::Solo { .. }
-        | Request::Assemble { .. }
-        | Request::Disassemble { .. }
-        | Request::Trace { .. }
-        | Request::Check { .. } => Ended::from(answer_alone(alloc, host, request)),
+            ..
+        } => run::answer(rt, alloc, format, numbers, first),
+        Request::Assemble { format, .. } => Answer::from(asm::outcome(alloc, format, first)),
+        Request::Disassemble { format, mem, .. } => {
+            Answer::from(dis::outcome(alloc, format, mem, first))
+        }
+        Request::Trace {
+            format,
+            numbers,
+            ..
+        } => Answer::from(trace::outcome(alloc, format, numbers, first)),
+        Request::Check { format, mem, .. } => {
+            Answer::from(check::outcome(alloc, format, mem, first, second))
+        }
+        Request::Load { numbers } => load::answer(rt, alloc, numbers),
     }
 }

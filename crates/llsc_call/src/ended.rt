@@ -1,7 +1,4 @@
 //! How a call ended.
-ghost use Rattle.std.specs.Prelude.{◌≡◌, None};
-
-use llsc_host::Said;
 use version_memory::VersionStory;
 
 /// How a call ended.
@@ -13,17 +10,4 @@ pub struct Ended {
     pub status: u8,
     /// The history of the accesses of threads that ran beside each other, where any did. Nothing of it is read at run time.
     pub story: Option<VersionStory>,
-}
-
-impl From<Said> for Ended {
-    /// No threads ran beside each other.
-    fn from(said: Said) -> Ended
-        ensures status { result.status ≡ said.status }
-        ensures story { result.story ≡ None }
-    {
-        Ended {
-            status: said.status,
-            story: None,
-        }
-    }
 }

@@ -1,5 +1,5 @@
 -- A program's file, of either format: what stands against it on a machine, and the image that it gives.
-use Rattle.std.specs.Prelude.{◌≡◌, ℕ, List, Bool, true, false, IsTrue, Option, Some, None}
+use Rattle.std.specs.Prelude.{◌≡◌, ℕ, List, length, Bool, true, false, IsTrue, Option, Some, None}
 use Rattle.std.specs.Option.{option_map, option_or}
 use Rattle.llsc_base.specs.Sizes.{Numbers}
 use Rattle.llsc_base.specs.Images.{Program}
@@ -10,6 +10,7 @@ use Rattle.elf32.specs.Image.{image_of as elf_image}
 use Rattle.elf32.specs.declared.faults.ElfFault.TheVariants as elf_fault
 use Rattle.llsc_words.specs.declared.formats.Format.{Format}
 use Rattle.llsc_words.specs.declared.formats.Format.TheVariants.{Elf, Flat}
+use Rattle.llsc_files.specs.declared.files.Loaded.{Loaded}
 use Rattle.llsc_files.specs.declared.programs.ProgramFault.{ProgramFault}
 use Rattle.llsc_files.specs.declared.programs.ProgramFault.TheVariants as fault
 use Rattle.llsc_files.specs.Refusals.{too_long, most_program, size_refusal}
@@ -45,3 +46,10 @@ is_wanting _ = false
 abbrev pub IsFaultBy : Option (List ℕ) → ProgramFault → Type 0
 IsFaultBy (Some name) fault = program_fault_name fault ≡ name
 IsFaultBy None fault = IsTrue (is_wanting fault)
+
+-- a file was loaded on a machine of these numbers: there is such a machine, nothing stands against the file, and this is its image
+pub record IsLoaded (format : Format) (size : Numbers) (file : List ℕ) (loaded : Loaded) : Type 0 where
+  pub sized : loaded.size ≡ size
+  pub sound : program_refusal format size file ≡ None
+  pub image : loaded.image ≡ image_of format file size
+  pub whole : length loaded.image.bytes ≡ loaded.size.mem

@@ -1,56 +1,35 @@
--- How a call ended that had files to answer for.
-use Rattle.std.specs.Prelude.{◌≡◌, ℕ, ◌⊎◌, List, Option, codes}
+-- What comes of a read, and which statuses an answer has.
+use Rattle.std.specs.Prelude.{◌≡◌, ℕ, ◌⊎◌, List, Option, Some, None, Result, Ok, Err, Vec, codes}
+use Rattle.std.specs.Global.{Global}
+use Rattle.llsc_host.specs.declared.host.Host.{Ghosts}
 use Rattle.llsc_host.specs.declared.host.ReadFault.{ReadFault}
 use Rattle.llsc_host.specs.declared.host.ReadFault.TheVariants.{Failed, FileTooLong, Memory}
-use Rattle.llsc_host.specs.Host.{AreBytes, Adds, AddsFront}
-use Rattle.llsc_host.specs.Said.{read_text, refusal_text}
-use Rattle.llsc_files.specs.Refusals.{Answer}
+use Rattle.llsc_host.specs.Host.{AreBytes, Rose}
+use Rattle.llsc_host.specs.Writes.{KeepsReads, KeepsWrites}
+use Rattle.llsc_files.specs.Refusals.{too_long}
 
 -- the statuses of an answer that was given whole
 abbrev pub IsDone : ℕ → Type 0
 IsDone status = (status ≡ 0) ⊎ ((status ≡ 1) ⊎ ((status ≡ 4) ⊎ (status ≡ 7)))
 
--- a front of the text of the fault was written
-abbrev pub CutAfter : ReadFault → Option (List ℕ) → Option (List ℕ) → Type 0
-CutAfter Failed old new = AddsFront old new read_text
-CutAfter FileTooLong old new = AddsFront old new (refusal_text (codes "FileTooLong"))
-CutAfter Memory old new = ⊥
+-- the bytes that a file may hold, and not too many
+abbrev pub IsHad : Option (List ℕ) → ℕ → List ℕ → Type 0
+IsHad held most bytes = AreBytes held bytes × (too_long most bytes ≡ None)
 
--- the answer for files that may be was written whole
-abbrev pub IsAnswered : {F : Type 0} → (F → ℕ → List ℕ → Type 0) → (F → Type 0) → ℕ → Option (List ℕ) → Option (List ℕ) → Type 0
-IsAnswered {F} answers may status old new =
-    (file : F) × (text : List ℕ) × (may file × (answers file status text × Adds old new text))
+-- a file may hold too many bytes
+abbrev pub MayBeLong : Option (List ℕ) → ℕ → Type 0
+MayBeLong held most = (bytes : List ℕ) × (AreBytes held bytes × (too_long most bytes ≡ Some (codes "FileTooLong")))
 
--- a front was written of the answer for files that may be, or after a failed read of the text that says so
-abbrev pub IsCutFile : {F : Type 0} → (F → ℕ → List ℕ → Type 0) → (F → Type 0) → Type 0 → Option (List ℕ) → Option (List ℕ) → Type 0
-IsCutFile {F} answers may read_failed old new =
-    ((file : F) × (status : ℕ) × (text : List ℕ) × (may file × (answers file status text × AddsFront old new text)))
-    ⊎ (read_failed × AddsFront old new read_text)
+-- what a read of a file's bytes came to, so many at most: they were had, or it failed, which the host counts, or they are too
+-- many, or memory is wanting
+abbrev pub Had : {S : Type 0} → Ghosts S → (old new : S) → List ℕ → ℕ → Result (Vec ℕ Global) ReadFault → Type 0
+Had host old new name most (Ok file) = KeepsReads host old new × IsHad (host.file old name) most file.items
+Had host old new name most (Err Failed) = Rose (host.read_faults old) (host.read_faults new) × (host.lost new ≡ name)
+Had host old new name most (Err FileTooLong) = KeepsReads host old new × MayBeLong (host.file old name) most
+Had host old new name most (Err Memory) = KeepsReads host old new
 
--- A call ended with a status: its answer was written whole, or a failed read told, or a write was cut short, or memory is
--- wanting.
-pub record EndsFor {F : Type 0} (answers : F → ℕ → List ℕ → Type 0) (may : F → Type 0) (read_failed : Type 0) (old new : Option (List ℕ)) (status : ℕ) : Type 0 where
-  pub ended : IsDone status ⊎ ((status ≡ 3) ⊎ ((status ≡ 5) ⊎ (status ≡ 6)))
-  pub done : IsDone status → IsAnswered answers may status old new
-  pub read : status ≡ 3 → read_failed × Adds old new read_text
-  pub cut : status ≡ 5 → IsCutFile answers may read_failed old new
-  pub memory : status ≡ 6 → new ≡ old
-
--- a call ended that had one file to answer for
-abbrev pub CallEnds : (List ℕ → ℕ → List ℕ → Type 0) → Option (List ℕ) → Type 0 → Option (List ℕ) → Option (List ℕ) → ℕ → Type 0
-CallEnds answers held read_failed old new status = EndsFor answers (AreBytes held) read_failed old new status
-
--- A call ended with a status, whatever it read before: one of these answers was written whole, or a write was cut short, or
--- memory is wanting.
-pub record Answered (answers : ℕ → List ℕ → Type 0) (old new : Option (List ℕ)) (status : ℕ) : Type 0 where
-  pub ended : IsDone status ⊎ ((status ≡ 5) ⊎ (status ≡ 6))
-  pub done : IsDone status → (text : List ℕ) × (answers status text × Adds old new text)
-  pub cut : status ≡ 5 → (other : ℕ) × (text : List ℕ) × (answers other text × AddsFront old new text)
-  pub memory : status ≡ 6 → new ≡ old
-
--- A call ended with a status: one answer was written whole, or a write was cut short, or memory is wanting.
-pub record Gives (answer : Answer) (old new : Option (List ℕ)) (status : ℕ) : Type 0 where
-  pub ended : (status ≡ answer.status) ⊎ ((status ≡ 5) ⊎ (status ≡ 6))
-  pub done : status ≡ answer.status → Adds old new answer.text
-  pub cut : status ≡ 5 → AddsFront old new answer.text
-  pub memory : status ≡ 6 → new ≡ old
+-- a read, which writes nothing
+pub record Reads {S : Type 0} (host : Ghosts S) (old new : S) (name : List ℕ) (most : ℕ) (result : Result (Vec ℕ Global) ReadFault) : Type 0 where
+  pub had : Had host old new name most result
+  pub files : host.file new ≡ host.file old
+  pub writes : KeepsWrites host old new

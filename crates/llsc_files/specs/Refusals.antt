@@ -1,7 +1,9 @@
 -- What stands against a file, and how it is refused.
-use Rattle.std.specs.Prelude.{◌≡◌, ℕ, ◌^◌, nat_lt, if◌then◌else◌, List, length, Option, Some, None, codes}
+use Rattle.std.specs.Prelude.{◌≡◌, ℕ, ◌^◌, nat_lt, if◌then◌else◌, List, length, string_bytes, Option, Some, None, codes}
 use Rattle.std.specs.Option.{option_map}
 use Rattle.llsc_host.specs.Said.{refusal_text}
+use Rattle.llsc_files.specs.declared.refusals.Refusal.{Refusal}
+use Rattle.llsc_files.specs.declared.refusals.Refusal.TheVariants.{Said, Memory}
 use Rattle.llsc_base.specs.Sizes.{Numbers, numbers, size_fault, size_fault_name}
 
 -- A status and a text.
@@ -48,9 +50,7 @@ abbrev pub Unless : Option (List ℕ) → (ℕ → List ℕ → Type 0) → ℕ 
 Unless (Some name) answers status text = (status ≡ 4) × (text ≡ refusal_text name)
 Unless None answers status text = answers status text
 
--- something stands against a request, which is answered with status 4 and its name
-abbrev pub Refusal : Option (List ℕ) → ℕ → List ℕ → Type 0
-Refusal against status text = (name : List ℕ) × ((against ≡ Some name) × ((status ≡ 4) × (text ≡ refusal_text name)))
-
-abbrev pub Refuses : (List ℕ → Option (List ℕ)) → List ℕ → ℕ → List ℕ → Type 0
-Refuses against file status text = Refusal (against file) status text
+-- a refusal by what stands against a request, or want of memory
+abbrev pub IsRefusal : Option (List ℕ) → Refusal → Type 0
+IsRefusal against (Said text) = (name : List ℕ) × ((against ≡ Some name) × (string_bytes text ≡ refusal_text name))
+IsRefusal against Memory = Unit {0}

@@ -1,9 +1,10 @@
 -- Texts of the first numbers, one after another.
-use Rattle.std.proofs.Common.{◌≡◌, ℕ, zero, suc, ◌+◌, ◌-◌, ◌≤◌, List, [], ◌∷◌, ◌++◌, Option, ◌∙◌, ap, arith, append-nil, refl, zero-add, add-zero}
+use Rattle.std.proofs.Common.{◌≡◌, ℕ, zero, suc, ◌+◌, ◌-◌, ◌≤◌, List, [], ◌∷◌, ◌++◌, ◌∙◌, ap, sym, subst, arith, append-nil, refl, zero-add, add-zero}
 use Rattle.std.specs.List.{flat_map, range_with_len}
 use Rattle.std.proofs.lemmas.Grind.{flat_map-append}
-use Rattle.llsc_host.specs.Host.{AddsFront}
-use Rattle.llsc_host.proofs.Fronts.{front_less}
+use Rattle.llsc_host.specs.Writes.{Broke}
+use Rattle.llsc_host.specs.declared.host.Host.{Ghosts}
+use Rattle.llsc_host.proofs.Kept.{broke_first}
 
 range_split : (from n m : ℕ) → range_with_len from (n + m) ≡ range_with_len from n ++ range_with_len (from + n) m
 range_split from zero m = rw (zero-add m, add-zero from) refl
@@ -20,13 +21,13 @@ pub texts_more : (text : ℕ → List ℕ) (i : ℕ) → flat_map text (range_wi
 texts_more text i =
     ap (flat_map text) (range_more i) ∙ flat_map-append text (range_with_len 0 i) (i ∷ []) ∙ rw (append-nil (text i)) refl
 
--- a front of the first texts is a front of all
-pub texts_front : (text : ℕ → List ℕ) (i n : ℕ) (old new : Option (List ℕ)) → i ≤ n
-    → AddsFront old new (flat_map text (range_with_len 0 i)) → AddsFront old new (flat_map text (range_with_len 0 n))
-texts_front text i n old new less front =
+-- the first texts cut short are all texts cut short
+pub texts_broke : {S : Type 0} (host : Ghosts S) (text : ℕ → List ℕ) (i n : ℕ) (old new : S) → i ≤ n
+    → Broke host old new (flat_map text (range_with_len 0 i)) → Broke host old new (flat_map text (range_with_len 0 n))
+texts_broke host text i n old new less broke =
     let sum : n ≡ i + (n - i) = omega arith in
     let split : flat_map text (range_with_len 0 n) ≡ flat_map text (range_with_len 0 i) ++ flat_map text (range_with_len (0 + i) (n - i)) =
     ap (λ c. flat_map text (range_with_len 0 c)) sum
     ∙ ap (flat_map text) (range_split 0 i (n - i))
     ∙ flat_map-append text (range_with_len 0 i) (range_with_len (0 + i) (n - i)) in
-    rw split (front_less old new (flat_map text (range_with_len 0 i)) (flat_map text (range_with_len (0 + i) (n - i))) front)
+    subst (Broke host old new) (sym split) (broke_first host old new (flat_map text (range_with_len 0 i)) (flat_map text (range_with_len (0 + i) (n - i))) broke)

@@ -1,9 +1,8 @@
 -- What was written by some of several writes.
-use Rattle.std.proofs.Common.{◌≡◌, ℕ, ◌+◌, List, ◌++◌, Option, Some, None, length, take, drop, sym, ◌∙◌, ap, subst, append_assoc, Result, Ok, Err, OnErr, IfErr, [], append-nil}
-use Rattle.std.specs.Result.{IsErrAnd}
+use Rattle.std.proofs.Common.{◌≡◌, ℕ, ◌+◌, List, ◌++◌, Option, Some, None, length, take, drop, sym, ◌∙◌, ap, subst, append_assoc, [], append-nil}
 use Rattle.std.proofs.lemmas.List.{take-append-drop}
 use Rattle.std.proofs.Math.Seq.{take-append_seam, take-append-add}
-use Rattle.llsc_host.specs.Host.{Adds, AddsFront}
+use Rattle.llsc_host.specs.Host.{Adds, AddsFront, Rose}
 
 -- two writes, one after the other
 pub adds_both : (old mid new : Option (List ℕ)) (a b : List ℕ) → Adds old mid a → Adds mid new b → Adds old new (a ++ b)
@@ -32,16 +31,6 @@ pub adds_nothing : (old : Option (List ℕ)) → Adds old old []
 adds_nothing (Some old) = sym (append-nil old)
 adds_nothing None = tt
 
--- what holds is owed of an error
-pub owed : {A B : Type 0} {P : Type 0} → (r : Result A B) → P → OnErr r P
-owed (Ok x) p = tt
-owed (Err e) p = p
-
-pub owed_more : {A B P Q : Type 0} → (r : Result A B) → (P → Q) → OnErr r P → OnErr r Q
-owed_more (Ok x) more p = tt
-owed_more (Err e) more p = more p
-
--- what is owed of an error, where it is known which error it is
-pub owed_as : {A B : Type 0} {Q P : B → Type 0} → (r : Result A B) → IsErrAnd r Q → ((e : B) → Q e → P e) → IfErr r P
-owed_as (Ok x) is more = tt
-owed_as (Err e) is more = more e is
+-- a count that rose from what it was before
+pub rose_on : (old mid new : ℕ) → mid ≡ old → Rose mid new → Rose old new
+rose_on old mid new same rose = subst (λ n. Rose n new) same rose

@@ -24,17 +24,6 @@ Adds None (Some new) text = ⊥
 abbrev pub AddsFront : Option (List ℕ) → Option (List ℕ) → List ℕ → Type 0
 AddsFront old new text = (k : ℕ) × Adds old new (take k text)
 
--- What a call leaves as it is that reads nothing: what files hold, how many reads failed, and the name of the last that did.
-pub record KeepsReads (held held_after : List ℕ → Option (List ℕ)) (faults faults_after : ℕ) (name name_after : List ℕ) : Type 0 where
-  pub files : held_after ≡ held
-  pub read_faults : faults_after ≡ faults
-  pub lost : name_after ≡ name
-
--- What a call leaves as it is that writes nothing: what was written, and how many writes failed.
-pub record KeepsWrites (text text_after : Option (List ℕ)) (faults faults_after : ℕ) : Type 0 where
-  pub written : text_after ≡ text
-  pub write_faults : faults_after ≡ faults
-
 -- the name of a read's fault
 abbrev pub read_fault_name : ReadFault → List ℕ
 read_fault_name Failed = codes "Failed"

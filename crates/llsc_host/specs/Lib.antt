@@ -1,4 +1,5 @@
 pub mod Host
+pub mod Writes
 pub mod MemoryHost
 pub mod MemoryHostInside
 pub mod SteadyHost

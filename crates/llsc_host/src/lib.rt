@@ -2,18 +2,18 @@
 //!
 //! [`Host`] is what is asked, call by call: what a file holds and what was written so far, where a host tells it, and two counts
 //! that say when a read or a write failed. [`RealHost`] is the host of the program as it runs, over the operating system, and
-//! tells nothing of bytes; [`MemoryHost`] tells everything, and fails where it is told to; [`SteadyHost`] never fails. [`say`]
-//! writes a text by one write, and [`refuse`] the name of what stands against a request (`specs/Said`).
+//! tells nothing of bytes; [`MemoryHost`] tells everything, and fails where it is told to; [`SteadyHost`] never fails. [`write`]
+//! is a write whose contract is one word, by which those of several writes are said (`specs/Writes`).
 #![tactic(auto)]
 
 mod host;
 mod memory_host;
 mod real_host;
-mod said;
 mod steady_host;
+mod writing;
 
 pub use host::{Failed, Host, ReadFault};
 pub use memory_host::MemoryHost;
 pub use real_host::RealHost;
-pub use said::{Said, out_of_memory, refuse, say};
 pub use steady_host::SteadyHost;
+pub use writing::write;

@@ -1,12 +1,13 @@
 -- The lines and the sum of the first counters.
-use Rattle.std.proofs.Common.{◌≡◌, ℕ, zero, suc, ◌+◌, ◌*◌, ◌<◌, ◌≤◌, List, [], ◌++◌, Option, refl, sym, ◌∙◌, ap, arith}
+use Rattle.std.proofs.Common.{◌≡◌, ℕ, zero, suc, ◌+◌, ◌*◌, ◌<◌, ◌≤◌, [], ◌++◌, refl, sym, ◌∙◌, ap, arith}
 use Rattle.std.specs.List.{range_with_len, sum_by}
 use Rattle.std.proofs.lemmas.List.Sums.{sum_by_push}
-use Rattle.llsc_host.specs.Host.{AddsFront}
+use Rattle.llsc_host.specs.Writes.{Broke}
+use Rattle.llsc_host.specs.declared.host.Host.{Ghosts}
 use Rattle.llsc_report.specs.Summary.{counter_line, counter_lines, load_line, load_summary, summary_by, total_line, total_of}
 use Rattle.guest_gen.specs.Namings.{namings_of}
 use Rattle.guest_gen.proofs.Totals.{all_namings}
-use Rattle.llsc_host.proofs.FirstTexts.{range_more, texts_front, texts_more}
+use Rattle.llsc_host.proofs.FirstTexts.{range_more, texts_broke, texts_more}
 
 pub no_lines : (held : ℕ → ℕ) → counter_lines held 0 ≡ []
 unfolding counter_lines
@@ -17,10 +18,10 @@ pub counters_more : (held : ℕ → ℕ) (i : ℕ) → counter_lines held (i + 1
 unfolding counter_lines
 counters_more held i = texts_more (λ k. counter_line k (held k)) i
 
--- a front of the first lines is a front of all
-pub counters_front : (held : ℕ → ℕ) (i n : ℕ) (old new : Option (List ℕ)) → i ≤ n → AddsFront old new (counter_lines held i) → AddsFront old new (counter_lines held n)
+-- the first lines cut short are all lines cut short
+pub counters_broke : {S : Type 0} (host : Ghosts S) (held : ℕ → ℕ) (i n : ℕ) (old new : S) → i ≤ n → Broke host old new (counter_lines held i) → Broke host old new (counter_lines held n)
 unfolding counter_lines
-counters_front held i n old new less front = texts_front (λ k. counter_line k (held k)) i n old new less front
+counters_broke host held i n old new less broke = texts_broke host (λ k. counter_line k (held k)) i n old new less broke
 
 pub no_total : (held : ℕ → ℕ) → total_of held 0 ≡ 0
 unfolding total_of

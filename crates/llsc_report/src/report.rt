@@ -1,17 +1,15 @@
 //! The report of a run: of each thread a line and its output, and a line of the counts of all.
-ghost use Rattle.std.specs.Prelude.{◌≡◌, ◌≢◌, ◌≤◌, ◌+◌, ◌++◌, ◌⊎◌, codes, length, OnOk, OnErr};
+ghost use Rattle.std.specs.Prelude.{◌≡◌, ◌≤◌, ◌+◌, ◌++◌, codes, length};
 ghost use Rattle.std.specs.Fmt.{decimal};
 ghost use Rattle.number_text.specs.Hexadecimal.{word_text};
-ghost use Rattle.llsc_host.specs.Host.{Adds, AddsFront, KeepsReads, Rose};
+ghost use Rattle.llsc_host.specs.Writes.{Writes};
 ghost use Rattle.std.specs.List.{flat_map, sum_by};
 ghost use Rattle.llsc_report.specs.Report.{HasSums, head_line, last_line, report_of, stop_text, thread_text};
-ghost use Rattle.llsc_report.specs.Status.{status_of_all};
 
-use crate::statuses::status_of_all;
 use a32_step::Stop;
 use guest_thread::{Counts, GuestEnd};
 use llsc_base::Line;
-use llsc_host::{Failed, Host, Said};
+use llsc_host::{Failed, Host, write};
 use number_text::{write_decimal, write_text, write_word};
 
 /// Adds a name and a number of 32 bits at the end of a line.
@@ -108,58 +106,35 @@ fn last_line(ends: &[GuestEnd]) -> Line
 }
 
 /// Two writes, one after the other.
-#[tactic(auto, using(llsc_host::proofs::Fronts::adds_both, llsc_host::proofs::Fronts::front_less, llsc_host::proofs::Fronts::front_more))]
 fn write_both<H: Host>(host: &mut H, first: &[u8], second: &[u8]) -> Result<(), Failed>
-    ensures whole { OnOk result (Adds (H.written host.old) (H.written host.new) (first.now ++ second.now)) }
-    ensures front { OnErr result (AddsFront (H.written host.old) (H.written host.new) (first.now ++ second.now)) }
-    ensures cause { OnErr result (Rose (H.write_faults host.old) (H.write_faults host.new)) }
-    ensures other { OnOk result (H.write_faults host.new ≡ H.write_faults host.old) }
-    ensures reads { KeepsReads (H.file host.old) (H.file host.new) (H.read_faults host.old) (H.read_faults host.new) (H.lost host.old) (H.lost host.new) }
+    ensures { Writes H.Host host.old host.new (first.now ++ second.now) result }
 {
-    host.write(first)?;
-    host.write(second)?;
-    Ok(())
+    write(host, first)?;
+    write(host, second)
 }
 
 /// Writes an output if there is any, and the end of its line.
-#[tactic(auto, using(llsc_host::proofs::Fronts::adds_both, llsc_host::proofs::Fronts::front_less, llsc_host::proofs::Fronts::front_more))]
 fn write_output<H: Host>(host: &mut H, output: &[u8]) -> Result<(), Failed>
-    ensures whole { OnOk result (Adds (H.written host.old) (H.written host.new) (output.now ++ codes "\n")) }
-    ensures front { OnErr result (AddsFront (H.written host.old) (H.written host.new) (output.now ++ codes "\n")) }
-    ensures cause { OnErr result (Rose (H.write_faults host.old) (H.write_faults host.new)) }
-    ensures other { OnOk result (H.write_faults host.new ≡ H.write_faults host.old) }
-    ensures reads { KeepsReads (H.file host.old) (H.file host.new) (H.read_faults host.old) (H.read_faults host.new) (H.lost host.old) (H.lost host.new) }
+    ensures { Writes H.Host host.old host.new (output.now ++ codes "\n") result }
 {
     if output.is_empty() {
-        host.write(b"\n")?;
-        return Ok(());
+        return write(host, b"\n");
     }
-    write_both(host, output, b"\n")?;
-    Ok(())
+    write_both(host, output, b"\n")
 }
 
 /// Writes what is said of a thread: its line, its output if there is any, and the end of the output's line.
-#[tactic(auto, using(llsc_host::proofs::Fronts::adds_both, llsc_host::proofs::Fronts::front_less, llsc_host::proofs::Fronts::front_more))]
 fn write_thread<H: Host>(host: &mut H, budget: u64, end: &GuestEnd) -> Result<(), Failed>
-    ensures whole { OnOk result (Adds (H.written host.old) (H.written host.new) (thread_text budget end.now)) }
-    ensures front { OnErr result (AddsFront (H.written host.old) (H.written host.new) (thread_text budget end.now)) }
-    ensures cause { OnErr result (Rose (H.write_faults host.old) (H.write_faults host.new)) }
-    ensures other { OnOk result (H.write_faults host.new ≡ H.write_faults host.old) }
-    ensures reads { KeepsReads (H.file host.old) (H.file host.new) (H.read_faults host.old) (H.read_faults host.new) (H.lost host.old) (H.lost host.new) }
+    ensures { Writes H.Host host.old host.new (thread_text budget end.now) result }
 {
     let head = head_line(budget, end);
-    host.write(head.bytes())?;
-    write_output(host, end.out.bytes())?;
-    Ok(())
+    write(host, head.bytes())?;
+    write_output(host, end.out.bytes())
 }
 
 /// Writes what is said of each thread.
 fn write_threads<H: Host>(host: &mut H, budget: u64, ends: &[GuestEnd]) -> Result<(), Failed>
-    ensures whole { OnOk result (Adds (H.written host.old) (H.written host.new) (flat_map (thread_text budget) ends.now)) }
-    ensures front { OnErr result (AddsFront (H.written host.old) (H.written host.new) (flat_map (thread_text budget) ends.now)) }
-    ensures cause { OnErr result (Rose (H.write_faults host.old) (H.write_faults host.new)) }
-    ensures other { OnOk result (H.write_faults host.new ≡ H.write_faults host.old) }
-    ensures reads { KeepsReads (H.file host.old) (H.file host.new) (H.read_faults host.old) (H.read_faults host.new) (H.lost host.old) (H.lost host.new) }
+    ensures { Writes H.Host host.old host.new (flat_map (thread_text budget) ends.now) result }
 {
     for end in ends {
         write_thread(host, budget, end)?;
@@ -173,35 +148,11 @@ fn write_threads<H: Host>(host: &mut H, budget: u64, ends: &[GuestEnd]) -> Resul
 /// # Errors
 ///
 /// `Failed` where a write failed: a front of the report is written.
-#[tactic(auto, using(llsc_host::proofs::Fronts::adds_both, llsc_host::proofs::Fronts::front_less, llsc_host::proofs::Fronts::front_more))]
 pub fn write_report<H: Host>(host: &mut H, budget: u64, ends: &[GuestEnd]) -> Result<(), Failed>
     requires { HasSums ends.now }
-    ensures whole { OnOk result (Adds (H.written host.old) (H.written host.new) (report_of budget ends.now)) }
-    ensures front { OnErr result (AddsFront (H.written host.old) (H.written host.new) (report_of budget ends.now)) }
-    ensures cause { OnErr result (Rose (H.write_faults host.old) (H.write_faults host.new)) }
-    ensures other { OnOk result (H.write_faults host.new ≡ H.write_faults host.old) }
-    ensures reads { KeepsReads (H.file host.old) (H.file host.new) (H.read_faults host.old) (H.read_faults host.new) (H.lost host.old) (H.lost host.new) }
+    ensures { Writes H.Host host.old host.new (report_of budget ends.now) result }
 {
     write_threads(host, budget, ends)?;
     let last = last_line(ends);
-    host.write(last.bytes())?;
-    Ok(())
-}
-
-/// Writes the report of the threads' ends, and ends with 0 where each left by an exit call with code 0, else with 1, or with 5 where
-/// a write failed.
-pub fn say_report<H: Host>(host: &mut H, budget: u64, ends: &[GuestEnd]) -> Said
-    requires { HasSums ends.now }
-    ensures ended { (result.status ≡ status_of_all ends.now) ⊎ ((result.status ≡ 5) ⊎ (result.status ≡ 6)) }
-    ensures said { result.status ≡ status_of_all ends.now → Adds (H.written host.old) (H.written host.new) (report_of budget ends.now) }
-    ensures cut { result.status ≡ 5 → Rose (H.write_faults host.old) (H.write_faults host.new) × AddsFront (H.written host.old) (H.written host.new) (report_of budget ends.now) }
-    ensures memory { result.status ≢ 6 }
-    ensures write_answered { result.status ≢ 5 → H.write_faults host.new ≡ H.write_faults host.old }
-    ensures reads { KeepsReads (H.file host.old) (H.file host.new) (H.read_faults host.old) (H.read_faults host.new) (H.lost host.old) (H.lost host.new) }
-{
-    let status = status_of_all(ends);
-    match write_report(host, budget, ends) {
-        Ok(()) => Said { status },
-        Err(_) => Said { status: 5 },
-    }
+    write(host, last.bytes())
 }

@@ -1,15 +1,15 @@
 //! The summary of a load: what the counters of its guest hold, and their sum.
-ghost use Rattle.std.specs.Prelude.{◌≡◌, ◌<◌, ◌≤◌, ◌^◌, OnOk, OnErr, length, slice_index};
+ghost use Rattle.std.specs.Prelude.{◌≡◌, ◌<◌, ◌≤◌, ◌^◌, length, slice_index};
 ghost use Rattle.llsc_base.specs.Memory.{cell_of};
 ghost use Rattle.row_bytes.specs.Cell.{value_in_cell};
-ghost use Rattle.llsc_host.specs.Host.{Adds, AddsFront, KeepsReads, Rose};
+ghost use Rattle.llsc_host.specs.Writes.{Writes};
 ghost use Rattle.guest_gen.specs.Counters.{counter_place};
 ghost use Rattle.llsc_report.specs.Summary.{counter_line, counter_lines, counter_of, load_line, summary_by, total_line, total_of};
 
 use crate::report::write_count;
 use guest_gen::{COUNTER_COUNT, FIRST_COUNTER};
 use llsc_base::{Line, Place, Size};
-use llsc_host::{Failed, Host};
+use llsc_host::{Failed, Host, write};
 use llsc_words::LoadNumbers;
 use number_text::{write_decimal, write_text};
 use row_bytes::take;
@@ -86,15 +86,11 @@ fn total_line(total: u64) -> Line
 /// Writes the line of each counter.
 fn write_counters<H: Host>(host: &mut H, rows: &Rows) -> Result<(), Failed>
     requires { 2000 ≤ length rows.now }
-    ensures whole { OnOk result (Adds (H.written host.old) (H.written host.new) (counter_lines (counter_of rows.now) 16)) }
-    ensures front { OnErr result (AddsFront (H.written host.old) (H.written host.new) (counter_lines (counter_of rows.now) 16)) }
-    ensures cause { OnErr result (Rose (H.write_faults host.old) (H.write_faults host.new)) }
-    ensures other { OnOk result (H.write_faults host.new ≡ H.write_faults host.old) }
-    ensures reads { KeepsReads (H.file host.old) (H.file host.new) (H.read_faults host.old) (H.read_faults host.new) (H.lost host.old) (H.lost host.new) }
+    ensures { Writes H.Host host.old host.new (counter_lines (counter_of rows.now) 16) result }
 {
     for index in 0..COUNTER_COUNT {
         let line = counter_line(index, counter(rows, index));
-        host.write(line.bytes())?;
+        write(host, line.bytes())?;
     }
     Ok(())
 }
@@ -105,23 +101,17 @@ fn write_counters<H: Host>(host: &mut H, rows: &Rows) -> Result<(), Failed>
 /// # Errors
 ///
 /// `Failed` where a write failed: a front of the summary is written.
-#[tactic(auto, using(llsc_host::proofs::Fronts::adds_both, llsc_host::proofs::Fronts::front_less, llsc_host::proofs::Fronts::front_more))]
 pub fn write_summary<H: Host>(
     host: &mut H,
     numbers: &LoadNumbers,
     rows: &Rows,
 ) -> Result<(), Failed>
     requires { 2000 ≤ length rows.now }
-    ensures whole { OnOk result (Adds (H.written host.old) (H.written host.new) (summary_by numbers.now.seed numbers.now.threads numbers.now.rounds (counter_of rows.now))) }
-    ensures front { OnErr result (AddsFront (H.written host.old) (H.written host.new) (summary_by numbers.now.seed numbers.now.threads numbers.now.rounds (counter_of rows.now))) }
-    ensures cause { OnErr result (Rose (H.write_faults host.old) (H.write_faults host.new)) }
-    ensures other { OnOk result (H.write_faults host.new ≡ H.write_faults host.old) }
-    ensures reads { KeepsReads (H.file host.old) (H.file host.new) (H.read_faults host.old) (H.read_faults host.new) (H.lost host.old) (H.lost host.new) }
+    ensures { Writes H.Host host.old host.new (summary_by numbers.now.seed numbers.now.threads numbers.now.rounds (counter_of rows.now)) result }
 {
     let first = load_line(numbers);
-    host.write(first.bytes())?;
+    write(host, first.bytes())?;
     write_counters(host, rows)?;
     let last = total_line(total(rows));
-    host.write(last.bytes())?;
-    Ok(())
+    write(host, last.bytes())
 }

@@ -1,4 +1,3 @@
 pub mod AsmAnswers
 pub mod CodeBytes
-pub mod DisAnswers
 pub mod Paging

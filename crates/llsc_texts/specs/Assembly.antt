@@ -1,6 +1,7 @@
 -- What `asm` answers for the bytes of a file.
-use Rattle.std.specs.Prelude.{ℕ, ◌||◌, nat_lt, if◌then◌else◌, Bool, List, ◌++◌, length, Option, Some, None, Result, Ok, Err, codes}
+use Rattle.std.specs.Prelude.{ℕ, ◌||◌, nat_lt, if◌then◌else◌, Bool, List, ◌++◌, length, Option, Some, None, Result, Ok, Err, Vec, string_bytes, ◌≡◌, codes}
 use Rattle.std.specs.Fmt.{decimal}
+use Rattle.std.specs.Global.{Global}
 use Rattle.std.specs.Option.{option_or}
 use Rattle.std.specs.Str.{is_utf8}
 use Rattle.elf32.specs.Units.{code_bytes}
@@ -11,6 +12,8 @@ use Rattle.a32_asm.specs.declared.assembler.AsmFault.{AsmFault}
 use Rattle.a32_asm.specs.Assembled.{most_text, unit_of}
 use Rattle.llsc_words.specs.declared.formats.Format.{Format}
 use Rattle.llsc_words.specs.declared.formats.Format.TheVariants.{Elf, Flat}
+use Rattle.llsc_files.specs.declared.refusals.Refusal.{Refusal}
+use Rattle.llsc_files.specs.declared.refusals.Refusal.TheVariants.{Said, Memory}
 use Rattle.llsc_files.specs.Refusals.{Answer, Is, refused, unless, too_long}
 
 -- a text is UTF-8
@@ -52,3 +55,9 @@ asm_answer format file = unless (text_refusal file) (text_answer format (unit_of
 
 abbrev pub AnswersAsm : Format → List ℕ → ℕ → List ℕ → Type 0
 AnswersAsm format file status text = Is (asm_answer format file) status text
+
+-- what is given for an answer: the file with which it ends well, its refusal, or want of memory
+abbrev pub IsGiven : Answer → Result (Vec ℕ Global) Refusal → Type 0
+IsGiven answer (Ok file) = answer ≡ record { status = 0; text = file.items }
+IsGiven answer (Err (Said text)) = answer ≡ record { status = 4; text = string_bytes text }
+IsGiven answer (Err Memory) = Prim.Unit {0}

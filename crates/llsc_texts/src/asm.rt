@@ -1,16 +1,13 @@
 //! `asm`: a program from its text, as a file.
-ghost use Rattle.std.specs.Prelude.{◌≡◌, ◌≢◌, None, IfOk, string_bytes};
+ghost use Rattle.std.specs.Prelude.{◌≡◌, None, Some, IfOk, string_bytes};
 ghost use Rattle.a32_asm.specs.Assembled.{most_text};
 ghost use Rattle.elf32.specs.Units.{code_bytes, IsWithin};
-ghost use Rattle.llsc_host.specs.Host.{KeepsReads, Rose};
-ghost use Rattle.llsc_files.specs.Refusals.{refused, too_long};
-ghost use Rattle.llsc_texts.specs.Assembly.{asm_answer, asm_fault_text, has_data, unit_answer, unit_file, AnswersAsm};
-ghost use Rattle.llsc_files.specs.Reads.{CallEnds, Gives};
+ghost use Rattle.llsc_files.specs.Refusals.{too_long, IsRefusal};
+ghost use Rattle.llsc_texts.specs.Assembly.{asm_answer, asm_fault_text, has_data, unit_answer, unit_file, IsGiven};
 
-use a32_asm::{AsmFault, AsmKind, MOST_TEXT, assemble};
+use a32_asm::{AsmFault, AsmKind, assemble};
 use elf32::Unit;
-use llsc_files::read;
-use llsc_host::{Host, Said, out_of_memory, refuse, say};
+use llsc_files::{Refusal, refuse};
 use llsc_words::Format;
 use std::alloc::{AllocError, Global};
 use std::str;
@@ -44,20 +41,17 @@ fn has_data(unit: &Unit) -> bool
     unit.bytes.as_slice().len() > 0 || unit.space > 0
 }
 
-/// Writes the file of a program, unless it is to be a flat image and has data.
-fn write_unit<H: Host>(alloc: Global, host: &mut H, format: Format, unit: &Unit) -> Said
+/// The file of a program, unless it is to be a flat image and has data.
+fn file_for(alloc: Global, format: Format, unit: &Unit) -> Result<Vec<u8>, Refusal>
     requires { IsWithin unit.now }
-    ensures gives { Gives (unit_answer format unit.now) (H.written host.old) (H.written host.new) result.status }
-    ensures write { result.status ≡ 5 → Rose (H.write_faults host.old) (H.write_faults host.new) }
-    ensures write_answered { result.status ≢ 5 → H.write_faults host.new ≡ H.write_faults host.old }
-    ensures reads { KeepsReads (H.file host.old) (H.file host.new) (H.read_faults host.old) (H.read_faults host.new) (H.lost host.old) (H.lost host.new) }
+    ensures { IsGiven (unit_answer format unit.now) result }
 {
     if format == Format::Flat && has_data(unit) {
-        return refuse(alloc, host, "FlatData");
+        return Err(refuse(alloc, "FlatData"));
     }
     match file_of(alloc, format, unit) {
-        Ok(bytes) => say(host, bytes.as_slice(), 0),
-        Err(_) => out_of_memory(),
+        Ok(bytes) => Ok(bytes),
+        Err(_) => Err(Refusal::Memory),
     }
 }
 
@@ -68,51 +62,34 @@ fn name_of(alloc: Global, fault: AsmFault) -> Result<String, AllocError>
     format!(in alloc; "line {} {}", fault.line, fault.kind.name())
 }
 
-/// Says which line of a text has a fault, and which.
-fn refuse_text<H: Host>(alloc: Global, host: &mut H, fault: AsmFault) -> Said
-    ensures gives { Gives (refused (asm_fault_text fault)) (H.written host.old) (H.written host.new) result.status }
-    ensures memory_alone { fault.kind ≡ AsmKind.Memory → result.status ≡ 6 }
-    ensures write { result.status ≡ 5 → Rose (H.write_faults host.old) (H.write_faults host.new) }
-    ensures write_answered { result.status ≢ 5 → H.write_faults host.new ≡ H.write_faults host.old }
-    ensures reads { KeepsReads (H.file host.old) (H.file host.new) (H.read_faults host.old) (H.read_faults host.new) (H.lost host.old) (H.lost host.new) }
+/// The refusal by the line of a text that has a fault, and which.
+fn refuse_text(alloc: Global, fault: AsmFault) -> Refusal
+    ensures named { IsRefusal (Some (asm_fault_text fault)) result }
+    ensures memory { fault.kind ≡ AsmKind.Memory → result ≡ Refusal.Memory }
 {
     if fault.kind == AsmKind::Memory {
-        return out_of_memory();
+        return Refusal::Memory;
     }
     match name_of(alloc, fault) {
-        Ok(name) => refuse(alloc, host, name.as_str()),
-        Err(_) => out_of_memory(),
+        Ok(name) => refuse(alloc, name.as_str()),
+        Err(_) => Refusal::Memory,
     }
 }
 
-/// Answers for the bytes of a text's file.
-fn respond<H: Host>(alloc: Global, host: &mut H, file: &[u8], format: Format) -> Said
+/// The file of a format that a text is assembled to, by the bytes of the text's file.
+///
+/// # Errors
+///
+/// The refusal by what stands against the text, first.
+pub fn assembled(alloc: Global, format: Format, file: &[u8]) -> Result<Vec<u8>, Refusal>
     requires { too_long most_text file.now ≡ None }
-    ensures gives { Gives (asm_answer format file.now) (H.written host.old) (H.written host.new) result.status }
-    ensures write { result.status ≡ 5 → Rose (H.write_faults host.old) (H.write_faults host.new) }
-    ensures write_answered { result.status ≢ 5 → H.write_faults host.new ≡ H.write_faults host.old }
-    ensures reads { KeepsReads (H.file host.old) (H.file host.new) (H.read_faults host.old) (H.read_faults host.new) (H.lost host.old) (H.lost host.new) }
+    ensures { IsGiven (asm_answer format file.now) result }
 {
     let Ok(text) = str::from_utf8(file) else {
-        return refuse(alloc, host, "NotText");
+        return Err(refuse(alloc, "NotText"));
     };
     match assemble(alloc, text) {
-        Ok(unit) => write_unit(alloc, host, format, &unit),
-        Err(fault) => refuse_text(alloc, host, fault),
-    }
-}
-
-/// Assembles the text of a name as a file of a format.
-pub fn answer<H: Host>(alloc: Global, host: &mut H, file: &str, format: Format) -> Said
-    ensures ends { CallEnds (AnswersAsm format) (H.file host.old file.now)
-        (Rose (H.read_faults host.old) (H.read_faults host.new) × (H.lost host.new ≡ file.now))
-        (H.written host.old) (H.written host.new) result.status }
-    ensures write { result.status ≡ 5 → Rose (H.write_faults host.old) (H.write_faults host.new) }
-    ensures write_answered { result.status ≢ 5 → H.write_faults host.new ≡ H.write_faults host.old }
-    ensures read_answered { result.status ≢ 3 → result.status ≢ 5 → H.read_faults host.new ≡ H.read_faults host.old }
-{
-    match read(alloc, host, file, MOST_TEXT) {
-        Ok(bytes) => respond(alloc, host, bytes.as_slice(), format),
-        Err(ended) => ended,
+        Ok(unit) => file_for(alloc, format, &unit),
+        Err(fault) => Err(refuse_text(alloc, fault)),
     }
 }

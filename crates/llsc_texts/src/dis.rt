@@ -1,19 +1,16 @@
 //! `dis`: an image, word by word.
-ghost use Rattle.std.specs.Prelude.{◌≡◌, ◌≢◌, ◌+◌, ◌%◌, ◌<◌, ◌≤◌, ◌++◌, [], length, codes, None, OnOk, OnErr};
+ghost use Rattle.std.specs.Prelude.{◌≡◌, ◌+◌, ◌%◌, ◌<◌, ◌≤◌, ◌++◌, [], length, codes, IfOk, OnOk};
 ghost use Rattle.number_text.specs.Hexadecimal.{word_text};
-ghost use Rattle.llsc_host.specs.Host.{Adds, AddsFront, KeepsReads, Rose};
-ghost use Rattle.llsc_files.specs.Refusals.{size_refusal, solo_size};
-ghost use Rattle.llsc_texts.specs.Disassembly.{disassembly, head_text, line_at, word_line, Holds, AnswersDis};
-ghost use Rattle.llsc_files.specs.Reads.{CallEnds, Gives};
+ghost use Rattle.llsc_host.specs.Writes.{Writes};
+ghost use Rattle.llsc_texts.specs.Disassembly.{disassembly, head_text, line_at, word_line, Pages};
 
 use crate::pages::Page;
 use a32_asm::disassemble;
 use llsc_base::{Image, Line};
-use llsc_files::{LEAST_GRANULE, load, numbers_of};
-use llsc_host::{Failed, Host, Said, out_of_memory};
-use llsc_words::Format;
+use llsc_host::{Failed, Host, write};
 use number_text::write_word;
-use std::alloc::Global;
+use std::alloc::{AllocError, Global};
+use std::marker::Model;
 
 /// Adds a word as digits, and a space.
 fn push_word(line: &mut Line, word: u32)
@@ -38,17 +35,13 @@ fn head_of(addr: u32, word: u32) -> Line
 /// Writes the page, if it has no room for so many bytes more.
 fn make_room<H: Host>(host: &mut H, page: &mut Page, count: usize) -> Result<(), Failed>
     requires { count ≤ 65536 }
-    ensures whole { OnOk result (Holds (H.written host.old) (H.written host.new) page.new page.old) }
+    ensures pages { Pages H.Host host.old host.new page.old page.new page.old result }
     ensures room { OnOk result (length page.new + count ≤ 65536) }
-    ensures front { OnErr result (AddsFront (H.written host.old) (H.written host.new) page.old) }
-    ensures cause { OnErr result (Rose (H.write_faults host.old) (H.write_faults host.new)) }
-    ensures other { OnOk result (H.write_faults host.new ≡ H.write_faults host.old) }
-    ensures reads { KeepsReads (H.file host.old) (H.file host.new) (H.read_faults host.old) (H.read_faults host.new) (H.lost host.old) (H.lost host.new) }
 {
     if page.has_room(count) {
         return Ok(());
     }
-    host.write(page.bytes())?;
+    write(host, page.bytes())?;
     page.clear();
     Ok(())
 }
@@ -57,11 +50,7 @@ fn make_room<H: Host>(host: &mut H, page: &mut Page, count: usize) -> Result<(),
 fn add_line<H: Host>(host: &mut H, page: &mut Page, head: &[u8], text: &[u8]) -> Result<(), Failed>
     requires head { length head.now ≤ 96 }
     requires text { length text.now ≤ 96 }
-    ensures whole { OnOk result (Holds (H.written host.old) (H.written host.new) page.new (page.old ++ (head.now ++ (text.now ++ codes "\n")))) }
-    ensures front { OnErr result (AddsFront (H.written host.old) (H.written host.new) page.old) }
-    ensures cause { OnErr result (Rose (H.write_faults host.old) (H.write_faults host.new)) }
-    ensures other { OnOk result (H.write_faults host.new ≡ H.write_faults host.old) }
-    ensures reads { KeepsReads (H.file host.old) (H.file host.new) (H.read_faults host.old) (H.read_faults host.new) (H.lost host.old) (H.lost host.new) }
+    ensures { Pages H.Host host.old host.new page.old page.new (page.old ++ (head.now ++ (text.now ++ codes "\n"))) result }
 {
     make_room(host, page, head.len() + text.len() + 1)?;
     page.push(head);
@@ -73,11 +62,7 @@ fn add_line<H: Host>(host: &mut H, page: &mut Page, head: &[u8], text: &[u8]) ->
 /// Adds the line of a word at an address to the page.
 fn add_word<H: Host>(host: &mut H, page: &mut Page, addr: u32, word: u32) -> Result<(), Failed>
     requires { addr % 4 ≡ 0 }
-    ensures whole { OnOk result (Holds (H.written host.old) (H.written host.new) page.new (page.old ++ word_line addr word)) }
-    ensures front { OnErr result (AddsFront (H.written host.old) (H.written host.new) page.old) }
-    ensures cause { OnErr result (Rose (H.write_faults host.old) (H.write_faults host.new)) }
-    ensures other { OnOk result (H.write_faults host.new ≡ H.write_faults host.old) }
-    ensures reads { KeepsReads (H.file host.old) (H.file host.new) (H.read_faults host.old) (H.read_faults host.new) (H.lost host.old) (H.lost host.new) }
+    ensures { Pages H.Host host.old host.new page.old page.new (page.old ++ word_line addr word) result }
 {
     let head = head_of(addr, word);
     let mut text = Line::new();
@@ -94,11 +79,7 @@ fn add_at<H: Host>(
     near: &mut usize,
 ) -> Result<(), Failed>
     requires { addr % 4 ≡ 0 }
-    ensures whole { OnOk result (Holds (H.written host.old) (H.written host.new) page.new (page.old ++ line_at image.now addr)) }
-    ensures front { OnErr result (AddsFront (H.written host.old) (H.written host.new) page.old) }
-    ensures cause { OnErr result (Rose (H.write_faults host.old) (H.write_faults host.new)) }
-    ensures other { OnOk result (H.write_faults host.new ≡ H.write_faults host.old) }
-    ensures reads { KeepsReads (H.file host.old) (H.file host.new) (H.read_faults host.old) (H.read_faults host.new) (H.lost host.old) (H.lost host.new) }
+    ensures { Pages H.Host host.old host.new page.old page.new (page.old ++ line_at image.now addr) result }
 {
     match image.fetch_near(addr, near) {
         Some(word) => add_word(host, page, addr, word),
@@ -115,50 +96,62 @@ fn write_lines<H: Host>(
 ) -> Result<(), Failed>
     requires empty { page.old ≡ [] }
     requires whole { length image.now.bytes ≡ mem }
-    ensures whole { OnOk result (Adds (H.written host.old) (H.written host.new) (disassembly image.now)) }
-    ensures front { OnErr result (AddsFront (H.written host.old) (H.written host.new) (disassembly image.now)) }
-    ensures cause { OnErr result (Rose (H.write_faults host.old) (H.write_faults host.new)) }
-    ensures other { OnOk result (H.write_faults host.new ≡ H.write_faults host.old) }
-    ensures reads { KeepsReads (H.file host.old) (H.file host.new) (H.read_faults host.old) (H.read_faults host.new) (H.lost host.old) (H.lost host.new) }
+    ensures { Writes H.Host host.old host.new (disassembly image.now) result }
 {
     let count = mem / 4;
     let mut near = 0;
     for i in 0..count {
         add_at(host, page, image, 4 * i, &mut near)?;
     }
-    host.write(page.bytes())
+    write(host, page.bytes())
 }
 
-/// Shows an image, which has `mem` bytes.
-fn show<H: Host>(alloc: Global, host: &mut H, image: &Image, mem: u32) -> Said
-    requires { length image.now.bytes ≡ mem }
-    ensures gives { Gives (record { status = 0; text = disassembly image.now }) (H.written host.old) (H.written host.new) result.status }
-    ensures write { result.status ≡ 5 → Rose (H.write_faults host.old) (H.write_faults host.new) }
-    ensures write_answered { result.status ≢ 5 → H.write_faults host.new ≡ H.write_faults host.old }
-    ensures reads { KeepsReads (H.file host.old) (H.file host.new) (H.read_faults host.old) (H.read_faults host.new) (H.lost host.old) (H.lost host.new) }
-{
-    let Ok(page) = Page::new(alloc) else {
-        return out_of_memory();
-    };
-    let mut page = page;
-    match write_lines(host, &mut page, image, mem) {
-        Ok(()) => Said { status: 0 },
-        Err(_) => Said { status: 5 },
+/// An image that is to be shown, with the page on which its lines are made.
+#[derive(Drop)]
+pub struct Listing {
+    image: Image,
+    mem: u32,
+    page: Page,
+}
+
+impl Model for Listing {
+    ghost use Rattle.std.specs.Prelude.{◌≡◌, [], length};
+    ghost use Rattle.llsc_base.specs.Images.{Program};
+
+    ghost Value = { Program };
+
+    ghost view = { λ l. l.image };
+
+    ghost invariant = { λ l. (length l.image.bytes ≡ l.mem) × (l.page ≡ []) };
+}
+
+impl Listing {
+    /// The listing of an image that has `mem` bytes.
+    ///
+    /// # Errors
+    ///
+    /// `AllocError` is want of memory.
+    pub fn new(alloc: Global, image: Image, mem: u32) -> Result<Listing, AllocError>
+        requires { length image.bytes ≡ mem }
+        ensures { IfOk result (λ listing. listing ≡ image) }
+    {
+        let page = Page::new(alloc)?;
+        Ok(Listing { image, mem, page })
     }
 }
 
-/// Disassembles the file of a name in so much memory.
-pub fn answer<H: Host>(alloc: Global, host: &mut H, file: &str, format: Format, mem: u64) -> Said
-    ensures ends { CallEnds (AnswersDis format mem) (H.file host.old file.now)
-        (Rose (H.read_faults host.old) (H.read_faults host.new) × (H.lost host.new ≡ file.now) × (size_refusal (solo_size mem) ≡ None))
-        (H.written host.old) (H.written host.new) result.status }
-    ensures write { result.status ≡ 5 → Rose (H.write_faults host.old) (H.write_faults host.new) }
-    ensures write_answered { result.status ≢ 5 → H.write_faults host.new ≡ H.write_faults host.old }
-    ensures read_answered { result.status ≢ 3 → result.status ≢ 5 → H.read_faults host.new ≡ H.read_faults host.old }
+/// Writes a listing, a page at a time. No memory is taken.
+///
+/// # Errors
+///
+/// `Failed` where a write failed: a front of the listing is written.
+pub fn write_listing<H: Host>(host: &mut H, listing: Listing) -> Result<(), Failed>
+    ensures { Writes H.Host host.old host.new (disassembly listing) result }
 {
-    let numbers = numbers_of(1, mem, LEAST_GRANULE);
-    match load(alloc, host, numbers, file, format) {
-        Ok(loaded) => show(alloc, host, &loaded.image, loaded.size.mem()),
-        Err(ended) => ended,
-    }
+    let Listing {
+        image,
+        mem,
+        mut page,
+    } = listing;
+    write_lines(host, &mut page, &image, mem)
 }

@@ -1,6 +1,9 @@
-//! Programs as text: what `asm` answers for a text, and `dis` for a program's file.
+//! Programs as text: the file that `asm` makes of a text, and what `dis` shows of a program's image.
 #![tactic(auto)]
 
-pub mod asm;
-pub mod dis;
+mod asm;
+mod dis;
 mod pages;
+
+pub use asm::assembled;
+pub use dis::{Listing, write_listing};

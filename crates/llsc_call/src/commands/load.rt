@@ -1,32 +1,29 @@
 //! `load`: the counter guest of a seed, whose threads run beside each other.
-ghost use Rattle.std.specs.Prelude.{◌≡◌, ◌≢◌, ◌⊎◌, ◌<◌, ◌≤◌, ℕ, IfErr, IfOk, List, None, OnOk, Some, codes, length};
+ghost use Rattle.std.specs.Prelude.{◌≡◌, ◌<◌, ◌≤◌, IfErr, IfOk, List, None, Some, codes, length};
 ghost use Rattle.llsc_base.specs.Limits.{most_budget};
 ghost use Rattle.llsc_base.specs.Sizes.{room_of};
 ghost use Rattle.elf32.specs.Units.{IsWithin, end_of, unit_image};
 ghost use Rattle.guest_gen.specs.Counters.{counter_unit};
-ghost use Rattle.version_memory.specs.Memory.{story_history};
+ghost use Rattle.history.specs.declared.entry.Entry.{Entry};
+ghost use Rattle.llsc_files.specs.Refusals.{IsRefusal};
 ghost use Rattle.llsc_call.specs.Beside.{Ran};
-ghost use Rattle.llsc_host.specs.Host.{Adds, AddsFront, KeepsReads, KeepsWrites, Rose};
-ghost use Rattle.llsc_call.specs.Load.{AnswersLoad, TellsLoad, guest_refusal, load_program, load_refusal, load_size, load_text};
-ghost use Rattle.llsc_files.specs.Reads.{Answered};
-ghost use Rattle.llsc_host.specs.Said.{refusal_text};
-ghost use Rattle.llsc_files.specs.Refusals.{Refusal};
-ghost use Rattle.llsc_call.specs.Run.{told};
-ghost use Rattle.llsc_report.specs.Status.{status_of_all};
+ghost use Rattle.llsc_call.specs.Load.{AnswersLoad, IsPrepared, TellsLoad, guest_refusal, load_program, load_refusal, load_size};
+ghost use Rattle.llsc_call.specs.Outcome.{GivesBy, IsOneOf};
 
-use crate::beside::{Finished, run_beside};
-use crate::ended::Ended;
+use crate::answer::Answer;
+use crate::beside::run_beside;
+use crate::outcome::Outcome;
 use elf32::{Unit, write};
 use guest_gen::{GenFault, counters};
+use guest_thread::GuestEnd;
 use llsc_base::{Image, MachineSize};
-use llsc_files::{LEAST_GRANULE, Loaded, machine, numbers_of};
-use llsc_host::{Host, Said, out_of_memory, refuse};
-use llsc_report::{say_report, status_of_all, write_summary};
+use llsc_files::{LEAST_GRANULE, Loaded, Refusal, machine, numbers_of, refuse};
+use llsc_report::status_of_all;
 use llsc_words::{DEFAULT_MEM, LoadNumbers};
+use shared_memory::Rows;
 use std::alloc::{AllocError, Global};
 use std::sync::Wait;
 use std::thread::Threads;
-use version_memory::VersionStory;
 
 /// The image of a program that has a word and ends within a machine's room.
 ///
@@ -43,36 +40,31 @@ fn image_of(alloc: Global, unit: &Unit, size: &MachineSize) -> Result<Image, All
     elf32::load(alloc, file.as_slice(), size).map_err(|_| AllocError)
 }
 
-/// Says that there is no guest of a load's numbers.
-fn refuse_guest<H: Host>(alloc: Global, host: &mut H, fault: GenFault) -> Said
-    ensures ended { (result.status ≡ 4) ⊎ ((result.status ≡ 5) ⊎ (result.status ≡ 6)) }
-    ensures memory_alone { fault ≡ GenFault.Memory → result.status ≡ 6 }
-    ensures said { result.status ≡ 4 → Adds (H.written host.old) (H.written host.new) (refusal_text (codes "Range")) }
-    ensures cut { result.status ≡ 5 → Rose (H.write_faults host.old) (H.write_faults host.new) × AddsFront (H.written host.old) (H.written host.new) (refusal_text (codes "Range")) }
-    ensures memory { result.status ≡ 6 → H.written host.new ≡ H.written host.old }
-    ensures write_answered { result.status ≢ 5 → H.write_faults host.new ≡ H.write_faults host.old }
-    ensures reads { KeepsReads (H.file host.old) (H.file host.new) (H.read_faults host.old) (H.read_faults host.new) (H.lost host.old) (H.lost host.new) }
+/// The refusal of a guest that there isn't.
+fn refuse_guest(alloc: Global, fault: GenFault) -> Refusal
+    ensures named { IsRefusal (Some (codes "Range")) result }
+    ensures memory { fault ≡ GenFault.Memory → result ≡ Refusal.Memory }
 {
     match fault {
-        GenFault::Range => refuse(alloc, host, "Range"),
-        GenFault::Memory => out_of_memory(),
+        GenFault::Range => refuse(alloc, "Range"),
+        GenFault::Memory => Refusal::Memory,
     }
 }
 
 /// The guest of a load.
-fn unit<H: Host>(alloc: Global, host: &mut H, numbers: &LoadNumbers) -> Result<Unit, Said>
+///
+/// # Errors
+///
+/// The refusal of numbers that no guest has.
+fn unit(alloc: Global, numbers: &LoadNumbers) -> Result<Unit, Refusal>
     ensures unit { IfOk result (λ unit. unit ≡ counter_unit numbers.now.seed numbers.now.rounds) }
     ensures within { IfOk result IsWithin }
     ensures sound { IfOk result (λ unit. guest_refusal numbers.now.threads numbers.now.rounds ≡ None) }
-    ensures writes { OnOk result (KeepsWrites (H.written host.old) (H.written host.new) (H.write_faults host.old) (H.write_faults host.new)) }
-    ensures refused { IfErr result (λ ended. Answered (Refusal (guest_refusal numbers.now.threads numbers.now.rounds)) (H.written host.old) (H.written host.new) ended.status) }
-    ensures write { IfErr result (λ ended. ended.status ≡ 5 → Rose (H.write_faults host.old) (H.write_faults host.new)) }
-    ensures write_answered { IfErr result (λ ended. ended.status ≢ 5 → H.write_faults host.new ≡ H.write_faults host.old) }
-    ensures reads { KeepsReads (H.file host.old) (H.file host.new) (H.read_faults host.old) (H.read_faults host.new) (H.lost host.old) (H.lost host.new) }
+    ensures refused { IfErr result (IsRefusal (guest_refusal numbers.now.threads numbers.now.rounds)) }
 {
     match counters(alloc, numbers.seed, numbers.threads, numbers.rounds) {
         Ok(unit) => Ok(unit),
-        Err(fault) => Err(refuse_guest(alloc, host, fault)),
+        Err(fault) => Err(refuse_guest(alloc, fault)),
     }
 }
 
@@ -80,74 +72,50 @@ fn unit<H: Host>(alloc: Global, host: &mut H, numbers: &LoadNumbers) -> Result<U
 ///
 /// # Errors
 ///
-/// How the call ended, which then has no more to answer.
-fn prepare<H: Host>(alloc: Global, host: &mut H, numbers: &LoadNumbers) -> Result<Loaded, Said>
-    ensures size { IfOk result (λ loaded. loaded.size ≡ load_size numbers.now.threads) }
-    ensures image { IfOk result (λ loaded. loaded.image ≡ load_program numbers.now.seed numbers.now.threads numbers.now.rounds) }
-    ensures whole { IfOk result (λ loaded. length loaded.image.bytes ≡ loaded.size.mem) }
-    ensures sound { IfOk result (λ loaded. load_refusal numbers.now.threads numbers.now.rounds ≡ None) }
-    ensures writes { OnOk result (KeepsWrites (H.written host.old) (H.written host.new) (H.write_faults host.old) (H.write_faults host.new)) }
-    ensures refused { IfErr result (λ ended. Answered (Refusal (load_refusal numbers.now.threads numbers.now.rounds)) (H.written host.old) (H.written host.new) ended.status) }
-    ensures write { IfErr result (λ ended. ended.status ≡ 5 → Rose (H.write_faults host.old) (H.write_faults host.new)) }
-    ensures write_answered { IfErr result (λ ended. ended.status ≢ 5 → H.write_faults host.new ≡ H.write_faults host.old) }
-    ensures reads { KeepsReads (H.file host.old) (H.file host.new) (H.read_faults host.old) (H.read_faults host.new) (H.lost host.old) (H.lost host.new) }
+/// The refusal by what stands against the load, first.
+fn prepare(alloc: Global, numbers: &LoadNumbers) -> Result<Loaded, Refusal>
+    ensures loaded { IfOk result (IsPrepared numbers.now.seed numbers.now.threads numbers.now.rounds) }
+    ensures refused { IfErr result (IsRefusal (load_refusal numbers.now.threads numbers.now.rounds)) }
 {
     let machine_numbers = numbers_of(numbers.threads, DEFAULT_MEM, LEAST_GRANULE);
-    let size = machine(alloc, host, machine_numbers)?;
-    let unit = unit(alloc, host, numbers)?;
+    let size = machine(alloc, machine_numbers)?;
+    let unit = unit(alloc, numbers)?;
     let Ok(image) = image_of(alloc, &unit, &size) else {
-        return Err(out_of_memory());
+        return Err(Refusal::Memory);
     };
     Ok(Loaded { size, image })
 }
 
-/// Writes the summary where each thread left by an exit call with code 0, and else the report of the threads' ends.
-fn tell<H: Host>(host: &mut H, numbers: &LoadNumbers, done: &Finished<VersionStory>) -> Said
-    requires sound { guest_refusal numbers.now.threads numbers.now.rounds ≡ None }
-    requires ran { Ran (load_program numbers.now.seed numbers.now.threads numbers.now.rounds) (load_size numbers.now.threads) numbers.now.budget
-        (story_history done.now.story) done.now.ends.items done.now.rows }
-    ensures answered { Answered (TellsLoad (Some (story_history done.now.story)) numbers.now.seed numbers.now.threads numbers.now.rounds numbers.now.budget)
-        (H.written host.old) (H.written host.new) result.status }
-    ensures memory { result.status ≢ 6 }
-    ensures write { result.status ≡ 5 → Rose (H.write_faults host.old) (H.write_faults host.new) }
-    ensures write_answered { result.status ≢ 5 → H.write_faults host.new ≡ H.write_faults host.old }
-    ensures reads { KeepsReads (H.file host.old) (H.file host.new) (H.read_faults host.old) (H.read_faults host.new) (H.lost host.old) (H.lost host.new) }
+/// What threads that ran come to: what they counted where each left by an exit call with code 0, and else their ends.
+fn outcome_of(numbers: LoadNumbers, ends: Vec<GuestEnd>, rows: Rows) -> Outcome
+    requires { guest_refusal numbers.threads numbers.rounds ≡ None }
+    ensures { (history : List Entry) → Ran (load_program numbers.seed numbers.threads numbers.rounds) (load_size numbers.threads) numbers.budget history ends.items rows
+        → IsOneOf (TellsLoad (Some history) numbers.seed numbers.threads numbers.rounds numbers.budget) result }
 {
-    let ends = done.ends.as_slice();
-    let all_left = status_of_all(ends) == 0;
+    let all_left = status_of_all(ends.as_slice()) == 0;
     if !all_left {
-        return say_report(host, numbers.budget, ends);
+        return Outcome::Beside {
+            budget: numbers.budget,
+            ends,
+        };
     }
-    match write_summary(host, numbers, &done.rows) {
-        Ok(()) => Said { status: 0 },
-        Err(_) => Said { status: 5 },
-    }
+    Outcome::Counted { numbers, rows }
 }
 
 /// Runs the counter guest of these numbers.
-pub fn answer<H: Host, R: Threads + Wait + Sync>(
-    rt: &R,
-    alloc: Global,
-    host: &mut H,
-    numbers: LoadNumbers,
-) -> Ended
+pub fn answer<R: Threads + Wait + Sync>(rt: &R, alloc: Global, numbers: LoadNumbers) -> Answer
     requires { numbers.budget ≤ most_budget }
-    ensures answered { Answered (AnswersLoad numbers.seed numbers.threads numbers.rounds numbers.budget (told result.story)) (H.written host.old) (H.written host.new) result.status }
-    ensures memory { result.status ≡ 6 → result.story ≡ None }
-    ensures write { result.status ≡ 5 → Rose (H.write_faults host.old) (H.write_faults host.new) }
-    ensures write_answered { result.status ≢ 5 → H.write_faults host.new ≡ H.write_faults host.old }
-    ensures reads { KeepsReads (H.file host.old) (H.file host.new) (H.read_faults host.old) (H.read_faults host.new) (H.lost host.old) (H.lost host.new) }
+    ensures { GivesBy (AnswersLoad numbers.seed numbers.threads numbers.rounds numbers.budget) result.outcome result.story }
 {
-    let loaded = match prepare(alloc, host, &numbers) {
+    let loaded = match prepare(alloc, &numbers) {
         Ok(loaded) => loaded,
-        Err(said) => return Ended::from(said),
+        Err(refusal) => return Answer::from(Outcome::from(refusal)),
     };
     let Ok(done) = run_beside(rt, alloc, &loaded.size, &loaded.image, numbers.budget) else {
-        return Ended::from(out_of_memory());
+        return Answer::from(Outcome::NoMemory);
     };
-    let said = tell(host, &numbers, &done);
-    Ended {
-        status: said.status,
+    Answer {
+        outcome: outcome_of(numbers, done.ends, done.rows),
         story: Some(done.story),
     }
 }

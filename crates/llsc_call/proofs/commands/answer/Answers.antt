@@ -1,34 +1,62 @@
-use Rattle.std.proofs.Common.{[], refl, ap, sym, ◌∙◌}
-use Rattle.llsc_words.specs.Request.{asked, machine_by, Run}
-use Rattle.llsc_call.specs.Run.{told}
-use Rattle.llsc_files.proofs.Answering.{answered_for}
-use Rattle.llsc_call.proofs.Asked.{ends_one, ends_untold}
+use Rattle.std.proofs.Common.{[], ◌∷◌, refl}
+use Rattle.llsc_words.specs.Request.{Solo, Assemble, Disassemble, Trace, Check}
+use Rattle.llsc_texts.specs.Assembly.{AnswersAsm}
+use Rattle.llsc_texts.specs.Disassembly.{AnswersDis}
+use Rattle.llsc_call.specs.Answer.{Answers, AnswersSolo}
+use Rattle.llsc_call.specs.Check.{AnswersCheck}
+use Rattle.llsc_call.specs.Trace.{AnswersTrace}
+use Rattle.llsc_call.proofs.Outcomes.{gives_alone}
 use Rattle.llsc_call.proofs.commands.answer.Goals as goal
-
-pub returns-in-Run-clause-ends : goal.returns-in-Run-clause-ends
-returns-in-Run-clause-ends g c =
-    let call = c.in-Run in
-    rw call.is
-    (ends_one (g.H.Host.file c.args.host.now) (Run call.file.now call.format (machine_by call.numbers.machine) call.numbers.budget) call.file.now (told c.answer.result.story)
-    (g.H.Host.written c.args.host.now) (g.H.Host.written c.answer.new.host)
-    c.answer.result.status refl (λ file s text a. a) (λ failed. ((failed.0.0, (failed.0.1, failed.0.2)), ap told failed.1)) c.answer.ensures.ends)
-
-pub returns-in-Load-clause-ends : goal.returns-in-Load-clause-ends
-returns-in-Load-clause-ends g c =
-    let call = c.in-Load in
-    let answered = c.answer-in-Load in
-    rw call.is
-    (answered_for (g.H.Host.written c.args.host.now) (g.H.Host.written answered.new.host) answered.result.status [] tt (λ s text a. a) answered.ensures.answered)
 
 pub returns-in-Solo : goal.returns-in-Solo
 returns-in-Solo g c =
-    let said = c.answer_alone.ensures in
-    let same = c.from.ensures.status in
-    record {
-      ends = ends_untold (g.H.Host.file c.args.host.now) (asked c.args.request) c.from.result.story (g.H.Host.written c.args.host.now) (g.H.Host.written c.answer_alone.new.host)
-          c.from.result.status c.answer_alone.result.status same c.from.ensures.story said.ends;
-      memory = λ six. c.from.ensures.story;
-      write = λ five. said.write (sym same ∙ five);
-      write_answered = λ other. said.write_answered (λ five. other (same ∙ five));
-      read_answered = λ read cut. said.read_answered (λ three. read (same ∙ three)) (λ five. cut (same ∙ five));
-    }
+    let h = c.in-Solo in
+    let first = c.args.files.first.items in
+    let made = (c.outcome).result in
+    let whole = c.from in
+    rw h.is
+    (gives_alone (AnswersSolo h.format h.mem h.budget first) (Answers (Solo h.file.now h.format h.mem h.budget) (first ∷ [])) made whole.result.outcome whole.result.story whole.ensures.outcome whole.ensures.story
+    (λ s text a. (refl, a)) (c.outcome).ensures)
+
+pub returns-in-Assemble : goal.returns-in-Assemble
+returns-in-Assemble g c =
+    let h = c.in-Assemble in
+    let first = c.args.files.first.items in
+    let made = (c.outcome-in-Assemble).result in
+    let whole = c.from-in-Assemble in
+    rw h.is
+    (gives_alone (AnswersAsm h.format first) (Answers (Assemble h.file.now h.format) (first ∷ [])) made whole.result.outcome whole.result.story whole.ensures.outcome whole.ensures.story
+    (λ s text a. (refl, a)) (c.outcome-in-Assemble).ensures)
+
+pub returns-in-Disassemble : goal.returns-in-Disassemble
+returns-in-Disassemble g c =
+    let h = c.in-Disassemble in
+    let first = c.args.files.first.items in
+    let made = (c.outcome-in-Disassemble).result in
+    let whole = c.from-in-Disassemble in
+    rw h.is
+    (gives_alone (AnswersDis h.format h.mem first) (Answers (Disassemble h.file.now h.format h.mem) (first ∷ [])) made whole.result.outcome whole.result.story whole.ensures.outcome whole.ensures.story
+    (λ s text a. (refl, a)) (c.outcome-in-Disassemble).ensures)
+
+pub returns-in-Trace : goal.returns-in-Trace
+returns-in-Trace g c =
+    let h = c.in-Trace in
+    let first = c.args.files.first.items in
+    let made = (c.outcome-in-Trace).result in
+    let whole = c.from-in-Trace in
+    rw h.is
+    (gives_alone (AnswersTrace h.format h.numbers.threads h.numbers.mem h.numbers.granule h.numbers.seed h.numbers.budget first) (Answers (Trace h.file.now h.format h.numbers.threads h.numbers.mem h.numbers.granule h.numbers.seed h.numbers.budget) (first ∷ [])) made whole.result.outcome whole.result.story whole.ensures.outcome whole.ensures.story
+    (λ s text a. (refl, a)) (c.outcome-in-Trace).ensures)
+
+pub returns-in-Check : goal.returns-in-Check
+returns-in-Check g c =
+    let h = c.in-Check in
+    let first = c.args.files.first.items in
+    let made = (c.outcome-in-Check).result in
+    let whole = c.from-in-Check in
+    rw h.is
+    (gives_alone (AnswersCheck h.format h.mem first c.args.files.second.items) (Answers (Check h.file.now h.recorded.now h.format h.mem) (first ∷ c.args.files.second.items ∷ [])) made whole.result.outcome whole.result.story whole.ensures.outcome whole.ensures.story
+    (λ s text a. (refl, a)) (c.outcome-in-Check).ensures)
+
+pub returns-in-Run : goal.returns-in-Run
+returns-in-Run g c = rw c.in-Run.is c.answer.ensures

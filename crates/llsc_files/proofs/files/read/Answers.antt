@@ -1,19 +1,14 @@
-use Rattle.std.proofs.Common.{◌<◌, ℕ, List, length, ap, subst, ◌∙◌, Err}
-use Rattle.llsc_host.specs.Host.{AreBytes}
-use Rattle.llsc_files.proofs.Answering.{ends_unread}
+use Rattle.std.proofs.Common.{subst}
+use Rattle.llsc_files.specs.Reads.{Reads}
+use Rattle.llsc_files.proofs.Answering.{had_by}
 use Rattle.llsc_files.proofs.files.read.Goals as goal
 
-pub returns-in-Err-clause-ends : goal.returns-in-Err-clause-ends
-returns-in-Err-clause-ends g c =
-    let said = c.refuse_read.ensures in
-    ends_unread c.args.most c.in-Err.fault (g.H.Host.file c.args.host.now c.args.name.now) (g.H.Host.written c.args.host.now) (g.H.Host.written c.refuse_read.new.host)
-    c.refuse_read.result.status
-    (λ failed. let cause = c.in-Err.ensures.cause (ap Err failed) in
-    (rw said.reads.read_faults cause.0, said.reads.lost ∙ cause.1 ∙ c.in-Ok.ensures.ok))
-    (λ long. subst (λ (n : List ℕ). (file : List ℕ) × AreBytes (g.H.Host.file c.args.host.now n) file × (c.args.most < length file)) c.in-Ok.ensures.ok
-    (c.in-Err.ensures.too_long (ap Err long)))
-    said.ended said.failed said.too_long
-    (λ three. rw (← c.in-Err.ensures.written) (said.said_failed three))
-    (λ four. rw (← c.in-Err.ensures.written) (said.said_too_long four))
-    (λ five. rw (← c.in-Err.ensures.written) (said.cut five).1)
-    (λ six. said.memory six ∙ c.in-Err.ensures.written)
+pub returns : goal.returns
+returns g c =
+    let read = c.read_file.ensures in
+    subst (λ name. Reads g.H.Host c.args.host.now c.read_file.new.self name c.args.most c.read_file.result) c.in-Ok.ensures.ok
+    (record {
+      had = had_by g.H.Host c.args.host.now c.read_file.new.self _ c.args.most c.read_file.result read.whole read.fits read.too_long read.cause read.other read.files;
+      files = read.files;
+      writes = record { written = read.written; write_faults = read.write_faults };
+    })

@@ -1,7 +1,10 @@
-use Rattle.llsc_host.proofs.Fronts.{front_more, owed}
+use Rattle.llsc_host.proofs.Kept.{stopped_first, writes_both}
 use Rattle.llsc_report.proofs.report.write_both.Goals as goal
 
-pub returns-in_err-write-2-clause-front : goal.returns-in_err-write-2-clause-front
-returns-in_err-write-2-clause-front g c = owed c.from_residual-in_err-write-2.result
-    (front_more (g.H.Host.written c.args.host.now) (g.H.Host.written c.write.new.self) (g.H.Host.written c.write-2.new.self) c.args.first.now c.args.second.now
-    c.in_ok-write.ensures.whole c.in_err-write-2.ensures.front)
+pub returns-in_err-write : goal.returns-in_err-write
+returns-in_err-write g c =
+    stopped_first g.H.Host c.args.host.now c.write.new.host c.args.first.now c.args.second.now c.from_residual.result _ c.from_residual.ensures.1 c.in_err-write.ensures
+
+pub returns : goal.returns
+returns g c =
+    writes_both g.H.Host c.args.host.now c.write.new.host (c.write-2).new.host c.args.first.now c.args.second.now (c.write-2).result c.in_ok-write.ensures (c.write-2).ensures

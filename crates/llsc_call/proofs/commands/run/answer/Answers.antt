@@ -1,24 +1,18 @@
-use Rattle.std.proofs.Common.{◌≡◌, None, ap}
 use Rattle.llsc_words.specs.Request.{machine_by}
-use Rattle.llsc_call.specs.Run.{told}
-use Rattle.llsc_files.proofs.Answering.{answered_for, ends_as}
-use Rattle.llsc_call.proofs.RunAnswers.{run_ran, run_refused}
+use Rattle.llsc_files.specs.Programs.{image_of, program_refusal}
+use Rattle.llsc_call.specs.Run.{ReportsRun}
+use Rattle.llsc_call.proofs.Outcomes.{run_loaded, run_refused}
 use Rattle.llsc_call.proofs.commands.run.answer.Goals as goal
 
-pub returns-in-Ok-clause-ends : goal.returns-in-Ok-clause-ends
-returns-in-Ok-clause-ends g c =
-    let loaded = c.in-Ok.ensures in
-    let numbers = c.args.numbers in
-    let answered = rw loaded.writes.written at c.run.ensures.answered in
-    answered_for (g.H.Host.written c.args.host.now) (g.H.Host.written c.run.new.host) c.run.result.status loaded.image.0 loaded.image.1.0
-    (run_ran c.args.format (machine_by numbers.machine) numbers.budget (told c.run.result.story) loaded.image.0 c.in-Ok.loaded.size c.in-Ok.loaded.image
-    loaded.image.1.1.0 loaded.size loaded.image.1.1.1)
-    answered
+pub returns-in-Ok : goal.returns-in-Ok
+returns-in-Ok g c =
+    let n = c.args.numbers in
+    run_loaded (λ story program size. ReportsRun story program size n.budget) c.args.format (machine_by n.machine) c.args.file.items c.in-Ok.loaded c.run.result.outcome c.run.result.story
+    c.in-Ok.ensures.loaded c.run.ensures
 
-pub returns-in-Err-clause-ends : goal.returns-in-Err-clause-ends
-returns-in-Err-clause-ends g c =
-    let numbers = c.args.numbers in
-    let none : told c.from.result.story ≡ None = ap told c.from.ensures.story in
-    rw c.from.ensures.status
-    (ends_as (g.H.Host.file c.args.host.now c.args.file.now) (g.H.Host.written c.args.host.now) (g.H.Host.written c.load.new.host) c.in-Err.said.status
-    (run_refused c.args.format (machine_by numbers.machine) numbers.budget (told c.from.result.story) none) (λ failed. (failed, c.from.ensures.story)) c.in-Err.ensures.ends)
+pub returns-in-Err : goal.returns-in-Err
+returns-in-Err g c =
+    let n = c.args.numbers in
+    let size = machine_by n.machine in
+    run_refused (program_refusal c.args.format size c.args.file.items) (λ story. ReportsRun story (image_of c.args.format c.args.file.items size) size n.budget)
+    c.from.result (c.from-in-Err).result.outcome (c.from-in-Err).result.story c.in-Err.refusal (c.from-in-Err).ensures.outcome (c.from-in-Err).ensures.story c.from.ensures c.in-Err.ensures.refused
