@@ -194,7 +194,7 @@ came replies program budget start _ _ _ _ (accesses pairs machine steps output a
 came replies program budget start _ _ _ _ (steps_on pairs machine steps output state before less done) decided =
     goes_on replies program budget start (spot_at pairs machine steps output) _ (completes state)
     (came replies program budget start pairs machine steps output before decided) less done refl
-came replies program budget start _ _ _ _ (returns pairs machine steps output call answer before less called known) decided =
+came replies program budget start _ _ _ _ (returns pairs machine steps output call answer before less called known plain) decided =
     let here : Spot = spot_at pairs machine steps output in
     goes_on replies program budget start here _ (calls call)
     (came replies program budget start pairs machine steps output before decided)

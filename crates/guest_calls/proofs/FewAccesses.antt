@@ -92,7 +92,7 @@ module _ (program : Program) (budget : ℕ) (from : Point) (between_two : from.m
       let before = made pairs machine steps output reached in
       a_step_on pairs machine (after_next program machine) steps output before
       (next_follows program machine wanted.Done (after_next program machine) (goes_ready machine.phase machine.replies before.goes) (ap wanted_of (sym done)) refl)
-  made _ _ _ _ (returns pairs machine steps output call answer reached less called known) =
+  made _ _ _ _ (returns pairs machine steps output call answer reached less called known plain) =
       a_step_on pairs machine _ steps output (made pairs machine steps output reached) refl
   made _ _ _ _ (prints pairs machine steps output call addr bytes reached less called known) =
       let before = made pairs machine steps output reached in

@@ -7,3 +7,5 @@ pub mod Written
 pub mod Onward
 pub mod Branching
 pub mod OwnAccesses
+pub mod Pieces
+pub mod Staying

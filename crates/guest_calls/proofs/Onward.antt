@@ -49,7 +49,7 @@ from_start program budget start stop rest _ _ _ _ (accesses pairs machine steps 
     (accesses_first machine rest ask reply asked on))
 from_start program budget start stop rest _ _ _ _ (steps_on pairs machine steps output state before less done) on =
     from_start program budget start stop rest pairs machine steps output before (completes_first machine rest state done on)
-from_start program budget start stop rest _ _ _ _ (returns pairs machine steps output call answer before less called known) on =
+from_start program budget start stop rest _ _ _ _ (returns pairs machine steps output call answer before less called known plain) on =
     from_start program budget start stop rest pairs machine steps output before
     (returns_first machine rest call (length output) answer called known on)
 from_start program budget start stop rest _ _ _ _ (prints pairs machine steps output call addr bytes before less called known) on =

@@ -6,7 +6,7 @@ use Rattle.history.specs.Entry.{is_access, thread_of}
 use Rattle.history.specs.Parts.{accesses_of, entries_of}
 use Rattle.history.specs.declared.entry.Cause.{Cause}
 use Rattle.history.specs.declared.entry.Entry.{Entry}
-use Rattle.history.specs.declared.entry.Entry.TheVariants.{Read, Write, Fail, Clear, Watch, Miss, Begin, End}
+use Rattle.history.specs.declared.entry.Entry.TheVariants.{Read, Write, Fail, Clear, Watch, Miss, Begin, End, Start}
 use Rattle.a32_instr.specs.declared.outside.Ask.TheVariants as ask
 use Rattle.guest_calls.specs.Pairs.{pair_of}
 use Rattle.guest_calls.specs.Run.{Pair}
@@ -60,6 +60,7 @@ read_by t (Watch u p) place value own access same = absurd (let f : ⊥ = cc in 
 read_by t (Miss u p) place value own access same = absurd (let f : ⊥ = cc in f)
 read_by t (Begin u p) place value own access same = absurd (let f : ⊥ = cc in f)
 read_by t (End u p) place value own access same = absurd (let f : ⊥ = cc in f)
+read_by t (Start u c e a) place value own access same = absurd (let f : ⊥ = cc in f)
 
 -- a store-exclusive that was replied 0 in its 32 bits
 pub write_by : (t : ℕ) (e : Entry) (place : Place) (value reply : ℕ) → thread_of e ≡ t → is_access e ≡ true
@@ -78,6 +79,7 @@ write_by t (Watch u p) place value reply own access same zero_reply = absurd (le
 write_by t (Miss u p) place value reply own access same zero_reply = absurd (let f : ⊥ = cc in f)
 write_by t (Begin u p) place value reply own access same zero_reply = absurd (let f : ⊥ = cc in f)
 write_by t (End u p) place value reply own access same zero_reply = absurd (let f : ⊥ = cc in f)
+write_by t (Start u c e a) place value reply own access same zero_reply = absurd (let f : ⊥ = cc in f)
 
 -- a store-exclusive that was replied another number
 pub fail_by : (t : ℕ) (e : Entry) (place : Place) (value reply : ℕ) → thread_of e ≡ t → is_access e ≡ true
@@ -96,3 +98,4 @@ fail_by t (Watch u p) place value reply own access same other = absurd (let f : 
 fail_by t (Miss u p) place value reply own access same other = absurd (let f : ⊥ = cc in f)
 fail_by t (Begin u p) place value reply own access same other = absurd (let f : ⊥ = cc in f)
 fail_by t (End u p) place value reply own access same other = absurd (let f : ⊥ = cc in f)
+fail_by t (Start u c e a) place value reply own access same other = absurd (let f : ⊥ = cc in f)

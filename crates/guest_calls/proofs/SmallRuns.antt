@@ -86,7 +86,7 @@ pub stuck : (program : Program) (start machine : Machine) (pairs : List Pair) (s
 stuck program start _ _ _ _ begins = refl
 stuck program start _ _ _ _ (accesses pairs machine steps output ask reply before less asked) = absurd (omega (arith, less))
 stuck program start _ _ _ _ (steps_on pairs machine steps output state before less done) = absurd (omega (arith, less))
-stuck program start _ _ _ _ (returns pairs machine steps output call answer before less called known) = absurd (omega (arith, less))
+stuck program start _ _ _ _ (returns pairs machine steps output call answer before less called known plain) = absurd (omega (arith, less))
 stuck program start _ _ _ _ (prints pairs machine steps output call addr bytes before less called known) = absurd (omega (arith, less))
 
 -- ---- what is asked

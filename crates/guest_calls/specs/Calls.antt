@@ -1,6 +1,6 @@
 -- The table of guest calls. A guest calls by SVC with the immediate 0: the number of the call is in r7, its arguments
 -- are in r0, r1 and r2, and the answer goes to r0. Call numbers and errors are those of Linux's EABI.
-use Rattle.std.specs.Prelude.{ℕ, ◌+◌, ◌%◌, ◌==◌, ◌||◌, not, nat_lt, if◌then◌else◌}
+use Rattle.std.specs.Prelude.{ℕ, ◌+◌, ◌%◌, ◌==◌, ◌&&◌, ◌||◌, Bool, not, nat_lt, if◌then◌else◌}
 use Rattle.a32_instr.specs.declared.outside.CallAsk.{CallAsk}
 
 -- what a guest call does: it ends the thread with a code, puts an answer into r0, or writes so many bytes of memory
@@ -37,6 +37,10 @@ write_effect descriptor buffer count mem written =
     if nat_lt mem (buffer + count) then answers bad_address else
     if nat_lt most_output (written + count) then answers no_room else
     writes_bytes buffer count
+
+-- the call that starts a thread, where a thread has a stock of numbers for those that it starts: its number is this project's own
+abbrev pub is_start_call : CallAsk → Bool
+is_start_call call = (call.number == 0xF0001) && (call.imm == 0)
 
 -- the call by its number: exit is 1, write is 4 and sched_yield is 158; there is no other, and none by another immediate
 abbrev pub call_effect : CallAsk → (mem written : ℕ) → CallEffect

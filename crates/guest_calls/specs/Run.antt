@@ -1,5 +1,5 @@
 -- A run of one guest thread, over whatever replies to its accesses.
-use Rattle.std.specs.Prelude.{◌≡◌, ℕ, ◌+◌, ◌<◌, List, [], ◌∷◌, ◌++◌, length}
+use Rattle.std.specs.Prelude.{◌≡◌, ℕ, ◌+◌, ◌<◌, ◌&&◌, Bool, false, List, [], ◌∷◌, ◌++◌, length}
 use Rattle.llsc_base.specs.Images.{Program}
 use Rattle.llsc_base.specs.declared.access.Place.{Place}
 use Rattle.llsc_base.specs.declared.access.Size.TheVariants.{B1}
@@ -10,7 +10,7 @@ use Rattle.a32_instr.specs.declared.outside.Stop.{Stop}
 use Rattle.a32_instr.specs.declared.outside.Stop.TheVariants.{Exit, Budget, TagLimit}
 use Rattle.a32_instr.specs.State.{State, asks, calls, completes, stops, answered}
 use Rattle.a32_step.specs.Machine.{Machine, next_effect, after_next, given, between}
-use Rattle.guest_calls.specs.Calls.{CallEffect, exits, answers, writes_bytes, call_effect}
+use Rattle.guest_calls.specs.Calls.{CallEffect, exits, answers, writes_bytes, call_effect, is_start_call}
 
 -- an access and the reply to it
 abbrev pub Pair : Type 0
@@ -46,78 +46,95 @@ first_point start = record { machine = start; steps = 0; output = [] }
 -- From a point a thread comes to a machine and a number of steps, with these accesses and replies in order, and with
 -- this output. No instruction begins once the steps are the budget. An instruction that is complete is one step, and so
 -- is a guest call that was answered: a write loads its bytes first, each reply is a byte of the output, and its answer
--- is their number.
-pub data ReachesFrom (program : Program) (budget : ℕ) (from : Point) : List Pair → Machine → ℕ → List ℕ → Type 0 where
-  begins : ReachesFrom program budget from [] from.machine from.steps from.output
+-- is their number. Where the thread has a stock, a call that starts a thread isn't answered here.
+pub data ReachesBy (stocked : Bool) (program : Program) (budget : ℕ) (from : Point) : List Pair → Machine → ℕ → List ℕ → Type 0 where
+  begins : ReachesBy stocked program budget from [] from.machine from.steps from.output
   accesses : (pairs : List Pair) (machine : Machine) (steps : ℕ) (output : List ℕ) (ask : Ask) (reply : ℕ)
-      → ReachesFrom program budget from pairs machine steps output
+      → ReachesBy stocked program budget from pairs machine steps output
       → steps < budget
       → next_effect program machine ≡ asks ask
-      → ReachesFrom program budget from (pairs ++ (ask, reply) ∷ []) (given (after_next program machine) reply) steps output
+      → ReachesBy stocked program budget from (pairs ++ (ask, reply) ∷ []) (given (after_next program machine) reply) steps output
   steps_on : (pairs : List Pair) (machine : Machine) (steps : ℕ) (output : List ℕ) (state : State)
-      → ReachesFrom program budget from pairs machine steps output
+      → ReachesBy stocked program budget from pairs machine steps output
       → steps < budget
       → next_effect program machine ≡ completes state
-      → ReachesFrom program budget from pairs (after_next program machine) (steps + 1) output
+      → ReachesBy stocked program budget from pairs (after_next program machine) (steps + 1) output
   returns : (pairs : List Pair) (machine : Machine) (steps : ℕ) (output : List ℕ) (call : CallAsk) (answer : ℕ)
-      → ReachesFrom program budget from pairs machine steps output
+      → ReachesBy stocked program budget from pairs machine steps output
       → steps < budget
       → next_effect program machine ≡ calls call
       → effect_of_call program call (length output) ≡ answers answer
-      → ReachesFrom program budget from pairs (returned (after_next program machine) answer) (steps + 1) output
+      → (stocked && is_start_call call) ≡ false
+      → ReachesBy stocked program budget from pairs (returned (after_next program machine) answer) (steps + 1) output
   prints : (pairs : List Pair) (machine : Machine) (steps : ℕ) (output : List ℕ) (call : CallAsk) (addr : ℕ) (bytes : List ℕ)
-      → ReachesFrom program budget from pairs machine steps output
+      → ReachesBy stocked program budget from pairs machine steps output
       → steps < budget
       → next_effect program machine ≡ calls call
       → effect_of_call program call (length output) ≡ writes_bytes addr (length bytes)
-      → ReachesFrom program budget from (pairs ++ byte_loads addr bytes) (returned (after_next program machine) (length bytes)) (steps + 1) (output ++ bytes)
+      → ReachesBy stocked program budget from (pairs ++ byte_loads addr bytes) (returned (after_next program machine) (length bytes)) (steps + 1) (output ++ bytes)
+
+-- where it has none
+abbrev pub ReachesFrom : Program → ℕ → Point → List Pair → Machine → ℕ → List ℕ → Type 0
+ReachesFrom program budget from = ReachesBy false program budget from
 
 -- a thread comes so far from its start
 abbrev pub Reaches : Program → ℕ → Machine → List Pair → Machine → ℕ → List ℕ → Type 0
 Reaches program budget start = ReachesFrom program budget (first_point start)
 
--- How a thread ends, with the accesses and replies that it had, its steps and its output: at a stop, which is no step;
+-- How a thread ends from a point, with the accesses and replies that it had, its steps and its output: at a stop, which is no step;
 -- by the exit call, which is one; or where its steps are the budget, between two instructions.
-pub data Ends (program : Program) (budget : ℕ) (start : Machine) : List Pair → Stop → ℕ → List ℕ → Type 0 where
+pub data EndsFrom (stocked : Bool) (program : Program) (budget : ℕ) (from : Point) : List Pair → Stop → ℕ → List ℕ → Type 0 where
   halts : (pairs : List Pair) (machine : Machine) (steps : ℕ) (output : List ℕ) (stop : Stop)
-      → Reaches program budget start pairs machine steps output
+      → ReachesBy stocked program budget from pairs machine steps output
       → steps < budget
       → next_effect program machine ≡ stops stop
-      → Ends program budget start pairs stop steps output
+      → EndsFrom stocked program budget from pairs stop steps output
   leaves : (pairs : List Pair) (machine : Machine) (steps : ℕ) (output : List ℕ) (call : CallAsk) (code : ℕ)
-      → Reaches program budget start pairs machine steps output
+      → ReachesBy stocked program budget from pairs machine steps output
       → steps < budget
       → next_effect program machine ≡ calls call
       → effect_of_call program call (length output) ≡ exits code
-      → Ends program budget start pairs (Exit code) (steps + 1) output
+      → EndsFrom stocked program budget from pairs (Exit code) (steps + 1) output
   spends : (pairs : List Pair) (machine : Machine) (output : List ℕ)
-      → Reaches program budget start pairs machine budget output
-      → Ends program budget start pairs Budget budget output
+      → ReachesBy stocked program budget from pairs machine budget output
+      → EndsFrom stocked program budget from pairs Budget budget output
+
+-- from its start, where it has no stock
+abbrev pub Ends : Program → ℕ → Machine → List Pair → Stop → ℕ → List ℕ → Type 0
+Ends program budget start = EndsFrom false program budget (first_point start)
 
 -- How a thread ends on a memory whose classes of rows take a limited number of writes: as above; or at a store that memory
 -- refuses, with its steps and its output before the instruction. Where memory may refuse one is for the history to say.
-pub data EndsOn (program : Program) (budget : ℕ) (start : Machine) : List Pair → Stop → ℕ → List ℕ → Type 0 where
+pub data EndsOnFrom (stocked : Bool) (program : Program) (budget : ℕ) (from : Point) : List Pair → Stop → ℕ → List ℕ → Type 0 where
   by_itself : (pairs : List Pair) (stop : Stop) (steps : ℕ) (output : List ℕ)
-      → Ends program budget start pairs stop steps output
-      → EndsOn program budget start pairs stop steps output
+      → EndsFrom stocked program budget from pairs stop steps output
+      → EndsOnFrom stocked program budget from pairs stop steps output
   by_limit : (pairs : List Pair) (machine : Machine) (steps : ℕ) (output : List ℕ) (place : Place) (value : ℕ)
-      → Reaches program budget start pairs machine steps output
+      → ReachesBy stocked program budget from pairs machine steps output
       → steps < budget
       → next_effect program machine ≡ asks (Store place value)
-      → EndsOn program budget start pairs (TagLimit place.addr) steps output
+      → EndsOnFrom stocked program budget from pairs (TagLimit place.addr) steps output
 
--- What a thread asks next, with these accesses and replies behind it: what the instruction in hand asks, or the load of
+-- from its start, where it has no stock
+abbrev pub EndsOn : Program → ℕ → Machine → List Pair → Stop → ℕ → List ℕ → Type 0
+EndsOn program budget start = EndsOnFrom false program budget (first_point start)
+
+-- What a thread asks next from a point, with these accesses and replies behind it: what the instruction in hand asks, or the load of
 -- the next byte of a write.
-pub data Asks (program : Program) (budget : ℕ) (start : Machine) : List Pair → Ask → Type 0 where
+pub data AsksFrom (stocked : Bool) (program : Program) (budget : ℕ) (from : Point) : List Pair → Ask → Type 0 where
   asks_access : (pairs : List Pair) (machine : Machine) (steps : ℕ) (output : List ℕ) (ask : Ask)
-      → Reaches program budget start pairs machine steps output
+      → ReachesBy stocked program budget from pairs machine steps output
       → steps < budget
       → next_effect program machine ≡ asks ask
-      → Asks program budget start pairs ask
-  asks_byte : (pairs : List Pair) (machine : Machine) (steps : ℕ) (output : List ℕ) (call : CallAsk) (from count : ℕ) (bytes : List ℕ)
-      → Reaches program budget start pairs machine steps output
+      → AsksFrom stocked program budget from pairs ask
+  asks_byte : (pairs : List Pair) (machine : Machine) (steps : ℕ) (output : List ℕ) (call : CallAsk) (addr count : ℕ) (bytes : List ℕ)
+      → ReachesBy stocked program budget from pairs machine steps output
       → steps < budget
       → next_effect program machine ≡ calls call
-      → effect_of_call program call (length output) ≡ writes_bytes from count
+      → effect_of_call program call (length output) ≡ writes_bytes addr count
       → length bytes < count
-      → Asks program budget start (pairs ++ byte_loads from bytes) (byte_load (from + length bytes))
+      → AsksFrom stocked program budget from (pairs ++ byte_loads addr bytes) (byte_load (addr + length bytes))
+
+-- from its start, where it has no stock
+abbrev pub Asks : Program → ℕ → Machine → List Pair → Ask → Type 0
+Asks program budget start = AsksFrom false program budget (first_point start)

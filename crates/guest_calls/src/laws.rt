@@ -1,12 +1,12 @@
 //! The laws of runs, each a function of no effect whose contract is the law.
-ghost use Rattle.std.specs.Prelude.{◌≡◌, ◌≤◌, ℕ, List, length};
+ghost use Rattle.std.specs.Prelude.{◌≡◌, ◌≤◌, ℕ, Bool, List, length};
 ghost use Rattle.llsc_base.specs.Images.{Program};
 ghost use Rattle.a32_instr.specs.declared.outside.Ask.{Ask};
 ghost use Rattle.a32_instr.specs.declared.outside.Stop.{Stop};
 ghost use Rattle.a32_instr.specs.State.{State};
 ghost use Rattle.a32_step.specs.Machine.{Machine, between};
 ghost use Rattle.guest_calls.specs.Bound.{most_accesses_in};
-ghost use Rattle.guest_calls.specs.Run.{Pair, Ends, EndsOn, Asks};
+ghost use Rattle.guest_calls.specs.Run.{Pair, Point, ReachesBy, ReachesFrom, Ends, EndsOn, Asks};
 
 /// A guest thread that starts so, with this budget and these accesses and replies, has one end at most: its stop, its
 /// steps and its output.
@@ -51,4 +51,11 @@ pub fn runs_make_few_accesses()
 pub fn runs_keep_to_their_budget()
     ensures { (program : Program) (budget : ℕ) (start : Machine) (pairs : List Pair) (stop : Stop) (steps : ℕ) (output : List ℕ) →
         EndsOn program budget start pairs stop steps output → steps ≤ budget }
+{}
+
+/// What a thread with a stock does without starting a thread, it does without a stock as well.
+#[tactic(auto, using(crate::proofs::Pieces::reaches_plain))]
+pub fn stocks_change_no_other_call()
+    ensures { (stocked : Bool) (program : Program) (budget : ℕ) (from : Point) (pairs : List Pair) (machine : Machine) (steps : ℕ) (output : List ℕ) →
+        ReachesBy stocked program budget from pairs machine steps output → ReachesFrom program budget from pairs machine steps output }
 {}

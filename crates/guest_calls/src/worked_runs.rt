@@ -1,9 +1,9 @@
 //! Worked runs of threads of one instruction, a call, a load or a store, which has its arguments from the thread's start.
-ghost use Rattle.std.specs.Prelude.{◌≡◌, ◌∷◌, [], ℕ, List};
+ghost use Rattle.std.specs.Prelude.{◌≡◌, ◌∷◌, [], ℕ, List, true};
 ghost use Rattle.a32_instr.specs.declared.outside.Ask.{Ask};
 ghost use Rattle.a32_instr.specs.declared.outside.Stop.{Stop};
 ghost use Rattle.a32_step.specs.Machine.{Machine};
-ghost use Rattle.guest_calls.specs.Run.{Asks, Ends, EndsOn, Reaches, ReachesFrom, returned};
+ghost use Rattle.guest_calls.specs.Run.{Asks, Ends, EndsOn, Pair, Reaches, ReachesBy, ReachesFrom, first_point, returned};
 ghost use Rattle.guest_calls.specs.Worked.{byte_at, calling, loading, storing, storing_exclusively, thread_at, word};
 
 use a32_step::{Ask, Stop};
@@ -28,6 +28,15 @@ pub fn threads_that_go_on()
     ensures not_by_exit { (machine : Machine) → ¬ Reaches calling 1 (thread_at 0 261 0 0 1) [] machine 1 [] }
     ensures not_without_a_reply { (machine : Machine) → ¬ Reaches loading 1 (thread_at 0 0 8 0 0) [] machine 1 [] }
     ensures not_beyond_the_budget { (machine : Machine) → ¬ Reaches calling 0 (thread_at 0 5 0 0 158) [] machine 1 [] }
+{}
+
+/// A thread with a stock stays where it calls for a thread to be started, which is answered elsewhere, and goes on as one without
+/// by any other call. Without a stock that call is one that doesn't exist.
+pub fn threads_with_a_stock()
+    ensures yields { ReachesBy true calling 1 (first_point (thread_at 0 5 0 0 158)) [] (thread_at 4 0 0 0 158) 1 [] }
+    ensures stays { (pairs : List Pair) (machine : Machine) (steps : ℕ) (output : List ℕ) →
+        ReachesBy true calling 1 (first_point (thread_at 0 4 7 0 983041)) pairs machine steps output → steps ≡ 0 }
+    ensures without { Reaches calling 1 (thread_at 0 4 7 0 983041) [] (thread_at 4 4294967258 7 0 983041) 1 [] }
 {}
 
 /// A thread leaves by the exit call with the low byte of its code, which is a step; it stops where no instruction may be run,

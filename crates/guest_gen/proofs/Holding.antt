@@ -9,7 +9,7 @@ use Rattle.history.specs.ArmLegal.{IsArmLegal, MayAccess}
 use Rattle.history.specs.Monitor.{Monitor, accessed, at_rest_by, monitor_after}
 use Rattle.history.specs.Parts.{entries_of}
 use Rattle.history.specs.declared.entry.Entry.{Entry}
-use Rattle.history.specs.declared.entry.Entry.TheVariants.{Read, Write, Fail, Clear, Watch, Miss, Begin, End}
+use Rattle.history.specs.declared.entry.Entry.TheVariants.{Read, Write, Fail, Clear, Watch, Miss, Begin, End, Start}
 use Rattle.history.proofs.Appends.{IsArmLegal-back, IsArmLegal-front, entries_of-append, monitor_after-push}
 use Rattle.history.proofs.Ends.{by_ends}
 use Rattle.history.proofs.Held.{holds_last_read, own_entry, store_finds}
@@ -204,6 +204,7 @@ one_entry granule bytes threads named accesses counted front back (Watch t p) ar
 one_entry granule bytes threads named accesses counted front back (Miss t p) are holds index known = let h = holds index known in omega (arith, h)
 one_entry granule bytes threads named accesses counted front back (Begin t p) are holds index known = let h = holds index known in omega (arith, h)
 one_entry granule bytes threads named accesses counted front back (End t p) are holds index known = let h = holds index known in omega (arith, h)
+one_entry granule bytes threads named accesses counted front back (Start t child entry arg) are holds index known = let h = holds index known in omega (arith, h)
 
 -- each counter holds how often it was written
 pub holds_writes : (granule : ℕ) (bytes : List ℕ) (threads : ℕ) (named : ℕ → List ℕ) (accesses : List Entry) → AreCounted granule bytes threads named accesses

@@ -95,6 +95,7 @@ one_of (entry.Watch thread place) = omega arith
 one_of (entry.Miss thread place) = omega arith
 one_of (entry.Begin thread place) = omega arith
 one_of (entry.End thread place) = omega arith
+one_of (entry.Start thread child at arg) = omega arith
 
 pub one_counted : (old : Alone) (ask : Ask) (reply : ℕ) (new : Alone) → IsServed old ask reply new → accesses_counted new.counts ≤ accesses_counted old.counts + 1
 one_counted old ask reply new served =

@@ -76,7 +76,7 @@ answered program budget start pairs call value old moved new way known is =
     let output : new.output ≡ old.output = ap (λ s. s.output) is ∙ way.output in
     come_by program budget start pairs new (ap (λ s. s.printing) is ∙ way.printing)
     (reached_at program budget start new.cpu (returned (after_next program old.cpu) value) pairs new.steps (old.steps + 1) new.output old.output cpu steps output
-    (returns pairs old.cpu old.steps old.output call value way.reached way.within way.called known))
+    (returns pairs old.cpu old.steps old.output call value way.reached way.within way.called known refl))
 
 -- a write that begins
 begun : (program : Program) (budget : ℕ) (start : Machine) (pairs : List Pair) (call : CallAsk) (mem from count : ℕ) (old moved new : ThreadState) (result : Called)

@@ -7,7 +7,7 @@ use Rattle.llsc_base.specs.Limits.{most_budget}
 use Rattle.llsc_base.specs.Sizes.{Numbers}
 use Rattle.history.specs.Parts.{accesses_of, entries_of}
 use Rattle.history.specs.declared.entry.Entry.{Entry}
-use Rattle.history.specs.declared.entry.Entry.TheVariants.{Read, Write, Fail, Clear, Watch, Miss, Begin, End}
+use Rattle.history.specs.declared.entry.Entry.TheVariants.{Read, Write, Fail, Clear, Watch, Miss, Begin, End, Start}
 use Rattle.a32_step.specs.Machine.{Machine, between}
 use Rattle.guest_calls.specs.Bound.{most_accesses_in}
 use Rattle.guest_calls.specs.Pairs.{pair_of}
@@ -37,6 +37,7 @@ one_counted (Watch thread place) history rest = omega (arith, rest)
 one_counted (Miss thread place) history rest = omega (arith, rest)
 one_counted (Begin thread place) history rest = omega (arith, rest)
 one_counted (End thread place) history rest = omega (arith, rest)
+one_counted (Start thread child entry arg) history rest = omega (arith, rest)
 
 all_counted : (history : List Entry) → reads_of history + writes_of history + fails_of history ≤ length (accesses_of history)
 all_counted [] = omega arith

@@ -17,3 +17,4 @@ pub mod SmallEnds
 pub mod SmallRuns
 pub mod Carried
 pub mod LeftRuns
+pub mod StockRun

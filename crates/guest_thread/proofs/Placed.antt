@@ -45,7 +45,7 @@ module _ (program : Program) (budget : ℕ) (start : Machine) (first : GoesOn st
       let ready = goes_ready machine.phase (reached_goes pairs machine steps output reached) in
       let follows = next_follows program machine wanted.Done (after_next program machine) ready (ap wanted_of (sym is)) refl in
       subst (λ (m : Machine). GoesOn m.phase) (sym follows) tt
-  reached_goes _ _ _ _ (returns pairs machine steps output call answer reached less is known) = tt
+  reached_goes _ _ _ _ (returns pairs machine steps output call answer reached less is known plain) = tt
   reached_goes _ _ _ _ (prints pairs machine steps output call from bytes reached less is known) = tt
 
   -- what it asks lies in memory

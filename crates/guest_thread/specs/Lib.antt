@@ -13,3 +13,4 @@ pub mod Start
 pub mod Turns
 pub mod Under
 pub mod Worked
+pub mod StockRun

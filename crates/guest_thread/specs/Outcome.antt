@@ -6,6 +6,7 @@ use Rattle.llsc_base.specs.Sizes.{Numbers}
 use Rattle.history.specs.Cause.{writes_in_class}
 use Rattle.history.specs.Legal.{IsLegal, IsComplete}
 use Rattle.history.specs.Marked.{byte_place}
+use Rattle.history.specs.Started.{AreBorn}
 use Rattle.history.specs.declared.entry.Entry.{Entry}
 use Rattle.a32_instr.specs.declared.outside.Stop.TheVariants.{Exit, TagLimit}
 use Rattle.a32_step.specs.Machine.{Machine}
@@ -33,10 +34,11 @@ pub record AreEndsOn (program : Program) (size : Numbers) (budget : ℕ) (histor
   pub each : (t : ℕ) (end : GuestEnd) → slice_get all t ≡ Some end
       → IsEndOn program size budget (thread_start program size size.threads t) history end
 
--- these are the ends of all threads in a legal and complete history, from the program's memory on
+-- these are the ends of all threads in a legal and complete history, from the program's memory on, in which no thread starts another
 pub record IsOutcome (program : Program) (size : Numbers) (budget : ℕ) (history : List Entry) (all : List GuestEnd) : Type 0 where
   pub legal : IsLegal size program.bytes history
   pub complete : IsComplete history
+  pub born : AreBorn size.threads 0 history
   pub ends : AreEndsOn program size budget history all
 
 -- each thread left by an exit call with code 0

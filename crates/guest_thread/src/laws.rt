@@ -1,13 +1,16 @@
 //! The laws of ends, each a function of no effect whose contract is the law.
-ghost use Rattle.std.specs.Prelude.{◌≡◌, ◌≢◌, ℕ, List};
+ghost use Rattle.std.specs.Prelude.{◌≡◌, ◌≢◌, ℕ, List, [], None};
 ghost use Rattle.llsc_base.specs.Images.{Program};
 ghost use Rattle.llsc_base.specs.Sizes.{Numbers};
+ghost use Rattle.history.specs.Starts.{Started};
 ghost use Rattle.history.specs.declared.entry.Entry.{Entry};
 ghost use Rattle.a32_instr.specs.declared.outside.Stop.{Stop};
-ghost use Rattle.guest_calls.specs.Run.{Pair, Ends};
+ghost use Rattle.a32_step.specs.Machine.{Machine};
+ghost use Rattle.guest_calls.specs.Run.{Pair, Ends, EndsOn};
 ghost use Rattle.guest_thread.specs.Ends.{AreEnds};
 ghost use Rattle.guest_thread.specs.Outcome.{IsOutcome};
 ghost use Rattle.guest_thread.specs.Start.{thread_start};
+ghost use Rattle.guest_thread.specs.StockRun.{IsStockRun};
 ghost use Rattle.guest_thread.specs.declared.ends.GuestEnd.{GuestEnd};
 
 use a32_step::Stop;
@@ -16,6 +19,14 @@ use a32_step::Stop;
 pub fn runs_reach_no_limit()
     ensures { (program : Program) (size : Numbers) (budget first t : ℕ) (pairs : List Pair) (stop : Stop) (steps : ℕ) (output : List ℕ) (addr : ℕ) →
         Ends program budget (thread_start program size first t) pairs stop steps output → stop ≢ Stop.TagLimit addr }
+{}
+
+/// A run without a stock is a run, in which no thread is started.
+pub fn runs_without_a_stock()
+    ensures plain { (program : Program) (budget : ℕ) (start : Machine) (pairs : List Pair) (starts : List Started) (stop : Stop) (steps : ℕ) (output : List ℕ) →
+        IsStockRun None program budget start pairs starts stop steps output → (starts ≡ []) × EndsOn program budget start pairs stop steps output }
+    ensures all { (program : Program) (budget : ℕ) (start : Machine) (pairs : List Pair) (stop : Stop) (steps : ℕ) (output : List ℕ) →
+        EndsOn program budget start pairs stop steps output → IsStockRun None program budget start pairs [] stop steps output }
 {}
 
 /// All threads end in one way at most by a history: their stops, steps, outputs and counts.

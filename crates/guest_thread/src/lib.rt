@@ -22,6 +22,7 @@ mod starts;
 mod tries;
 pub mod worked;
 pub mod worked_ends;
+pub mod worked_stocks;
 
 pub use counts::{Counts, counts_of};
 pub use ends::GuestEnd;

@@ -1,7 +1,8 @@
 //! The run of a thread on a memory that threads share.
-ghost use Rattle.std.specs.Prelude.{◌≡◌, ◌<◌, ◌≤◌, ℕ, [], length, true};
+ghost use Rattle.std.specs.Prelude.{◌≡◌, ◌≤◌, ℕ, [], length, true};
 ghost use Rattle.llsc_base.specs.Limits.{most_budget};
 ghost use Rattle.history.specs.Parts.{accesses_of, entries_of};
+ghost use Rattle.history.specs.Started.{MayAct};
 ghost use Rattle.shared_memory.specs.Seen.{IsFront, IsSingle};
 ghost use Rattle.a32_step.specs.Machine.{between};
 ghost use Rattle.guest_calls.specs.Bound.{most_accesses_in};
@@ -21,8 +22,8 @@ pub struct Finished<P> {
     pub end: GuestEnd,
 }
 
-/// Runs a thread on a memory that threads share, up to its stop, with a pass that holds its number alone. Its core is between
-/// two instructions, and it has made no access and written nothing; memory has as many bytes as the code's image. The budget is
+/// Runs a thread that may act on a memory that threads share, up to its stop, with a pass that holds its number alone. Its core is
+/// between two instructions, and it has made no access and written nothing; memory has as many bytes as the code's image. The budget is
 /// at most 1,000,000,000,000 steps. No memory is taken from the allocator.
 ///
 /// What it did is in what the pass has seen of the history: its accesses there are those of a run of the core, with this end.
@@ -37,7 +38,7 @@ pub fn run_thread<M: SharedMemory, R: Wait>(
     budget: u64,
 ) -> Finished<M::Pass>
     requires memory { M.home pass ≡ M.id mem.now }
-    requires single { (t : ℕ) × IsSingle t (M.numbers pass) × (t < (M.origin mem.now).first) }
+    requires single { (t : ℕ) × IsSingle t (M.numbers pass) × (MayAct (M.origin mem.now).first t (M.seen pass)) }
     requires none { (t : ℕ) → IsSingle t (M.numbers pass) → entries_of t (M.seen pass) ≡ [] }
     requires whole { length code.program.bytes ≡ (M.origin mem.now).size.mem }
     requires between { cpu ≡ between cpu.state }

@@ -1,5 +1,6 @@
 //! A thread's part in a memory that threads share.
-ghost use Rattle.std.specs.Prelude.{◌≡◌, ◌≤◌, ◌<◌, ◌^◌, ◌+◌, IfNone, IfSome};
+ghost use Rattle.std.specs.Prelude.{◌≡◌, ◌≤◌, ◌^◌, ◌+◌, IfNone, IfSome};
+ghost use Rattle.history.specs.Started.{MayAct};
 ghost use Rattle.shared_memory.specs.Seen.{IsSingle};
 ghost use Rattle.guest_thread.specs.Counting.{accesses_counted};
 ghost use Rattle.guest_thread.specs.Sharing.{IsServedBy};
@@ -23,7 +24,8 @@ pub(crate) struct Sharing<'a, M: SharedMemory, R: Wait> {
 }
 
 impl<'a, M: SharedMemory, R: Wait> Model for Sharing<'a, M, R> {
-    ghost use Rattle.std.specs.Prelude.{◌≡◌, ◌<◌};
+    ghost use Rattle.std.specs.Prelude.{◌≡◌};
+    ghost use Rattle.history.specs.Started.{MayAct};
     ghost use Rattle.shared_memory.specs.Seen.{IsSingle};
     ghost use Rattle.guest_thread.specs.Sharing.{SharingState};
 
@@ -31,7 +33,7 @@ impl<'a, M: SharedMemory, R: Wait> Model for Sharing<'a, M, R> {
 
     ghost view = { λ s. record { memory = M.id s.mem.now; origin = M.origin s.mem.now; thread = s.thread; seen = M.seen s.pass; counts = s.counts } };
 
-    ghost invariant = { λ s. (M.home s.pass ≡ M.id s.mem.now) × IsSingle s.thread (M.numbers s.pass) × (s.thread < (M.origin s.mem.now).first) };
+    ghost invariant = { λ s. (M.home s.pass ≡ M.id s.mem.now) × IsSingle s.thread (M.numbers s.pass) × (MayAct (M.origin s.mem.now).first s.thread (M.seen s.pass)) };
 }
 
 impl<'a, M: SharedMemory, R: Wait> Sharing<'a, M, R> {
@@ -39,7 +41,7 @@ impl<'a, M: SharedMemory, R: Wait> Sharing<'a, M, R> {
     pub(crate) fn new(rt: &'a R, mem: &'a M, pass: M::Pass, thread: u32) -> Sharing<'a, M, R>
         requires memory { M.home pass ≡ M.id mem.now }
         requires single { IsSingle thread (M.numbers pass) }
-        requires first { thread < (M.origin mem.now).first }
+        requires may_act { MayAct (M.origin mem.now).first thread (M.seen pass) }
         ensures state { result ≡ record { memory = M.id mem.now; origin = M.origin mem.now; thread = thread; seen = M.seen pass; counts = record { reads = 0; writes = 0; fails = 0 } } }
     {
         Sharing {

@@ -57,7 +57,7 @@ pub fn ends_at_a_limit()
 {}
 
 /// Of a program that leaves at once an empty history has the one outcome that each thread leaves, in order of number; a history
-/// that isn't legal on the program's memory, or isn't complete, has none.
+/// that isn't legal on the program's memory, isn't complete, or has a thread started, has none.
 pub fn outcomes()
     ensures outcome { IsOutcome leaving (machine_of 2 1 1) 2 [] (end_of 0 (Stop.Exit 0) 2 0 0 0 ∷ end_of 1 (Stop.Exit 1) 2 0 0 0 ∷ []) }
     ensures another_number { ¬ IsOutcome leaving (machine_of 2 1 1) 2 [] (end_of 1 (Stop.Exit 0) 2 0 0 0 ∷ end_of 1 (Stop.Exit 1) 2 0 0 0 ∷ []) }
@@ -66,4 +66,5 @@ pub fn outcomes()
     ensures another_memory { (ends : List GuestEnd) → ¬ IsOutcome loading (machine_of 1 1 1) 1 (Entry.Read 0 word 7 false ∷ []) ends }
     ensures not_legal { (ends : List GuestEnd) → ¬ IsOutcome leaving (machine_of 2 1 1) 2 (Entry.Write 0 word 9 false ∷ []) ends }
     ensures not_complete { (ends : List GuestEnd) → ¬ IsOutcome leaving (machine_of 2 1 1) 2 (Entry.Watch 0 word ∷ []) ends }
+    ensures one_started { (ends : List GuestEnd) → ¬ IsOutcome leaving (machine_of 2 1 1) 2 (Entry.Start 0 2 0 0 ∷ []) ends }
 {}

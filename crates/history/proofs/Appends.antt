@@ -9,7 +9,7 @@ use Rattle.history.specs.ArmLegal.{IsArmLegal, MayAccess}
 use Rattle.history.specs.Standing.{Standing, joined, standing_after}
 use Rattle.history.specs.Follow.{MayFollow, MayJoin}
 use Rattle.history.specs.declared.entry.Entry.{Entry}
-use Rattle.history.specs.declared.entry.Entry.TheVariants.{Read, Write, Fail, Clear, Watch, Miss, Begin, End}
+use Rattle.history.specs.declared.entry.Entry.TheVariants.{Read, Write, Fail, Clear, Watch, Miss, Begin, End, Start}
 
 -- ---- parts
 
@@ -61,6 +61,7 @@ monitor_after-accesses_of m (Watch t p ∷ es) = monitor_after-accesses_of m es
 monitor_after-accesses_of m (Miss t p ∷ es) = monitor_after-accesses_of m es
 monitor_after-accesses_of m (Begin t p ∷ es) = monitor_after-accesses_of m es
 monitor_after-accesses_of m (End t p ∷ es) = monitor_after-accesses_of m es
+monitor_after-accesses_of m (Start t c n a ∷ es) = monitor_after-accesses_of m es
 
 -- and nothing is asked of them
 pub IsArmLegal-to_accesses_of : (m : Monitor) (history : List Entry) → IsArmLegal m history → IsArmLegal m (accesses_of history)
@@ -73,6 +74,7 @@ IsArmLegal-to_accesses_of m (Watch t p ∷ es) h = IsArmLegal-to_accesses_of m e
 IsArmLegal-to_accesses_of m (Miss t p ∷ es) h = IsArmLegal-to_accesses_of m es h.1
 IsArmLegal-to_accesses_of m (Begin t p ∷ es) h = IsArmLegal-to_accesses_of m es h.1
 IsArmLegal-to_accesses_of m (End t p ∷ es) h = IsArmLegal-to_accesses_of m es h.1
+IsArmLegal-to_accesses_of m (Start t c n a ∷ es) h = IsArmLegal-to_accesses_of m es h.1
 
 pub IsArmLegal-from_accesses_of : (m : Monitor) (history : List Entry) → IsArmLegal m (accesses_of history) → IsArmLegal m history
 IsArmLegal-from_accesses_of m [] h = tt
@@ -84,6 +86,7 @@ IsArmLegal-from_accesses_of m (Watch t p ∷ es) h = (tt, IsArmLegal-from_access
 IsArmLegal-from_accesses_of m (Miss t p ∷ es) h = (tt, IsArmLegal-from_accesses_of m es h)
 IsArmLegal-from_accesses_of m (Begin t p ∷ es) h = (tt, IsArmLegal-from_accesses_of m es h)
 IsArmLegal-from_accesses_of m (End t p ∷ es) h = (tt, IsArmLegal-from_accesses_of m es h)
+IsArmLegal-from_accesses_of m (Start t c n a ∷ es) h = (tt, IsArmLegal-from_accesses_of m es h)
 
 -- ---- how things stand
 

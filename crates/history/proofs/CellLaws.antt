@@ -11,7 +11,7 @@ use Rattle.history.specs.Monitor.{Monitor, accessed, at_rest_by, monitor_after}
 use Rattle.history.specs.ArmLegal.{IsArmLegal, IsSound, MayAccess}
 use Rattle.history.specs.Standing.{Standing, joined, standing_after, standing_of, updated}
 use Rattle.history.specs.declared.entry.Entry.{Entry}
-use Rattle.history.specs.declared.entry.Entry.TheVariants.{Read, Write, Fail, Clear, Watch, Miss, Begin, End}
+use Rattle.history.specs.declared.entry.Entry.TheVariants.{Read, Write, Fail, Clear, Watch, Miss, Begin, End, Start}
 use Rattle.history.proofs.Marks.{IsAsLarge-accessed, updated-same, updated-other}
 
 -- memory is of bytes, and its cells are how things stand
@@ -50,6 +50,7 @@ CellsAre-step size m s (Watch thread place) may are = record { bytes = are.bytes
 CellsAre-step size m s (Miss thread place) may are = record { bytes = are.bytes; cells = are.cells }
 CellsAre-step size m s (Begin thread place) may are = record { bytes = are.bytes; cells = are.cells }
 CellsAre-step size m s (End thread place) may are = record { bytes = are.bytes; cells = are.cells }
+CellsAre-step size m s (Start thread child entry arg) may are = record { bytes = are.bytes; cells = are.cells }
 
 CellsAre-after : (size : Numbers) (m : Monitor) (s : Standing) (entries : List Entry) → IsArmLegal m entries → CellsAre m s
     → CellsAre (monitor_after m entries) (standing_after size s entries)

@@ -10,7 +10,7 @@ use Rattle.history.specs.Entry.{is_in_class}
 use Rattle.history.specs.Class.{comer_in, edges_of, is_edge, last_of, name_of, or_earlier, writer_in}
 use Rattle.history.specs.Standing.{Standing, joined, standing_after, standing_of, updated}
 use Rattle.history.specs.declared.entry.Entry.{Entry}
-use Rattle.history.specs.declared.entry.Entry.TheVariants.{Read, Write, Fail, Clear, Watch, Miss, Begin, End}
+use Rattle.history.specs.declared.entry.Entry.TheVariants.{Read, Write, Fail, Clear, Watch, Miss, Begin, End, Start}
 use Rattle.history.proofs.Ends.{by_ends}
 use Rattle.history.proofs.Appends.{standing_after-push}
 
@@ -35,6 +35,7 @@ edges_step size row s (Fail thread place value cause) count same = omega arith
 edges_step size row s (Clear thread) count same = omega arith
 edges_step size row s (Watch thread place) count same = omega arith
 edges_step size row s (Miss thread place) count same = omega arith
+edges_step size row s (Start thread child entry arg) count same = omega arith
 
 pub edges_of-standing : (size : Numbers) (row : ℕ) (bytes : List ℕ) (history : List Entry)
     → (standing_after size (standing_of bytes) history).edges (class_of size.classes row) ≡ edges_of size row history
@@ -81,6 +82,7 @@ holder_step size row s (Clear thread) old same = same
 holder_step size row s (Watch thread place) old same = same
 holder_step size row s (Miss thread place) old same = same
 holder_step size row s (End thread place) old same = same
+holder_step size row s (Start thread child entry arg) old same = same
 
 -- the thread of the last Begin
 pub holder-standing : (size : Numbers) (row : ℕ) (bytes : List ℕ) (history : List Entry)
@@ -111,6 +113,7 @@ name_step size row s (Fail thread place value cause) old same = same
 name_step size row s (Clear thread) old same = same
 name_step size row s (Miss thread place) old same = same
 name_step size row s (End thread place) old same = same
+name_step size row s (Start thread child entry arg) old same = same
 
 -- the name of the last Watch or Begin
 pub name-standing : (size : Numbers) (row : ℕ) (bytes : List ℕ) (history : List Entry)

@@ -60,3 +60,7 @@ each-still is history each = subst (IsOfEach is) (sym (append-nil history)) each
 pub each-front : (is : List Entry → Entry → Type 0) (front back : List Entry) → IsOfEach is (front ++ back) → IsOfEach is front
 each-front is front back each past entry rest same =
     each past entry (rest ++ back) (ap (λ (es : List Entry). es ++ back) same ∙ append_assoc past (entry ∷ rest) back)
+
+-- of the last of them
+pub each-last : (is : List Entry → Entry → Type 0) (history : List Entry) (entry : Entry) → IsOfEach is (history ++ entry ∷ []) → is history entry
+each-last is history entry each = each history entry [] refl

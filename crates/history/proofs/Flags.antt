@@ -12,7 +12,7 @@ use Rattle.history.specs.Reservation.{reservation_of, reserved_since}
 use Rattle.history.specs.Cause.{is_begin, is_begin_of_another, is_start_of_another, is_write, later_of, since_watch, writes_in_class}
 use Rattle.history.specs.Standing.{Standing, is_of_class, joined, standing_after, standing_of}
 use Rattle.history.specs.declared.entry.Entry.{Entry}
-use Rattle.history.specs.declared.entry.Entry.TheVariants.{Read, Write, Fail, Clear, Watch, Miss, Begin, End}
+use Rattle.history.specs.declared.entry.Entry.TheVariants.{Read, Write, Fail, Clear, Watch, Miss, Begin, End, Start}
 use Rattle.history.proofs.Ends.{by_ends}
 use Rattle.history.proofs.Appends.{standing_after-push}
 use Rattle.history.proofs.Kept.{kept_if}
@@ -49,6 +49,7 @@ watch_is t place (Clear thread) h = no_watch t place (Clear thread) h
 watch_is t place (Miss thread at) h = no_watch t place (Miss thread at) h
 watch_is t place (Begin thread at) h = no_watch t place (Begin thread at) h
 watch_is t place (End thread at) h = no_watch t place (End thread at) h
+watch_is t place (Start thread child entry arg) h = no_watch t place (Start thread child entry arg) h
 
 -- an entry that leaves a thread reserved, and isn't its Watch, left it so
 same_row : (size : Numbers) (t : ℕ) (reserved : Option ℕ) (entry : Entry) (row : ℕ) → watch_of t entry ≡ None
@@ -62,6 +63,7 @@ same_row size t reserved (Miss thread place) row new h = kept_if (nat_eq thread 
 same_row size t reserved (Begin thread place) row new h =
     kept_if (nat_eq thread t && is_of_class size (class_of size.classes (row_of size.granule place)) reserved) reserved row h
 same_row size t reserved (End thread place) row new h = h
+same_row size t reserved (Start thread child entry arg) row new h = h
 
 -- one more entry, which isn't a Watch of the thread, stands after the Watch that there is
 later_more : (old : Option Since) (size : Numbers) (t row : ℕ) (entry : Entry) → reserved_since size t old ≡ Some row
@@ -132,6 +134,7 @@ passes size t = record { fresh = λ s place. rw (eq-eqb t t refl) refl; more = m
       | inr another ↦ rw (another, reserved) refl
     ]
     more s (End thread place) row reserved other = or_false (s.passed t)
+    more s (Start thread child entry arg) row reserved other = or_false (s.passed t)
 
 overtakes : (size : Numbers) (t : ℕ) → Goes size t (λ s. s.overtaken t) (is_begin_of_another size t)
 overtakes size t = record { fresh = λ s place. rw (eq-eqb t t refl) refl; more = more }
@@ -149,6 +152,7 @@ overtakes size t = record { fresh = λ s place. rw (eq-eqb t t refl) refl; more 
       | inr another ↦ rw (another, reserved) refl
     ]
     more s (End thread place) row reserved other = or_false (s.overtaken t)
+    more s (Start thread child entry arg) row reserved other = or_false (s.overtaken t)
 
 stirs : (size : Numbers) (t : ℕ) → Goes size t (λ s. s.stirred t) (is_begin size)
 stirs size t = record { fresh = λ s place. rw (eq-eqb t t refl) refl; more = more }
@@ -163,6 +167,7 @@ stirs size t = record { fresh = λ s place. rw (eq-eqb t t refl) refl; more = mo
     more s (Miss thread place) row reserved other = or_false (s.stirred t)
     more s (Begin thread place) row reserved other = rw reserved refl
     more s (End thread place) row reserved other = or_false (s.stirred t)
+    more s (Start thread child entry arg) row reserved other = or_false (s.stirred t)
 
 -- since the Watch of a reservation, another has had a Watch or a Begin in the class
 pub passed-standing : (size : Numbers) (t row : ℕ) (bytes : List ℕ) (history : List Entry) → reservation_of size t history ≡ Some row
@@ -194,6 +199,7 @@ writes_step size row s (Watch thread place) count same = omega arith
 writes_step size row s (Miss thread place) count same = omega arith
 writes_step size row s (Begin thread place) count same = omega arith
 writes_step size row s (End thread place) count same = omega arith
+writes_step size row s (Start thread child entry arg) count same = omega arith
 
 -- how many Writes the class of a row has had
 pub writes_in_class-standing : (size : Numbers) (row : ℕ) (bytes : List ℕ) (history : List Entry)

@@ -11,7 +11,7 @@ use Rattle.history.specs.ArmLegal.{IsArmLegal, IsSound, MayAccess}
 use Rattle.history.specs.Marked.{IsUnwrittenSince, KeepsRow, is_load_ex, is_write_in}
 use Rattle.history.specs.Standing.{mark_after}
 use Rattle.history.specs.declared.entry.Entry.{Entry}
-use Rattle.history.specs.declared.entry.Entry.TheVariants.{Read, Write, Fail, Clear, Watch, Miss, Begin, End}
+use Rattle.history.specs.declared.entry.Entry.TheVariants.{Read, Write, Fail, Clear, Watch, Miss, Begin, End, Start}
 use Rattle.history.proofs.Ends.{by_ends}
 use Rattle.history.proofs.Appends.{IsArmLegal-front, IsArmLegal-last, monitor_after-push}
 use Rattle.history.proofs.Marks.{granule-monitor_after, mark_step, marked_row-accessed, get_or-replicate_none}
@@ -64,6 +64,7 @@ left m (Watch thread place) t row may other h = (h, (λ k here. refl), refl)
 left m (Miss thread place) t row may other h = (h, (λ k here. refl), refl)
 left m (Begin thread place) t row may other h = (h, (λ k here. refl), refl)
 left m (End thread place) t row may other h = (h, (λ k here. refl), refl)
+left m (Start thread child entry arg) t row may other h = (h, (λ k here. refl), refl)
 
 -- ---- over a list
 
@@ -114,6 +115,7 @@ load_ex t (Watch thread place) h = no_load_ex t (Watch thread place) h
 load_ex t (Miss thread place) h = no_load_ex t (Miss thread place) h
 load_ex t (Begin thread place) h = no_load_ex t (Begin thread place) h
 load_ex t (End thread place) h = no_load_ex t (End thread place) h
+load_ex t (Start thread child entry arg) h = no_load_ex t (Start thread child entry arg) h
 
 -- the thread's load-exclusive as the last entry
 just_now : (start : Monitor) (t row : ℕ) (entries : List Entry) (place : Place) (value : ℕ)

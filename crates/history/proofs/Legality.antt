@@ -18,7 +18,7 @@ use Rattle.history.specs.Follow.{MayFailAt, MayFollow, MayJoin, flight_at}
 use Rattle.history.specs.declared.entry.Cause.{Cause}
 use Rattle.history.specs.declared.entry.Cause.TheVariants.{Absent, Lost, Limit}
 use Rattle.history.specs.declared.entry.Entry.{Entry}
-use Rattle.history.specs.declared.entry.Entry.TheVariants.{Read, Write, Fail, Clear, Watch, Miss, Begin, End}
+use Rattle.history.specs.declared.entry.Entry.TheVariants.{Read, Write, Fail, Clear, Watch, Miss, Begin, End, Start}
 use Rattle.history.proofs.Ends.{by_ends}
 use Rattle.history.proofs.Appends.{IsArmLegal-front, IsArmLegal-from_accesses_of, IsArmLegal-last, IsArmLegal-push, IsArmLegal-to_accesses_of, MayFollow-back, MayFollow-front, MayFollow-last, MayFollow-push, entries_of-append, standing_after-push}
 use Rattle.history.proofs.Marks.{IsAsLarge-monitor_after, marked_row-standing, updated-same, updated-other}
@@ -76,6 +76,7 @@ may_access size m s (Watch t place) tie may = tt
 may_access size m s (Miss t place) tie may = tt
 may_access size m s (Begin t place) tie may = tt
 may_access size m s (End t place) tie may = tt
+may_access size m s (Start t child entry arg) tie may = tt
 
 -- ---- the write of a thread that is in flight
 
@@ -89,6 +90,7 @@ flight_own t (Watch thread place) own = refl
 flight_own t (Miss thread place) own = refl
 flight_own t (Begin thread place) own = rw own refl
 flight_own t (End thread place) own = rw own refl
+flight_own t (Start thread child entry arg) own = refl
 
 flight_other : (t : ℕ) (flight : Option Place) (e : Entry) → nat_eq (thread_of e) t ≡ false → flight_step t flight e ≡ flight
 flight_other t flight (Read thread place value ex) other = refl
@@ -99,6 +101,7 @@ flight_other t flight (Watch thread place) other = refl
 flight_other t flight (Miss thread place) other = refl
 flight_other t flight (Begin thread place) other = rw other refl
 flight_other t flight (End thread place) other = rw other refl
+flight_other t flight (Start thread child entry arg) other = refl
 
 abbrev FlightIs : Numbers → List ℕ → ℕ → List Entry → Type 0
 FlightIs size bytes t history = MayFollow size (standing_of bytes) history
@@ -172,6 +175,7 @@ cause_here size bytes past (Clear t) follows may = tt
 cause_here size bytes past (Watch t place) follows may = tt
 cause_here size bytes past (Begin t place) follows may = tt
 cause_here size bytes past (End t place) follows may = tt
+cause_here size bytes past (Start t child entry arg) follows may = tt
 
 -- an entry that is at its stage, that Arm allows and that has its cause may come
 may_join : (size : Numbers) (bytes : List ℕ) (past : List Entry) (e : Entry) (m : Monitor)
@@ -204,6 +208,7 @@ may_join size bytes past (Miss t place) m tie follows stage may cause = (
 )
 may_join size bytes past (Begin t place) m tie follows stage may cause = stage
 may_join size bytes past (End t place) m tie follows stage may cause = stage
+may_join size bytes past (Start t child entry arg) m tie follows stage may cause = stage
 
 -- ---- a history whose entries follow is legal
 

@@ -1,5 +1,7 @@
 pub mod Ends
 pub mod Cuts
+pub mod Born
+pub mod Starts
 pub mod Appends
 pub mod Marks
 pub mod Kept

@@ -10,7 +10,7 @@ use Rattle.history.specs.Monitor.{Monitor, IsAsLarge, accessed, at_rest_by, mark
 use Rattle.history.specs.ArmLegal.{IsArmLegal, MayAccess}
 use Rattle.history.specs.Standing.{Standing, joined, mark_after, standing_after, standing_of, updated}
 use Rattle.history.specs.declared.entry.Entry.{Entry}
-use Rattle.history.specs.declared.entry.Entry.TheVariants.{Read, Write, Fail, Clear, Watch, Miss, Begin, End}
+use Rattle.history.specs.declared.entry.Entry.TheVariants.{Read, Write, Fail, Clear, Watch, Miss, Begin, End, Start}
 use Rattle.history.proofs.Ends.{by_ends}
 use Rattle.history.proofs.Appends.{IsArmLegal-front, IsArmLegal-last, monitor_after-push, standing_after-push}
 
@@ -43,6 +43,7 @@ joined-mark size s (Watch thread place) t = refl
 joined-mark size s (Miss thread place) t = refl
 joined-mark size s (Begin thread place) t = refl
 joined-mark size s (End thread place) t = refl
+joined-mark size s (Start thread child entry arg) t = refl
 
 set_at_thread : (marks : List (Option ℕ)) (thread : ℕ) (mark : Option ℕ) (t : ℕ) → thread < length marks
     → get_or (set marks thread mark) t None ≡ (if nat_eq thread t then mark else get_or marks t None)
@@ -82,6 +83,7 @@ marked_row-accessed m (Watch thread place) t h = refl
 marked_row-accessed m (Miss thread place) t h = refl
 marked_row-accessed m (Begin thread place) t h = refl
 marked_row-accessed m (End thread place) t h = refl
+marked_row-accessed m (Start thread child entry arg) t h = refl
 
 -- ---- as many bytes and threads
 
@@ -104,6 +106,7 @@ IsAsLarge-accessed m (Watch thread place) h = record { bytes = refl; threads = r
 IsAsLarge-accessed m (Miss thread place) h = record { bytes = refl; threads = refl; granule = refl }
 IsAsLarge-accessed m (Begin thread place) h = record { bytes = refl; threads = refl; granule = refl }
 IsAsLarge-accessed m (End thread place) h = record { bytes = refl; threads = refl; granule = refl }
+IsAsLarge-accessed m (Start thread child entry arg) h = record { bytes = refl; threads = refl; granule = refl }
 
 pub IsAsLarge-monitor_after : (m : Monitor) (entries : List Entry) → IsArmLegal m entries → IsAsLarge m (monitor_after m entries)
 IsAsLarge-monitor_after m [] h = record { bytes = refl; threads = refl; granule = refl }

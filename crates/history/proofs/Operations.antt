@@ -5,10 +5,10 @@ use Rattle.std.proofs.lemmas.Bool.{cases_Bool, eqb-true}
 use Rattle.llsc_base.specs.declared.access.Place.{Place}
 use Rattle.history.specs.Entry.{thread_of}
 use Rattle.history.specs.Parts.{entries_of}
-use Rattle.history.specs.Operation.{AreFinished, AreOperations, Operation, clear, entries_of_operation, fail, load, load_missed, load_watched, store}
+use Rattle.history.specs.Operation.{AreFinished, AreOperations, Operation, clear, entries_of_operation, fail, load, load_missed, load_watched, start, store}
 use Rattle.history.specs.Standing.{Stage, begun, looked, rests, written}
 use Rattle.history.specs.declared.entry.Entry.{Entry}
-use Rattle.history.specs.declared.entry.Entry.TheVariants.{Read, Write, Fail, Clear, Watch, Miss, Begin, End}
+use Rattle.history.specs.declared.entry.Entry.TheVariants.{Read, Write, Fail, Clear, Watch, Miss, Begin, End, Start}
 use Rattle.history.proofs.Stages.{AreStaged, last_stage, stage_after, stage_before}
 
 -- ---- a thread's own entries
@@ -133,6 +133,9 @@ split_entry t (Begin thread place) es own rest =
 split_entry t (End thread place) es own rest =
     split_on t (written place) (End thread place) es rest
     (ap (λ (xs : List Entry). End thread place ∷ xs) rest.is_tail ∙ ap (λ (u : ℕ). End u place ∷ []) own)
+split_entry t (Start thread child entry arg) es own rest =
+    split_first t (Start thread child entry arg) es (start child entry arg) rest
+    (ap (λ (xs : List Entry). Start thread child entry arg ∷ xs) rest.is_tail ∙ ap (λ (u : ℕ). Start u child entry arg ∷ []) own)
 
 split : (t : ℕ) (stage : Stage) (es : List Entry) → AreOf t es → AreStaged stage es → Split t stage es
 split t stage [] own staged = split_none t stage
@@ -243,6 +246,10 @@ rejoin t rests (e ∷ es) tail (fail place value cause ∷ operations) missing i
 rejoin t rests (e ∷ es) tail (clear ∷ operations) missing is are =
     let head = Clear t in
     let all : e ∷ (es ++ missing) ≡ head ∷ all_entries t operations = are ∙ ap (λ (xs : List Entry). xs ++ all_entries t (clear ∷ operations)) is in
+    next rests e head es missing (head_of _ _ _ _ all) refl (rejoin t rests es [] operations missing refl (tail_of _ _ _ _ all))
+rejoin t rests (e ∷ es) tail (start child entry arg ∷ operations) missing is are =
+    let head = Start t child entry arg in
+    let all : e ∷ (es ++ missing) ≡ head ∷ all_entries t operations = are ∙ ap (λ (xs : List Entry). xs ++ all_entries t (start child entry arg ∷ operations)) is in
     next rests e head es missing (head_of _ _ _ _ all) refl (rejoin t rests es [] operations missing refl (tail_of _ _ _ _ all))
 
 pub AreStaged-AreOperations : (t : ℕ) (es : List Entry) → AreOperations t es → AreStaged rests es

@@ -7,7 +7,7 @@ use Rattle.history.specs.Parts.{entries_of}
 use Rattle.history.specs.Standing.{Stage, Standing, begun, joined, looked, rests, standing_after, updated, written}
 use Rattle.history.specs.Follow.{MayFollow, MayJoin}
 use Rattle.history.specs.declared.entry.Entry.{Entry}
-use Rattle.history.specs.declared.entry.Entry.TheVariants.{Read, Write, Fail, Clear, Watch, Miss, Begin, End}
+use Rattle.history.specs.declared.entry.Entry.TheVariants.{Read, Write, Fail, Clear, Watch, Miss, Begin, End, Start}
 use Rattle.history.proofs.Marks.{updated-same, updated-other}
 
 -- ---- stages
@@ -23,6 +23,7 @@ stage_before (Watch thread place) = rests
 stage_before (Miss thread place) = rests
 stage_before (Begin thread place) = rests
 stage_before (End thread place) = written place
+stage_before (Start thread child entry arg) = rests
 
 -- the stage of its thread after it
 abbrev pub stage_after : Entry → Stage
@@ -34,6 +35,7 @@ stage_after (Watch thread place) = looked place
 stage_after (Miss thread place) = looked place
 stage_after (Begin thread place) = begun place
 stage_after (End thread place) = rests
+stage_after (Start thread child entry arg) = rests
 
 -- entries of one thread, each of which may come at its stage
 abbrev pub AreStaged : Stage → List Entry → Type 0
@@ -55,6 +57,7 @@ joined-stage size s (Watch thread place) = refl
 joined-stage size s (Miss thread place) = refl
 joined-stage size s (Begin thread place) = refl
 joined-stage size s (End thread place) = refl
+joined-stage size s (Start thread child entry arg) = refl
 
 pub MayJoin-stage : (size : Numbers) (s : Standing) (e : Entry) → MayJoin size s e → s.stage (thread_of e) ≡ stage_before e
 MayJoin-stage size s (Read thread place value true) may = may.0
@@ -66,6 +69,7 @@ MayJoin-stage size s (Watch thread place) may = may
 MayJoin-stage size s (Miss thread place) may = may.0
 MayJoin-stage size s (Begin thread place) may = may
 MayJoin-stage size s (End thread place) may = may
+MayJoin-stage size s (Start thread child entry arg) may = may
 
 entries_of-own : (t : ℕ) (e : Entry) (es : List Entry) → nat_eq (thread_of e) t ≡ true → entries_of t (e ∷ es) ≡ e ∷ entries_of t es
 entries_of-own t e es own = rw own refl

@@ -11,7 +11,7 @@ use Rattle.history.specs.Cause.{flight_of, flight_since}
 use Rattle.history.specs.Standing.{Standing, is_of_class, joined, standing_after, standing_of}
 use Rattle.history.specs.declared.entry.Cause.{Cause}
 use Rattle.history.specs.declared.entry.Entry.{Entry}
-use Rattle.history.specs.declared.entry.Entry.TheVariants.{Read, Write, Fail, Clear, Watch, Miss, Begin, End}
+use Rattle.history.specs.declared.entry.Entry.TheVariants.{Read, Write, Fail, Clear, Watch, Miss, Begin, End, Start}
 use Rattle.history.proofs.Ends.{by_ends}
 use Rattle.history.proofs.Appends.{standing_after-push}
 
@@ -80,6 +80,7 @@ flies t old (Fail thread place value cause) = still t old (Fail thread place val
 flies t old (Clear thread) = still t old (Clear thread)
 flies t old (Watch thread place) = still t old (Watch thread place)
 flies t old (Miss thread place) = still t old (Miss thread place)
+flies t old (Start thread child entry arg) = still t old (Start thread child entry arg)
 
 pub flight_of-push : (t : ℕ) (entries : List Entry) (entry : Entry) → flight_of t (entries ++ entry ∷ []) ≡ flight_step t (flight_of t entries) entry
 flight_of-push t entries entry = ap (flight_since t) (since_last-push (begin_of t) entries entry) ∙ flies t (since_last (begin_of t) entries) entry
@@ -107,6 +108,7 @@ joined-reserved size s (Watch thread place) t = refl
 joined-reserved size s (Miss thread place) t = refl
 joined-reserved size s (Begin thread place) t = refl
 joined-reserved size s (End thread place) t = refl
+joined-reserved size s (Start thread child entry arg) t = refl
 
 -- what an entry leaves of a reservation, where it isn't a Watch of the thread
 abbrev ended : Numbers → ℕ → Entry → Option ℕ → Option ℕ
@@ -178,6 +180,8 @@ reserves size t old (Miss thread place) = kept size t old (Miss thread place) �
 reserves size t old (Begin thread place) = kept size t old (Begin thread place) ∙ ended-begin size t thread place (reserved_since size t old)
 reserves size t old (End thread place) =
     kept size t old (End thread place) ∙ ended-not size t (End thread place) (reserved_since size t old) (λ row. refl)
+reserves size t old (Start thread child entry arg) =
+    kept size t old (Start thread child entry arg) ∙ ended-not size t (Start thread child entry arg) (reserved_since size t old) (λ row. refl)
 
 pub reservation_of-push : (size : Numbers) (t : ℕ) (entries : List Entry) (entry : Entry)
     → reservation_of size t (entries ++ entry ∷ []) ≡ reserved_step size t (reservation_of size t entries) entry

@@ -6,7 +6,7 @@ use Rattle.history.specs.Entry.{thread_of}
 use Rattle.history.specs.Monitor.{Monitor, accessed}
 use Rattle.history.specs.Parts.{entries_of}
 use Rattle.history.specs.declared.entry.Entry.{Entry}
-use Rattle.history.specs.declared.entry.Entry.TheVariants.{Read, Write, Fail, Clear, Watch, Miss, Begin, End}
+use Rattle.history.specs.declared.entry.Entry.TheVariants.{Read, Write, Fail, Clear, Watch, Miss, Begin, End, Start}
 use Rattle.history.proofs.Marks.{IsAsLarge-accessed}
 use Rattle.history.proofs.SumsBelow.{only, only-once, only-zero, sum_below, sum_below-plus, sum_below-same, sum_below-zero}
 
@@ -44,6 +44,7 @@ by_its_thread m n kind (Watch t p) many may = only-zero t n
 by_its_thread m n kind (Miss t p) many may = only-zero t n
 by_its_thread m n kind (Begin t p) many may = only-zero t n
 by_its_thread m n kind (End t p) many may = only-zero t n
+by_its_thread m n kind (Start t child entry arg) many may = only-zero t n
 
 -- All writes at places of a kind are those of the threads.
 pub writes_by_threads : (m : Monitor) (threads : ℕ) (kind : Place → Bool) (entries : List Entry) → length m.marks ≡ threads → IsArmLegal m entries

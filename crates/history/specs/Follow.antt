@@ -9,7 +9,7 @@ use Rattle.history.specs.Standing.{Stage, rests, looked, begun, written, Standin
 use Rattle.history.specs.declared.entry.Cause.{Cause}
 use Rattle.history.specs.declared.entry.Cause.TheVariants.{Absent, Lost, Limit}
 use Rattle.history.specs.declared.entry.Entry.{Entry}
-use Rattle.history.specs.declared.entry.Entry.TheVariants.{Read, Write, Fail, Clear, Watch, Miss, Begin, End}
+use Rattle.history.specs.declared.entry.Entry.TheVariants.{Read, Write, Fail, Clear, Watch, Miss, Begin, End, Start}
 
 -- a thread's write is in flight, to this place
 abbrev pub flight_at : Stage → Option Place
@@ -56,6 +56,7 @@ MayJoin size s (Watch thread place) = s.stage thread ≡ rests
 MayJoin size s (Miss thread place) = (s.stage thread ≡ rests) × MayMissAt size s thread (row_of size.granule place)
 MayJoin size s (Begin thread place) = s.stage thread ≡ rests
 MayJoin size s (End thread place) = s.stage thread ≡ written place
+MayJoin size s (Start thread child entry arg) = s.stage thread ≡ rests
 
 -- each entry of a list may come where it does
 abbrev pub MayFollow : Numbers → Standing → List Entry → Type 0

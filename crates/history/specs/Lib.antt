@@ -17,3 +17,5 @@ pub mod Follow
 pub mod Marked
 pub mod Worked
 pub mod Class
+pub mod Started
+pub mod Starts

@@ -4,10 +4,10 @@ use Rattle.std.specs.List.{flat_map}
 use Rattle.llsc_base.specs.declared.access.Place.{Place}
 use Rattle.history.specs.declared.entry.Cause.{Cause}
 use Rattle.history.specs.declared.entry.Entry.{Entry}
-use Rattle.history.specs.declared.entry.Entry.TheVariants.{Read, Write, Fail, Clear, Watch, Miss, Begin, End}
+use Rattle.history.specs.declared.entry.Entry.TheVariants.{Read, Write, Fail, Clear, Watch, Miss, Begin, End, Start}
 
 -- a load; a load-exclusive, with a reservation or without; a store, or a store-exclusive that succeeds; a
--- store-exclusive that fails; CLREX
+-- store-exclusive that fails; CLREX; a thread that is started
 pub data Operation : Type 0 where
   load : Place → ℕ → Operation
   load_watched : Place → ℕ → Operation
@@ -15,6 +15,7 @@ pub data Operation : Type 0 where
   store : Place → ℕ → Bool → Operation
   fail : Place → ℕ → Cause → Operation
   clear : Operation
+  start : (child entry arg : ℕ) → Operation
 
 -- the entries of a thread's operation
 abbrev pub entries_of_operation : ℕ → Operation → List Entry
@@ -24,6 +25,7 @@ entries_of_operation thread (load_missed place value) = Miss thread place ∷ Re
 entries_of_operation thread (store place value ex) = Begin thread place ∷ Write thread place value ex ∷ End thread place ∷ []
 entries_of_operation thread (fail place value cause) = Fail thread place value cause ∷ []
 entries_of_operation thread clear = Clear thread ∷ []
+entries_of_operation thread (start child entry arg) = Start thread child entry arg ∷ []
 
 -- entries are those of a sequence of operations of a thread, each of them finished
 pub record AreFinished (thread : ℕ) (entries : List Entry) : Type 0 where

@@ -7,7 +7,7 @@ use Rattle.llsc_base.specs.declared.access.Place.{Place}
 use Rattle.row_bytes.specs.Cell.{cell_at, cell_with}
 use Rattle.history.specs.Monitor.{unless_on}
 use Rattle.history.specs.declared.entry.Entry.{Entry}
-use Rattle.history.specs.declared.entry.Entry.TheVariants.{Read, Write, Fail, Clear, Watch, Miss, Begin, End}
+use Rattle.history.specs.declared.entry.Entry.TheVariants.{Read, Write, Fail, Clear, Watch, Miss, Begin, End, Start}
 
 -- how far a thread has come: between two operations; a load-exclusive has begun; a write has begun; it is written
 pub data Stage : Type 0 where
@@ -103,6 +103,7 @@ joined size s (End thread place) = let class = class_of size.classes (row_of siz
   stage = updated s.stage thread rests;
   edges = updated s.edges class (s.edges class + 1);
 }
+joined size s (Start thread child entry arg) = record s { stage = updated s.stage thread rests }
 
 -- how things stand after a list of entries
 abbrev pub standing_after : Numbers → Standing → List Entry → Standing

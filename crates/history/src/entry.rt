@@ -18,7 +18,7 @@ pub enum Cause {
 /// One event of a history of shared memory.
 ///
 /// `Read`, `Write`, `Fail` and `Clear` are accesses, and the others marks: they say when an operation began, or
-/// that it is over.
+/// that it is over, or that a thread is started.
 #[derive(Clone, Copy, Debug, PartialEq, Eq)]
 pub enum Entry {
     /// A load, or a load-exclusive, took this value.
@@ -65,6 +65,13 @@ pub enum Entry {
     End {
         thread: u32,
         place: Place,
+    },
+    /// A thread is started, and begins at an address with an argument.
+    Start {
+        thread: u32,
+        child: u32,
+        entry: u32,
+        arg: u32,
     },
 }
 

@@ -11,6 +11,7 @@
 
 mod entry;
 pub mod laws;
+pub mod laws_of_starts;
 mod plain;
 pub mod worked;
 pub mod worked_accesses;
@@ -18,6 +19,7 @@ pub mod worked_classes;
 pub mod worked_marks;
 pub mod worked_operations;
 pub mod worked_rows;
+pub mod worked_starts;
 
 pub use entry::{Access, Cause, Deed, Entry};
 pub use plain::PlainMemory;

@@ -38,7 +38,7 @@ use Rattle.hst_memory.specs.Kept.{IsLaid, IsSection, Kept, KeptBy, origin_of}
 use Rattle.shared_memory.specs.Told.{ask}
 use Rattle.hst_memory.specs.Told.{Mine, absent, changed_alone, cleared, entered_alone, left_alone, left_written, read_ex, tested, watched}
 use Rattle.hst_memory.proofs.Laid.{laid-cell, laid-same, laid-section, laid-tag}
-use Rattle.hst_memory.proofs.Moves.{inside-safe, moves-none, moves-one, told-none, told-one}
+use Rattle.hst_memory.proofs.Moves.{acts, inside-safe, moves-none, moves-one, told-none, told-one}
 use Rattle.hst_memory.proofs.Own.{own-alone, own-begin_ex, own-clear, own-end_ex, own-fail, own-leave, own-read_ex, own-watch, own-write_ex}
 use Rattle.hst_memory.proofs.PlainSteps.{as-found, cell-below, cell-is, keeps-none, known, lead-below, sound, still}
 use Rattle.hst_memory.proofs.Sections.{alone-others, section-alone, section-empty, section-same, weight, weightless}
@@ -131,10 +131,10 @@ module _ (plan : Plan) where
         w,
         keeps,
         tt,
-        moves-one plan s.words s.views k seat v at single e refl knows.at (λ j x ne there. inl refl) (set s.words i (v.lead + 1)) h after
+        moves-one plan s.words s.views k seat v at single e refl (acts plan s.words s.views k seat v at single) knows.at (λ j x ne there. inl refl) (set s.words i (v.lead + 1)) h after
             (laid-tag plan.size s.words k.standing (joined plan.size k.standing e) class (v.lead + 1) below refl refl k.laid)
             (section-same plan.size.threads (slice_index s.words 0) (slice_index (set s.words i (v.lead + 1)) 0) s.views seat v w first at (sym heavy) k.section),
-        told-one plan s.words s.views k seat v at single e refl knows.at (λ j x ne there. inl refl) h me.1 after,
+        told-one plan s.words s.views k seat v at single e refl (acts plan s.words s.views k seat v at single) knows.at (λ j x ne there. inl refl) h me.1 after,
       )
 
   -- and loads the cell
@@ -157,10 +157,10 @@ module _ (plan : Plan) where
         keeps,
         tt,
         as-found plan s.words i (set s.views seat (moved v k.history (e ∷ []) h))
-            (moves-one plan s.words s.views k seat v at single e refl may (λ j w ne there. inl refl) s.words h after
+            (moves-one plan s.words s.views k seat v at single e refl (acts plan s.words s.views k seat v at single) may (λ j w ne there. inl refl) s.words h after
             (laid-same plan.size s.words k.standing (joined plan.size k.standing e) refl refl k.laid)
             (still plan s.words s.views k seat v at single h k.history (e ∷ []) (sym (ap weight_of watching)))),
-        told-one plan s.words s.views k seat v at single e refl may (λ j w ne there. inl refl) h me.1 after,
+        told-one plan s.words s.views k seat v at single e refl (acts plan s.words s.views k seat v at single) may (λ j w ne there. inl refl) h me.1 after,
       )
 
   -- it leaves
@@ -213,12 +213,12 @@ module _ (plan : Plan) where
               keeps,
               tt,
               as-found plan s.words i (set s.views seat w)
-                  (moves-one plan s.words s.views k seat v at single begin refl stage (λ j x ne there. inl refl) s.words won after
+                  (moves-one plan s.words s.views k seat v at single begin refl (acts plan s.words s.views k seat v at single) stage (λ j x ne there. inl refl) s.words won after
                   (laid-begun s.words k.standing begin n class k.laid name hit refl refl)
                   (still plan s.words s.views k seat v at single won k.history (begin ∷ []) (sym heavy))),
               (
                 (λ is. record {
-                  goes = told-one plan s.words s.views k seat v at single begin refl stage (λ j x ne there. inl refl) won me.1 after;
+                  goes = told-one plan s.words s.views k seat v at single begin refl (acts plan s.words s.views k seat v at single) stage (λ j x ne there. inl refl) won me.1 after;
                   past = k.history;
                   since = (k.tells.each seat v at).part.front;
                   is = refl;
@@ -239,13 +239,13 @@ module _ (plan : Plan) where
               keeps,
               tt,
               as-found plan s.words i (set s.views seat w)
-                  (moves-one plan s.words s.views k seat v at single fail refl may (λ j x ne there. inl refl) s.words lost after
+                  (moves-one plan s.words s.views k seat v at single fail refl (acts plan s.words s.views k seat v at single) may (λ j x ne there. inl refl) s.words lost after
                   (laid-same plan.size s.words k.standing (joined plan.size k.standing fail) refl refl k.laid)
                   (still plan s.words s.views k seat v at single lost k.history (fail ∷ []) (sym heavy))),
               (
                 (λ hit. absurd (miss hit)),
                 (λ is. record {
-                  goes = told-one plan s.words s.views k seat v at single fail refl may (λ j x ne there. inl refl) lost me.1 after;
+                  goes = told-one plan s.words s.views k seat v at single fail refl (acts plan s.words s.views k seat v at single) may (λ j x ne there. inl refl) lost me.1 after;
                   past = k.history;
                   since = (k.tells.each seat v at).part.front;
                   is = refl;
@@ -298,12 +298,12 @@ module _ (plan : Plan) where
           keeps,
           tt,
           subst (λ b. Kept plan (set s.words i (either b new n)) (set s.views seat w)) (sym (eq-eqb n old hit))
-              (moves-one plan s.words s.views k seat v at single e refl may safe (set s.words i new) h after
+              (moves-one plan s.words s.views k seat v at single e refl (acts plan s.words s.views k seat v at single) may safe (set s.words i new) h after
               (subst (λ (c : ℕ). IsLaid plan.size (set s.words i (cell_with c p value)) (joined plan.size k.standing e)) (sym is ∙ hit)
               (laid-cell plan.size s.words k.standing (joined plan.size k.standing e) (cell_of p) (cell_with (k.standing.cells (cell_of p)) p value)
               (cell-below plan s.words s.views k seat v at single p inside) refl refl k.laid))
               (section-same plan.size.threads (slice_index s.words 0) (slice_index (set s.words i new) 0) s.views seat v w first at (sym heavy) k.section)),
-          ((λ hit'. told-one plan s.words s.views k seat v at single e refl may safe h me.1 after), λ not. absurd (not hit)),
+          ((λ hit'. told-one plan s.words s.views k seat v at single e refl (acts plan s.words s.views k seat v at single) may safe h me.1 after), λ not. absurd (not hit)),
         )
         | inr miss ↦ (
           stays,
@@ -329,10 +329,10 @@ module _ (plan : Plan) where
         w,
         keeps,
         tt,
-        moves-one plan s.words s.views k seat v at single e refl knows.at (λ j x ne there. inl refl) (set s.words 0 0) h after
+        moves-one plan s.words s.views k seat v at single e refl (acts plan s.words s.views k seat v at single) knows.at (λ j x ne there. inl refl) (set s.words 0 0) h after
             (laid-section plan.size s.words (joined plan.size k.standing e) 0 (laid-same plan.size s.words k.standing (joined plan.size k.standing e) refl refl k.laid))
             (subst (λ (x : ℕ). IsSection plan.size.threads x (set s.views seat w)) (sym (section-set s.words 0 k.laid.long)) (section-empty plan.size.threads (slice_index s.words 0) s.views seat v w few at heavy refl k.section)),
-        told-one plan s.words s.views k seat v at single e refl knows.at (λ j x ne there. inl refl) h me.1 after,
+        told-one plan s.words s.views k seat v at single e refl (acts plan s.words s.views k seat v at single) knows.at (λ j x ne there. inl refl) h me.1 after,
       )
 
   not-reserved : (s : Standing) (t row : ℕ) (reserve : Reserve) → IsReserve plan.size s t reserve → (reserve ≡ Row row → ⊥) → (reserve ≡ Several → ⊥) → s.reserved t ≢ Some row
@@ -359,11 +359,11 @@ module _ (plan : Plan) where
         keeps,
         tt,
         as-found plan s.words 0 (set s.views seat w)
-            (moves-one plan s.words s.views k seat v at single e refl may (λ j x ne there. inl refl) s.words h after
+            (moves-one plan s.words s.views k seat v at single e refl (acts plan s.words s.views k seat v at single) may (λ j x ne there. inl refl) s.words h after
             (laid-same plan.size s.words k.standing (joined plan.size k.standing e) refl refl k.laid)
             (still plan s.words s.views k seat v at single h k.history (e ∷ []) (sym (ap weight_of rest)))),
         record {
-          goes = told-one plan s.words s.views k seat v at single e refl may (λ j x ne there. inl refl) h me.1 after;
+          goes = told-one plan s.words s.views k seat v at single e refl (acts plan s.words s.views k seat v at single) may (λ j x ne there. inl refl) h me.1 after;
           past = k.history;
           since = (k.tells.each seat v at).part.front;
           is = refl;
@@ -387,8 +387,8 @@ module _ (plan : Plan) where
         keeps,
         tt,
         as-found plan s.words 0 (set s.views seat w)
-            (moves-one plan s.words s.views k seat v at single e refl may (λ j x ne there. inl refl) s.words h after
+            (moves-one plan s.words s.views k seat v at single e refl (acts plan s.words s.views k seat v at single) may (λ j x ne there. inl refl) s.words h after
             (laid-same plan.size s.words k.standing (joined plan.size k.standing e) refl refl k.laid)
             (still plan s.words s.views k seat v at single h k.history (e ∷ []) (sym (ap weight_of rest)))),
-        told-one plan s.words s.views k seat v at single e refl may (λ j x ne there. inl refl) h me.1 after,
+        told-one plan s.words s.views k seat v at single e refl (acts plan s.words s.views k seat v at single) may (λ j x ne there. inl refl) h me.1 after,
       )

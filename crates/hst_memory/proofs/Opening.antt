@@ -13,6 +13,8 @@ use Rattle.shared_memory.specs.Layout.{words_of}
 use Rattle.hst_memory.specs.Kept.{KeptBy}
 use Rattle.history.specs.Memory.{IsMemory}
 use Rattle.history.specs.Standing.{standing_of}
+use Rattle.history.specs.Started.{MayStand}
+use Rattle.history.proofs.Cuts.{each-none}
 
 pub opens : (plan : Plan) (words : List ℕ) → IsMemory plan.size plan.image.value.bytes → length words ≡ words_of plan.size
     → ((i : ℕ) → i < 1 + plan.size.classes → slice_index words i ≡ 0)
@@ -21,6 +23,7 @@ pub opens : (plan : Plan) (words : List ℕ) → IsMemory plan.size plan.image.v
 opens plan words memory long zeros cells = record {
   history = [];
   standing = standing_of plan.image.value.bytes;
+  born = each-none (MayStand plan.size.threads 0);
   tells = opened (Knows plan.size) plan.size plan.image.value.bytes (hand Rest Nothing) memory (λ t. record { at = refl; reserve = refl; agrees = tt });
   laid = record { long = long; tags = λ c h. zeros (1 + c) (omega arith); cells = cells };
   section = record { counts = zeros 0 (omega arith); few = inl (omega arith) };

@@ -8,7 +8,7 @@ use Rattle.history.specs.Entry.{thread_of}
 use Rattle.history.specs.Standing.{Standing, begun, is_of_class, joined, updated}
 use Rattle.history.specs.Follow.{MayJoin, flight_at}
 use Rattle.history.specs.declared.entry.Entry.{Entry}
-use Rattle.history.specs.declared.entry.Entry.TheVariants.{Read, Write, Fail, Clear, Watch, Miss, Begin, End}
+use Rattle.history.specs.declared.entry.Entry.TheVariants.{Read, Write, Fail, Clear, Watch, Miss, Begin, End, Start}
 use Rattle.history.proofs.Marks.{updated-other, updated-same}
 use Rattle.history.proofs.Stages.{MayJoin-stage, stage_after, stage_before}
 use Rattle.shared_memory.proofs.Apart.{is_written, mark-other, mark-written, reserved-other, stage-other, stage-own}
@@ -35,6 +35,7 @@ flight-step (Watch thread at) place plain h = absurd (let f : ⊥ = cc in f)
 flight-step (Miss thread at) place plain h = absurd (let f : ⊥ = cc in f)
 flight-step (Begin thread at) place plain h = absurd (let f : ⊥ = cc in f)
 flight-step (End thread at) place plain h = absurd (let f : ⊥ = cc in f)
+flight-step (Start thread child entry arg) place plain h = absurd (let f : ⊥ = cc in f)
 
 -- what is in flight after an entry was so before it, or has just begun
 pub flies-back : (size : Numbers) (s : Standing) (e : Entry) (w class : ℕ) → MayJoin size s e → is_begun e ≡ false
@@ -130,6 +131,8 @@ keeps-other size s (Miss t place) u row ne may k =
     keeps-quiet size s (Miss t place) u row ne may refl refl refl (λ h m. mark-other size s (Miss t place) u ne refl ∙ m) k
 keeps-other size s (End t place) u row ne may k =
     keeps-quiet size s (End t place) u row ne may refl refl refl (λ h m. mark-other size s (End t place) u ne refl ∙ m) k
+keeps-other size s (Start t child entry arg) u row ne may k =
+    keeps-quiet size s (Start t child entry arg) u row ne may refl refl refl (λ h m. mark-other size s (Start t child entry arg) u ne refl ∙ m) k
 keeps-other size s (Write t place value ex) u row ne may k =
     keeps-quiet size s (Write t place value ex) u row ne may refl refl refl
     (λ h m. mark-written size s t place value ex u row (ap (λ (b : Bool). b && ex) (ne_eqb t u (λ same. ne (sym same))))

@@ -30,7 +30,7 @@ use Rattle.hst_memory.specs.Kept.{IsLaid, IsSection, Kept, KeptBy, origin_of}
 use Rattle.shared_memory.specs.Told.{ask, loaded, looked_at}
 use Rattle.hst_memory.specs.Told.{Mine, changed, entered, left_shared, tagged}
 use Rattle.hst_memory.proofs.Laid.{laid-cell, laid-same, laid-section, laid-tag}
-use Rattle.hst_memory.proofs.Moves.{inside-safe, moves-none, moves-one, told-none, told-one}
+use Rattle.hst_memory.proofs.Moves.{acts, inside-safe, moves-none, moves-one, told-none, told-one}
 use Rattle.hst_memory.proofs.Own.{own-begin, own-end, own-enter, own-read, own-write}
 use Rattle.hst_memory.proofs.Sections.{section-enter, section-leave, section-same, weight}
 
@@ -88,10 +88,10 @@ module _ (plan : Plan) where
         keeps,
         tt,
         as-found s.words i (set s.views seat (moved v k.history (e ∷ []) v.doing))
-            (moves-one plan s.words s.views k seat v at single e refl may (λ j w ne there. inl refl) s.words v.doing after
+            (moves-one plan s.words s.views k seat v at single e refl (acts plan s.words s.views k seat v at single) may (λ j w ne there. inl refl) s.words v.doing after
             (laid-same plan.size s.words k.standing (joined plan.size k.standing e) refl refl k.laid)
             (still s.words s.views k seat v at single v.doing k.history (e ∷ []) refl)),
-        told-one plan s.words s.views k seat v at single e refl may (λ j w ne there. inl refl) v.doing me.1 after,
+        told-one plan s.words s.views k seat v at single e refl (acts plan s.words s.views k seat v at single) may (λ j w ne there. inl refl) v.doing me.1 after,
       )
 
   -- a load that is no access
@@ -162,10 +162,10 @@ module _ (plan : Plan) where
         w,
         keeps,
         tt,
-        moves-one plan s.words s.views k seat v at single e refl knows.at (λ j x ne there. inl refl) (set s.words i (v.lead + 1)) h after
+        moves-one plan s.words s.views k seat v at single e refl (acts plan s.words s.views k seat v at single) knows.at (λ j x ne there. inl refl) (set s.words i (v.lead + 1)) h after
             (laid-tag plan.size s.words k.standing (joined plan.size k.standing e) class (v.lead + 1) below refl refl k.laid)
             (section-same plan.size.threads (slice_index s.words 0) (slice_index (set s.words i (v.lead + 1)) 0) s.views seat v w first at (sym (ap weight_of inside)) k.section),
-        told-one plan s.words s.views k seat v at single e refl knows.at (λ j x ne there. inl refl) h me.1 after,
+        told-one plan s.words s.views k seat v at single e refl (acts plan s.words s.views k seat v at single) knows.at (λ j x ne there. inl refl) h me.1 after,
       )
 
   -- it changes the cell
@@ -195,12 +195,12 @@ module _ (plan : Plan) where
           keeps,
           tt,
           subst (λ b. Kept plan (set s.words i (either b new n)) (set s.views seat w)) (sym (eq-eqb n old hit))
-              (moves-one plan s.words s.views k seat v at single e refl may safe (set s.words i new) h after
+              (moves-one plan s.words s.views k seat v at single e refl (acts plan s.words s.views k seat v at single) may safe (set s.words i new) h after
               (subst (λ (c : ℕ). IsLaid plan.size (set s.words i (cell_with c p value)) (joined plan.size k.standing e)) (sym is ∙ hit)
               (laid-cell plan.size s.words k.standing (joined plan.size k.standing e) (cell_of p) (cell_with (k.standing.cells (cell_of p)) p value)
               (cell-below s.words s.views k seat v at single p inside) refl refl k.laid))
               (section-same plan.size.threads (slice_index s.words 0) (slice_index (set s.words i new) 0) s.views seat v w first at (sym heavy) k.section)),
-          ((λ is. told-one plan s.words s.views k seat v at single e refl may safe h me.1 after), λ not. absurd (not hit)),
+          ((λ is. told-one plan s.words s.views k seat v at single e refl (acts plan s.words s.views k seat v at single) may safe h me.1 after), λ not. absurd (not hit)),
         )
         | inr miss ↦ (
           stays,
@@ -229,8 +229,8 @@ module _ (plan : Plan) where
         w,
         keeps,
         tt,
-        moves-one plan s.words s.views k seat v at single e refl knows.at (λ j x ne there. inl refl) (set s.words 0 m) h after
+        moves-one plan s.words s.views k seat v at single e refl (acts plan s.words s.views k seat v at single) knows.at (λ j x ne there. inl refl) (set s.words 0 m) h after
             (laid-section plan.size s.words (joined plan.size k.standing e) m (laid-same plan.size s.words k.standing (joined plan.size k.standing e) refl refl k.laid))
             (subst (λ (x : ℕ). IsSection plan.size.threads x (set s.views seat w)) (sym first) (section-leave plan.size.threads n s.views seat v w few at heavy refl small k.section)),
-        told-one plan s.words s.views k seat v at single e refl knows.at (λ j x ne there. inl refl) h me.1 after,
+        told-one plan s.words s.views k seat v at single e refl (acts plan s.words s.views k seat v at single) knows.at (λ j x ne there. inl refl) h me.1 after,
       )

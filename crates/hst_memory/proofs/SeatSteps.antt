@@ -46,6 +46,7 @@ module _ (plan : Plan) where
       record {
         history = k.history;
         standing = k.standing;
+        born = k.born;
         tells = split (Knows plan.size) plan.size plan.image.value.bytes s.views k.history k.standing seat v t lead (hand Rest Nothing) k.tells at left right has fresh
             (λ u stage reserved. record { at = stage; reserve = reserved; agrees = tt });
         laid = k.laid;
@@ -68,6 +69,7 @@ module _ (plan : Plan) where
       record {
         history = k.history;
         standing = k.standing;
+        born = k.born;
         tells = joined (Knows plan.size) plan.size plan.image.value.bytes s.views k.history k.standing seat other v w h (hand Rest Nothing) k.tells at apart there
             (λ t knows. known t v.doing rest_v knows) (λ t knows. known t w.doing rest_w knows);
         laid = k.laid;
@@ -85,6 +87,7 @@ module _ (plan : Plan) where
         as-found plan s.words 0 (set s.views seat w) (record {
           history = k.history;
           standing = k.standing;
+          born = k.born;
           tells = settled (Knows plan.size) plan.size plan.image.value.bytes s.views k.history k.standing seat v k.tells at;
           laid = k.laid;
           section = section-same plan.size.threads (slice_index s.words 0) (slice_index s.words 0) s.views seat v w refl at refl k.section;

@@ -4,6 +4,7 @@ use mathlib.Core.Option.{some}
 use lib.ListN.{get_elem?}
 use Rattle.llsc_base.specs.Sizes.{Numbers}
 use Rattle.history.specs.Standing.{Standing}
+use Rattle.history.specs.Started.{AreBorn}
 use Rattle.history.specs.declared.entry.Entry.{Entry}
 use Rattle.atomic_table.specs.Table.{State}
 use Rattle.shared_memory.specs.declared.views.View.{View}
@@ -38,6 +39,7 @@ pub record IsLaid (size : Numbers) (words : List ℕ) (s : Standing) : Type 0 wh
 pub record Kept (plan : Plan) (words : List ℕ) (views : List (View Hand)) : Type 0 where
   pub history : List Entry
   pub standing : Standing
+  pub born : AreBorn plan.size.threads 0 history
   pub tells : Tells (Knows plan.size) plan.size plan.image.value.bytes views history standing
   pub laid : IsLaid plan.size words standing
   pub section : IsSection plan.size.threads (slice_index words 0) views
@@ -47,4 +49,4 @@ KeptBy plan state = Kept plan state.words state.views
 
 -- what such a memory was made with
 abbrev pub origin_of : Plan → Origin
-origin_of plan = record { size = plan.size; first = plan.size.threads; bytes = plan.image.value.bytes; spends = false; steady = false }
+origin_of plan = record { size = plan.size; first = plan.size.threads; spare = 0; bytes = plan.image.value.bytes; spends = false; steady = false }

@@ -22,7 +22,7 @@ impl HstMemory {
         size: &MachineSize,
     ) -> Result<(HstMemory, HstPass), AllocError>
         requires { length image.now.bytes ≡ size.now.mem }
-        ensures origin { IfOk result (λ made. memory_origin made.0 ≡ record { size = size.now; first = size.now.threads; bytes = image.now.bytes; spends = false; steady = false }) }
+        ensures origin { IfOk result (λ made. memory_origin made.0 ≡ record { size = size.now; first = size.now.threads; spare = 0; bytes = image.now.bytes; spends = false; steady = false }) }
         ensures pass { IfOk result (λ made. pass_home made.1 ≡ memory_id made.0) }
         ensures numbers { IfOk result (λ made. (t : ℕ) → pass_numbers made.1 t ≡ nat_lt t size.now.threads) }
         ensures seen { IfOk result (λ made. pass_seen made.1 ≡ []) }

@@ -3,6 +3,7 @@ ghost use Rattle.std.specs.Prelude.{◌≡◌, ◌⊎◌, ◌+◌, ◌^◌, ◌<
 ghost use Rattle.llsc_base.specs.Memory.{is_aligned, size_bytes};
 ghost use Rattle.hst_memory.specs.Hands.{row_after};
 ghost use Rattle.hst_memory.specs.Exact.{IsExact};
+ghost use Rattle.history.specs.Started.{MayAct};
 ghost use Rattle.shared_memory.specs.Targets.{IsPlace, IsTarget};
 ghost use Rattle.history.specs.Operation.{entries_of_operation, fail, load_missed, load_watched, store};
 ghost use Rattle.history.specs.declared.entry.Cause.{Cause};
@@ -111,7 +112,7 @@ impl SharedMemory for HstMemory {
     // It has a reservation in any case.
     fn load_ex<R: Wait>(&self, rt: &R, pass: &mut HstPass, place: Place) -> u64
         requires memory { pass_home pass.old ≡ memory_id self.now }
-        requires single { (t : ℕ) × IsSingle t (pass_numbers pass.old) × (t < (memory_origin self.now).first) }
+        requires single { (t : ℕ) × IsSingle t (pass_numbers pass.old) × (MayAct (memory_origin self.now).first t (pass_seen pass.old)) }
         requires aligned { IsTrue (is_aligned place) }
         requires inside { place.addr + size_bytes place.size ≤ (memory_origin self.now).size.mem }
         ensures seen { (t : ℕ) → IsSingle t (pass_numbers pass.old)
@@ -133,7 +134,7 @@ impl SharedMemory for HstMemory {
     // It succeeds exactly where its thread is undisturbed, and fails for want of a reservation or because that was lost.
     fn store_ex<R: Wait>(&self, rt: &R, pass: &mut HstPass, place: Place, value: u64) -> bool
         requires memory { pass_home pass.old ≡ memory_id self.now }
-        requires single { (t : ℕ) × IsSingle t (pass_numbers pass.old) × (t < (memory_origin self.now).first) }
+        requires single { (t : ℕ) × IsSingle t (pass_numbers pass.old) × (MayAct (memory_origin self.now).first t (pass_seen pass.old)) }
         requires aligned { IsTrue (is_aligned place) }
         requires inside { place.addr + size_bytes place.size ≤ (memory_origin self.now).size.mem }
         requires fits { value < 256 ^ size_bytes place.size }

@@ -9,6 +9,7 @@ use Rattle.row_bytes.specs.Cell.{cell_at}
 use Rattle.history.specs.Legal.{IsComplete, IsLegal}
 use Rattle.history.specs.Monitor.{at_rest_by, monitor_after}
 use Rattle.history.specs.Parts.{accesses_of}
+use Rattle.history.specs.Started.{AreBorn}
 use Rattle.history.specs.declared.entry.Entry.{Entry}
 use Rattle.guest_thread.specs.Counting.{accesses_counted, counts_in}
 use Rattle.guest_thread.specs.Outcome.{AreEndsOn, IsOutcome}
@@ -42,13 +43,13 @@ closed_cells program size bytes history seen cells same begins count each =
     (record { count = count; each = each }))
 
 -- the threads of a closed memory
-pub ran : (program : Program) (size : Numbers) (budget : ℕ) (bytes : List ℕ) (history seen : List Entry) (ends : List GuestEnd) (cells : List ℕ)
-    → history ≡ seen → bytes ≡ program.bytes → IsLegal size bytes seen → IsComplete seen → AreEndsOn program size budget seen ends → KeepsVersions size seen
+pub ran : (program : Program) (size : Numbers) (budget first spare : ℕ) (bytes : List ℕ) (history seen : List Entry) (ends : List GuestEnd) (cells : List ℕ)
+    → history ≡ seen → bytes ≡ program.bytes → first ≡ size.threads → spare ≡ 0 → IsLegal size bytes seen → IsComplete seen → AreBorn first spare seen → AreEndsOn program size budget seen ends → KeepsVersions size seen
     → HasSums ends → AreCells size (left_by program size history) cells
     → Ran program size budget history ends cells
-ran program size budget bytes history seen ends cells same begins legal complete are versions sums cells_are = record {
+ran program size budget first spare bytes history seen ends cells same begins all none legal complete born are versions sums cells_are = record {
   outcome = subst (λ h. IsOutcome program size budget h ends) (sym same)
-      (record { legal = subst (λ b. IsLegal size b seen) begins legal; complete = complete; ends = are });
+      (record { legal = subst (λ b. IsLegal size b seen) begins legal; complete = complete; born = subst (λ n. AreBorn size.threads n seen) none (subst (λ n. AreBorn n spare seen) all born); ends = are });
   versions = subst (λ h. KeepsVersions size h) (sym same) versions;
   sums = sums;
   left = cells_are;

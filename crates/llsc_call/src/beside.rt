@@ -24,8 +24,8 @@ pub struct Finished<S> {
     pub story: S,
 }
 
-/// Runs an image's threads on a memory that counts the writes of a class, and on which a store-exclusive loses to nothing but
-/// writes, with the pass of all of them, and closes it.
+/// Runs an image's threads, which start no others, on a memory that counts the writes of a class, and on which a store-exclusive
+/// loses to nothing but writes, with the pass of all of them, and closes it.
 fn run_over<M: SharedMemory, R: Threads + Wait + Sync>(
     rt: &R,
     alloc: Global,
@@ -38,6 +38,7 @@ fn run_over<M: SharedMemory, R: Threads + Wait + Sync>(
     requires all { (t : ℕ) → M.numbers pass t ≡ nat_lt t (M.origin memory).size.threads }
     requires none { M.seen pass ≡ [] }
     requires first { (M.origin memory).first ≡ (M.origin memory).size.threads }
+    requires spare { (M.origin memory).spare ≡ 0 }
     requires bytes { (M.origin memory).bytes ≡ image.now.bytes }
     requires spends { (M.origin memory).spends ≡ true }
     requires steady { (M.origin memory).steady ≡ true }

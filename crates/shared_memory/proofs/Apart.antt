@@ -8,7 +8,7 @@ use Rattle.history.specs.Entry.{thread_of}
 use Rattle.history.specs.Monitor.{unless_on}
 use Rattle.history.specs.Standing.{Stage, Standing, joined}
 use Rattle.history.specs.declared.entry.Entry.{Entry}
-use Rattle.history.specs.declared.entry.Entry.TheVariants.{Read, Write, Fail, Clear, Watch, Miss, Begin, End}
+use Rattle.history.specs.declared.entry.Entry.TheVariants.{Read, Write, Fail, Clear, Watch, Miss, Begin, End, Start}
 use Rattle.history.proofs.Marks.{joined-mark, mark_step, updated-other, updated-same}
 use Rattle.history.proofs.Stages.{joined-stage, stage_after}
 use Rattle.history.proofs.Steps.{joined-reserved, reserved_step}
@@ -28,6 +28,7 @@ step-other size u old (Watch thread place) other = rw other refl
 step-other size u old (Miss thread place) other = rw other refl
 step-other size u old (Begin thread place) other = rw other refl
 step-other size u old (End thread place) other = refl
+step-other size u old (Start thread child entry arg) other = refl
 
 pub reserved-other : (size : Numbers) (s : Standing) (e : Entry) (u : ℕ) → u ≢ thread_of e → (joined size s e).reserved u ≡ s.reserved u
 reserved-other size s e u ne = joined-reserved size s e u ∙ step-other size u (s.reserved u) e (ne_eqb (thread_of e) u (λ same. ne (sym same)))
@@ -47,6 +48,7 @@ mark-step_other granule u old (Watch thread place) other plain = refl
 mark-step_other granule u old (Miss thread place) other plain = refl
 mark-step_other granule u old (Begin thread place) other plain = refl
 mark-step_other granule u old (End thread place) other plain = refl
+mark-step_other granule u old (Start thread child entry arg) other plain = refl
 
 pub mark-other : (size : Numbers) (s : Standing) (e : Entry) (u : ℕ) → u ≢ thread_of e → is_written e ≡ false → (joined size s e).mark u ≡ s.mark u
 mark-other size s e u ne plain = joined-mark size s e u ∙ mark-step_other size.granule u (s.mark u) e (ne_eqb (thread_of e) u (λ same. ne (sym same))) plain

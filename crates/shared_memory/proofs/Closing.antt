@@ -6,6 +6,7 @@ use Rattle.row_bytes.specs.Cell.{cell_at}
 use Rattle.history.specs.Legal.{IsComplete}
 use Rattle.history.specs.Monitor.{at_rest_by, monitor_after}
 use Rattle.history.specs.Parts.{accesses_of}
+use Rattle.history.specs.Started.{AreBorn}
 use Rattle.history.specs.Standing.{Standing, rests}
 use Rattle.history.specs.declared.entry.Entry.{Entry}
 use Rattle.shared_memory.specs.declared.plans.Plan.{Plan}
@@ -23,9 +24,11 @@ module _ {D : Type 0} (knows : Standing → ℕ → D → Type 0) (plan : Plan) 
   pub all-seen : v.seen ≡ history
   all-seen = whole knows plan.size plan.image.value.bytes views history s seat v tells at all
 
-  pub legal-seen : (spends steady : Bool) → IsLegalFrom (record { size = plan.size; first = plan.size.threads; bytes = plan.image.value.bytes; spends = spends; steady = steady }) v.seen
-  legal-seen spends steady = subst (λ (l : List Entry). IsLegalFrom (record { size = plan.size; first = plan.size.threads; bytes = plan.image.value.bytes; spends = spends; steady = steady }) l) (sym all-seen)
-      (legal-tells knows plan.size plan.image.value.bytes views history s plan.size.threads spends steady tells)
+  pub legal-seen : (first spare : ℕ) (spends steady : Bool) → AreBorn first spare history
+      → IsLegalFrom (record { size = plan.size; first = first; spare = spare; bytes = plan.image.value.bytes; spends = spends; steady = steady }) v.seen
+  legal-seen first spare spends steady born =
+      subst (λ (l : List Entry). IsLegalFrom (record { size = plan.size; first = first; spare = spare; bytes = plan.image.value.bytes; spends = spends; steady = steady }) l) (sym all-seen)
+      (legal-tells knows plan.size plan.image.value.bytes views history s first spare spends steady tells born)
 
   pub complete-seen : ((t : ℕ) → knows s t v.doing → s.stage t ≡ rests) → IsComplete v.seen
   complete-seen rest = subst IsComplete (sym all-seen) (complete knows plan.size plan.image.value.bytes views history s seat v tells at all rest)

@@ -6,6 +6,7 @@ use Rattle.std.proofs.lemmas.Bool.{cases_eq}
 use Rattle.atomic_table.proofs.Lists.{at_set, set_here, set_else}
 use Rattle.llsc_base.specs.Sizes.{Numbers}
 use Rattle.history.specs.Parts.{entries_of}
+use Rattle.history.specs.Started.{AreBorn}
 use Rattle.history.specs.Standing.{Standing, standing_after, standing_of}
 use Rattle.history.specs.Follow.{MayFollow}
 use Rattle.history.specs.declared.entry.Entry.{Entry}
@@ -140,6 +141,8 @@ sees-grown origin lead numbers seen history es part has by legal = record {
 }
 
 -- the history is legal
-pub legal-tells : {D : Type 0} (knows : Standing → ℕ → D → Type 0) (size : Numbers) (bytes : List ℕ) (views : List (View D)) (history : List Entry) (s : Standing) (first : ℕ) (spends steady : Bool)
-    → Tells knows size bytes views history s → IsLegalFrom (record { size = size; first = first; bytes = bytes; spends = spends; steady = steady }) history
-legal-tells knows size bytes views history s first spends steady t = record { legal = IsLegal-MayFollow size bytes history t.memory t.follows; known = t.outside }
+pub legal-tells : {D : Type 0} (knows : Standing → ℕ → D → Type 0) (size : Numbers) (bytes : List ℕ) (views : List (View D)) (history : List Entry) (s : Standing) (first spare : ℕ) (spends steady : Bool)
+    → Tells knows size bytes views history s → AreBorn first spare history
+    → IsLegalFrom (record { size = size; first = first; spare = spare; bytes = bytes; spends = spends; steady = steady }) history
+legal-tells knows size bytes views history s first spare spends steady t born =
+    record { legal = IsLegal-MayFollow size bytes history t.memory t.follows; known = t.outside; born = born }

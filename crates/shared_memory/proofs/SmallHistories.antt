@@ -1,17 +1,18 @@
 -- Histories of the worked cases: those that are legal from a small memory's first bytes on, and where their entries stand.
-use Rattle.std.proofs.Common.{◌≡◌, ◌==◌, ◌<◌, ◌≤◌, ℕ, zero, suc, ◌⊎◌, Bool, false, true, List, [], ◌∷◌, ◌++◌, length, nat_lt, replicate, refl, ap, sym, subst, arith, inl, inr, length-append}
+use Rattle.std.proofs.Common.{◌≡◌, ◌==◌, ◌<◌, ◌≤◌, ℕ, zero, suc, ◌⊎◌, Bool, false, true, List, [], ◌∷◌, ◌++◌, length, replicate, refl, ap, sym, subst, arith, inl, inr, length-append}
 use Rattle.std.specs.List.{list_all}
 use Rattle.std.proofs.lemmas.Bool.{and_parts, cases_eq, ltb-true, ne_eqb}
 use Rattle.history.specs.ArmLegal.{IsArmLegal}
+use Rattle.history.specs.Cause.{HasCause}
 use Rattle.history.specs.Entry.{thread_of}
 use Rattle.history.specs.Legal.{IsLegal}
 use Rattle.history.specs.Monitor.{at_rest}
-use Rattle.history.specs.Operation.{AreOperations, load_watched}
+use Rattle.history.specs.Operation.{AreOperations, load_watched, start}
 use Rattle.history.specs.Parts.{accesses_of, entries_of}
 use Rattle.history.specs.Worked.{small_machine, word}
 use Rattle.history.specs.declared.entry.Entry.{Entry}
-use Rattle.history.specs.declared.entry.Entry.TheVariants.{Read, Watch}
-use Rattle.history.proofs.SmallHistories.{is_quiet, quiet_causes}
+use Rattle.history.specs.declared.entry.Entry.TheVariants.{Read, Watch, Start}
+use Rattle.history.proofs.SmallHistories.{is_of_first, is_quiet, quiet_born, quiet_causes}
 use Rattle.shared_memory.specs.Origin.{IsLegalFrom}
 use Rattle.shared_memory.specs.Seen.{IsFront}
 use Rattle.shared_memory.specs.Worked.{made}
@@ -22,7 +23,7 @@ nothing thread = record { missing = []; finished = record { operations = []; are
 
 -- an entry of one of the two threads
 abbrev pub is_of_both : Entry → Bool
-is_of_both entry = nat_lt (thread_of entry) 2
+is_of_both entry = is_of_first 2 entry
 
 -- no other has any
 of_others : (thread : ℕ) (history : List Entry) → list_all is_of_both history ≡ true → 2 ≤ thread → entries_of thread history ≡ []
@@ -40,6 +41,7 @@ pub legal_from : (history : List Entry) → list_all is_of_both history ≡ true
 legal_from history both quiet allowed zeroth first = record {
   legal = record { accesses = allowed; operations = operations; causes = quiet_causes (small_machine 1) history quiet };
   known = λ thread above. of_others thread history both above;
+  born = quiet_born 2 0 history quiet both;
 }
   where
     operations : (thread : ℕ) → AreOperations thread (entries_of thread history)
@@ -62,6 +64,23 @@ third_legal = record { accesses = tt; operations = operations; causes = quiet_ca
           (record { missing = Read 2 word 0 true ∷ []; finished = record { operations = load_watched word 0 ∷ []; are = refl } })
       | inr other ↦ rw (ne_eqb 2 thread other) (nothing thread)
     ]
+
+-- a thread of the two starts another, and nothing else has come
+abbrev pub start_of_a_third : List Entry
+start_of_a_third = Start 0 2 4096 7 ∷ []
+
+-- it is legal, but for its having none to start
+pub start_legal : IsLegal (small_machine 1) [] start_of_a_third
+start_legal = record { accesses = tt; operations = operations; causes = causes }
+  where
+    operations : (thread : ℕ) → AreOperations thread (entries_of thread start_of_a_third)
+    operations zero = record { missing = []; finished = record { operations = start 2 4096 7 ∷ []; are = refl } }
+    operations (suc thread) = rw (ne_eqb 0 (suc thread) (λ same. let f : ⊥ = cc in f)) (nothing (suc thread))
+
+    causes : (past : List Entry) (entry : Entry) (rest : List Entry) → start_of_a_third ≡ past ++ (entry ∷ rest) → HasCause (small_machine 1) past entry
+    causes [] entry rest same = let is : Start 0 2 4096 7 ≡ entry = cc in subst (HasCause (small_machine 1) []) is tt
+    causes (first ∷ []) entry rest same = absurd (let f : ⊥ = cc in f)
+    causes (first ∷ next ∷ past) entry rest same = absurd (let f : ⊥ = cc in f)
 
 -- ---- where an entry stands
 

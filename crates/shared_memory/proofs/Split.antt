@@ -12,7 +12,7 @@ use Rattle.history.specs.Reservation.{reserved_since}
 use Rattle.history.specs.Since.{Since, or_here, since_last, watch_of}
 use Rattle.history.specs.Standing.{Standing, rests, standing_after, standing_of}
 use Rattle.history.specs.declared.entry.Entry.{Entry}
-use Rattle.history.specs.declared.entry.Entry.TheVariants.{Read, Write, Fail, Clear, Watch, Miss, Begin, End}
+use Rattle.history.specs.declared.entry.Entry.TheVariants.{Read, Write, Fail, Clear, Watch, Miss, Begin, End, Start}
 use Rattle.history.proofs.Stages.{last_stage, last_stage-standing}
 use Rattle.history.proofs.Steps.{reservation_of-standing}
 use Rattle.shared_memory.specs.declared.views.View.{View}
@@ -34,6 +34,7 @@ other-watch t (Clear thread) other = refl
 other-watch t (Miss thread place) other = refl
 other-watch t (Begin thread place) other = refl
 other-watch t (End thread place) other = refl
+other-watch t (Start thread child entry arg) other = refl
 
 no-watch : (t : ℕ) (history : List Entry) → entries_of t history ≡ [] → since_last (watch_of t) history ≡ None
 no-watch t [] none = refl

@@ -22,7 +22,7 @@ ask origin place value = record { origin = origin; place = place; value = value 
 
 -- where a call doesn't say what it is about
 abbrev pub no_ask : Ask
-no_ask = ask (record { size = record { mem = 0; threads = 0; classes = 0; limit = 0; granule = 0 }; first = 0; bytes = []; spends = false; steady = false }) (record { addr = 0; size = B1 }) 0
+no_ask = ask (record { size = record { mem = 0; threads = 0; classes = 0; limit = 0; granule = 0 }; first = 0; spare = 0; bytes = []; spends = false; steady = false }) (record { addr = 0; size = B1 }) 0
 
 -- a seat, with what it knows
 abbrev pub SeatOf : Type 0 → Type 0

@@ -5,9 +5,9 @@ use Rattle.history.specs.Worked.{small_machine}
 use Rattle.shared_memory.specs.Origin.{Origin}
 
 -- a memory of 32 bytes that are 0, which counts the writes of its classes or doesn't, and of which it isn't said that a
--- store-exclusive loses to nothing but writes
+-- store-exclusive loses to nothing but writes; none of its two threads may start others
 abbrev pub made : Numbers → Bool → Origin
-made size spends = record { size = size; first = 2; bytes = replicate 32 0; spends = spends; steady = false }
+made size spends = record { size = size; first = 2; spare = 0; bytes = replicate 32 0; spends = spends; steady = false }
 
 -- a small machine of two threads with so many classes, each of which takes so many writes
 abbrev pub limited_machine : (classes limit : ℕ) → Numbers

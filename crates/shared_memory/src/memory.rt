@@ -10,6 +10,7 @@ ghost use Rattle.history.specs.Legal.{IsComplete};
 ghost use Rattle.history.specs.Monitor.{at_rest_by, monitor_after};
 ghost use Rattle.history.specs.Parts.{accesses_of, entries_of};
 ghost use Rattle.history.specs.Operation.{clear, entries_of_operation, fail, load, load_missed, load_watched, store};
+ghost use Rattle.history.specs.Started.{MayAct};
 ghost use Rattle.history.specs.Steady.{AreSteady};
 ghost use Rattle.history.specs.declared.entry.Cause.{Cause};
 ghost use Rattle.history.specs.declared.entry.Entry.{Entry};
@@ -32,8 +33,9 @@ pub struct Spent {
 /// A memory that threads share while they run on host threads.
 ///
 /// Its accesses make one history, legal by Arm's memory and monitors (DDI 0406C A3.4), and a pass of the memory has seen a
-/// front of it. Each access takes a pass that holds one thread's number alone; what it adds to what the pass has seen is the
-/// access's own operation, in full, and entries of other threads between.
+/// front of it. Each access takes a pass that holds the number alone of a thread that may act: one that begins by itself, or that
+/// was started in what the pass has seen. What it adds to what the pass has seen is the access's own operation, in full, and
+/// entries of other threads between.
 pub trait SharedMemory: Sync + Drop {
     /// What a thread accesses the memory with.
     type Pass: Send + Drop;
@@ -78,7 +80,7 @@ pub trait SharedMemory: Sync + Drop {
     /// A load: the value of the place, which is aligned and lies in memory, here as below.
     fn load(&self, pass: &mut Self::Pass, place: Place) -> u64
         requires memory { home pass.old ≡ id self.now }
-        requires single { (t : ℕ) × IsSingle t (numbers pass.old) × (t < (origin self.now).first) }
+        requires single { (t : ℕ) × IsSingle t (numbers pass.old) × (MayAct (origin self.now).first t (seen pass.old)) }
         requires aligned { IsTrue (is_aligned place) }
         requires inside { place.addr + size_bytes place.size ≤ (origin self.now).size.mem }
         ensures seen { (t : ℕ) → IsSingle t (numbers pass.old) → Sees (origin self.now) t (seen pass.old) (entries_of_operation t (load place result)) (seen pass.new) }
@@ -100,7 +102,7 @@ pub trait SharedMemory: Sync + Drop {
         value: u64,
     ) -> Result<(), Spent>
         requires memory { home pass.old ≡ id self.now }
-        requires single { (t : ℕ) × IsSingle t (numbers pass.old) × (t < (origin self.now).first) }
+        requires single { (t : ℕ) × IsSingle t (numbers pass.old) × (MayAct (origin self.now).first t (seen pass.old)) }
         requires aligned { IsTrue (is_aligned place) }
         requires inside { place.addr + size_bytes place.size ≤ (origin self.now).size.mem }
         requires fits { value < 256 ^ size_bytes place.size }
@@ -114,7 +116,7 @@ pub trait SharedMemory: Sync + Drop {
     /// another thread in the class of the row is in flight. It may wait for other threads.
     fn load_ex<R: Wait>(&self, rt: &R, pass: &mut Self::Pass, place: Place) -> u64
         requires memory { home pass.old ≡ id self.now }
-        requires single { (t : ℕ) × IsSingle t (numbers pass.old) × (t < (origin self.now).first) }
+        requires single { (t : ℕ) × IsSingle t (numbers pass.old) × (MayAct (origin self.now).first t (seen pass.old)) }
         requires aligned { IsTrue (is_aligned place) }
         requires inside { place.addr + size_bytes place.size ≤ (origin self.now).size.mem }
         ensures seen { (t : ℕ) → IsSingle t (numbers pass.old)
@@ -128,7 +130,7 @@ pub trait SharedMemory: Sync + Drop {
     /// failed stores nothing, and has its cause in what was seen. It may wait for other threads.
     fn store_ex<R: Wait>(&self, rt: &R, pass: &mut Self::Pass, place: Place, value: u64) -> bool
         requires memory { home pass.old ≡ id self.now }
-        requires single { (t : ℕ) × IsSingle t (numbers pass.old) × (t < (origin self.now).first) }
+        requires single { (t : ℕ) × IsSingle t (numbers pass.old) × (MayAct (origin self.now).first t (seen pass.old)) }
         requires aligned { IsTrue (is_aligned place) }
         requires inside { place.addr + size_bytes place.size ≤ (origin self.now).size.mem }
         requires fits { value < 256 ^ size_bytes place.size }
@@ -140,7 +142,7 @@ pub trait SharedMemory: Sync + Drop {
     /// CLREX: the thread holds no reservation from now on.
     fn clear_ex(&self, pass: &mut Self::Pass)
         requires memory { home pass.old ≡ id self.now }
-        requires single { (t : ℕ) × IsSingle t (numbers pass.old) × (t < (origin self.now).first) }
+        requires single { (t : ℕ) × IsSingle t (numbers pass.old) × (MayAct (origin self.now).first t (seen pass.old)) }
         ensures seen { (t : ℕ) → IsSingle t (numbers pass.old) → Sees (origin self.now) t (seen pass.old) (entries_of_operation t clear) (seen pass.new) }
         ensures memory { home pass.new ≡ home pass.old }
         ensures numbers { numbers pass.new ≡ numbers pass.old };

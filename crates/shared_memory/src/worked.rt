@@ -55,12 +55,14 @@ pub fn what_is_said_of_threads()
     ensures of_a_mark { ¬ SaysAllOf (alone 0) (Entry.Clear 0 ∷ []) (Entry.Clear 0 ∷ Entry.Watch 0 word ∷ []) }
 {}
 
-/// A memory's history is legal, and its threads are the machine's.
+/// A memory's history is legal, its threads are the machine's, and where none is spare no thread is started.
 pub fn histories_of_a_memory()
     ensures known { IsLegalFrom (made (small_machine 1) true) (Entry.Watch 1 word ∷ []) }
     ensures unknown { ¬ IsLegalFrom (made (small_machine 1) true) (Entry.Watch 2 word ∷ []) }
     ensures unknown_but_legal { IsLegal (small_machine 1) [] (Entry.Watch 2 word ∷ []) }
     ensures not_legal { ¬ IsLegalFrom (made (small_machine 1) true) (Entry.Write 0 word 9 false ∷ []) }
+    ensures none_spare { ¬ IsLegalFrom (made (small_machine 1) true) (Entry.Start 0 2 4096 7 ∷ []) }
+    ensures none_spare_but_legal { IsLegal (small_machine 1) [] (Entry.Start 0 2 4096 7 ∷ []) }
 {}
 
 /// A pass sees more where the history goes on behind what it had seen, with just these entries of the thread, marks too, and

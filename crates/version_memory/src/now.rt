@@ -4,6 +4,7 @@ ghost use Rattle.std.specs.Bool.{OnFalse, OnTrue};
 ghost use Rattle.llsc_base.specs.Memory.{is_aligned, size_bytes};
 ghost use Rattle.history.specs.Operation.{entries_of_operation, fail, load_missed, load_watched, store};
 ghost use Rattle.history.specs.declared.entry.Cause.{Cause};
+ghost use Rattle.history.specs.Started.{MayAct};
 ghost use Rattle.shared_memory.specs.Seen.{IsSingle, Sees};
 ghost use Rattle.version_rule.specs.Exact.{IsUndisturbed};
 ghost use Rattle.version_memory.specs.Exact.{HasFailedAt};
@@ -29,7 +30,7 @@ impl VersionMemory {
         looks: u32,
     ) -> (u64, bool)
         requires memory { pass_home pass.old ≡ memory_id self.now }
-        requires single { (t : ℕ) × IsSingle t (pass_numbers pass.old) × (t < (memory_origin self.now).first) }
+        requires single { (t : ℕ) × IsSingle t (pass_numbers pass.old) × (MayAct (memory_origin self.now).first t (pass_seen pass.old)) }
         requires aligned { IsTrue (is_aligned place) }
         requires inside { place.addr + size_bytes place.size ≤ (memory_origin self.now).size.mem }
         ensures reserved { OnTrue result.1 ((t : ℕ) → IsSingle t (pass_numbers pass.old) → Sees (memory_origin self.now) t (pass_seen pass.old) (entries_of_operation t (load_watched place result.0)) (pass_seen pass.new)) }
@@ -56,7 +57,7 @@ impl VersionMemory {
     /// unless a write of another thread in the class of the row is in flight.
     pub fn load_ex_now(&self, pass: &mut VersionPass, place: Place) -> (u64, bool)
         requires memory { pass_home pass.old ≡ memory_id self.now }
-        requires single { (t : ℕ) × IsSingle t (pass_numbers pass.old) × (t < (memory_origin self.now).first) }
+        requires single { (t : ℕ) × IsSingle t (pass_numbers pass.old) × (MayAct (memory_origin self.now).first t (pass_seen pass.old)) }
         requires aligned { IsTrue (is_aligned place) }
         requires inside { place.addr + size_bytes place.size ≤ (memory_origin self.now).size.mem }
         ensures reserved { OnTrue result.1 ((t : ℕ) → IsSingle t (pass_numbers pass.old) → Sees (memory_origin self.now) t (pass_seen pass.old) (entries_of_operation t (load_watched place result.0)) (pass_seen pass.new)) }
@@ -73,7 +74,7 @@ impl VersionMemory {
     /// since, and the class may take another.
     pub fn store_ex_now(&self, pass: &mut VersionPass, place: Place, value: u64) -> bool
         requires memory { pass_home pass.old ≡ memory_id self.now }
-        requires single { (t : ℕ) × IsSingle t (pass_numbers pass.old) × (t < (memory_origin self.now).first) }
+        requires single { (t : ℕ) × IsSingle t (pass_numbers pass.old) × (MayAct (memory_origin self.now).first t (pass_seen pass.old)) }
         requires aligned { IsTrue (is_aligned place) }
         requires inside { place.addr + size_bytes place.size ≤ (memory_origin self.now).size.mem }
         requires fits { value < 256 ^ size_bytes place.size }

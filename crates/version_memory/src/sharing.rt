@@ -5,6 +5,7 @@ ghost use Rattle.std.specs.Result.{OnOk};
 ghost use Rattle.llsc_base.specs.Memory.{is_aligned, size_bytes};
 ghost use Rattle.history.specs.Operation.{entries_of_operation, fail, store};
 ghost use Rattle.history.specs.declared.entry.Cause.{Cause};
+ghost use Rattle.history.specs.Started.{MayAct};
 ghost use Rattle.shared_memory.specs.Seen.{IsSingle, IsUsedUp, Sees};
 ghost use Rattle.version_rule.specs.Exact.{IsSpent, IsUndisturbed};
 ghost use Rattle.version_memory.specs.Exact.{HasFailedAt};
@@ -115,7 +116,7 @@ impl SharedMemory for VersionMemory {
         value: u64,
     ) -> Result<(), Spent>
         requires memory { pass_home pass.old ≡ memory_id self.now }
-        requires single { (t : ℕ) × IsSingle t (pass_numbers pass.old) × (t < (memory_origin self.now).first) }
+        requires single { (t : ℕ) × IsSingle t (pass_numbers pass.old) × (MayAct (memory_origin self.now).first t (pass_seen pass.old)) }
         requires aligned { IsTrue (is_aligned place) }
         requires inside { place.addr + size_bytes place.size ≤ (memory_origin self.now).size.mem }
         requires fits { value < 256 ^ size_bytes place.size }
@@ -141,7 +142,7 @@ impl SharedMemory for VersionMemory {
     // It succeeds exactly where its thread is undisturbed.
     fn store_ex<R: Wait>(&self, rt: &R, pass: &mut VersionPass, place: Place, value: u64) -> bool
         requires memory { pass_home pass.old ≡ memory_id self.now }
-        requires single { (t : ℕ) × IsSingle t (pass_numbers pass.old) × (t < (memory_origin self.now).first) }
+        requires single { (t : ℕ) × IsSingle t (pass_numbers pass.old) × (MayAct (memory_origin self.now).first t (pass_seen pass.old)) }
         requires aligned { IsTrue (is_aligned place) }
         requires inside { place.addr + size_bytes place.size ≤ (memory_origin self.now).size.mem }
         requires fits { value < 256 ^ size_bytes place.size }

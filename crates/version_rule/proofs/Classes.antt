@@ -8,7 +8,7 @@ use Rattle.history.specs.Standing.{Standing, begun, joined, rests, written}
 use Rattle.history.specs.Follow.{MayJoin, flight_at}
 use Rattle.history.specs.declared.entry.Cause.TheVariants.{Lost}
 use Rattle.history.specs.declared.entry.Entry.{Entry}
-use Rattle.history.specs.declared.entry.Entry.TheVariants.{Read, Write, Fail, Clear, Watch, Miss, Begin, End}
+use Rattle.history.specs.declared.entry.Entry.TheVariants.{Read, Write, Fail, Clear, Watch, Miss, Begin, End, Start}
 use Rattle.history.proofs.Marks.{updated-other, updated-same}
 use Rattle.history.proofs.Stages.{MayJoin-stage, stage_after, stage_before}
 use Rattle.version_rule.specs.Hands.{class_at}
@@ -187,3 +187,4 @@ classes-joined size s (Miss t p) may orderly k = classes-still size s (Miss t p)
 classes-joined size s (Begin t p) may orderly k = classes-begin size s t p may orderly.0 orderly.1 k
 classes-joined size s (Write t p value ex) may orderly k = classes-write size s t p value ex may.0 k
 classes-joined size s (End t p) may orderly k = classes-end size s t p may orderly k
+classes-joined size s (Start t child entry arg) may orderly k = classes-still size s (Start t child entry arg) may refl refl refl refl refl k

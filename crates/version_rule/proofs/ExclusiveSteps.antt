@@ -30,7 +30,7 @@ use Rattle.version_rule.specs.Told.{HasLost, IsDisturbed, IsUndisturbedAt, Mine,
 use Rattle.version_rule.proofs.Classes.{IsOrderly, flies-none}
 use Rattle.version_rule.proofs.Facts.{as-found, cell-is, known, lead-below, overtaken-is, reserved-is, sound, stirred-is, tag-is, writes-is}
 use Rattle.version_rule.proofs.Laid.{laid-same, laid-tag}
-use Rattle.version_rule.proofs.Moves.{decides, moves-none, moves-one, told-none, told-one}
+use Rattle.version_rule.proofs.Moves.{acts, decides, moves-none, moves-one, told-none, told-one}
 use Rattle.version_rule.proofs.Own.{own-claim_ex, own-clear, own-fail, own-miss, own-read_ex, own-watch}
 
 odd-of : (n : ℕ) → n % 2 ≢ 0 → n % 2 ≡ 1
@@ -58,9 +58,9 @@ module _ (plan : Plan) where
               w,
               keeps,
               tt,
-              as-found plan s.words i (set s.views seat w) (moves-one plan s.words s.views k seat v at single e refl stage tt s.words h after
+              as-found plan s.words i (set s.views seat w) (moves-one plan s.words s.views k seat v at single e refl (acts plan s.words s.views k seat v at single) stage tt s.words h after
                   (laid-same plan.size s.words k.standing (joined plan.size k.standing e) refl refl k.laid)),
-              ((λ is. told-one plan s.words s.views k seat v at single e refl stage tt h me.1 after), (λ not. absurd (not even)), most),
+              ((λ is. told-one plan s.words s.views k seat v at single e refl (acts plan s.words s.views k seat v at single) stage tt h me.1 after), (λ not. absurd (not even)), most),
             )
         | inr odd ↦
             let e = Miss v.lead p in
@@ -83,9 +83,9 @@ module _ (plan : Plan) where
               w,
               keeps,
               tt,
-              as-found plan s.words i (set s.views seat w) (moves-one plan s.words s.views k seat v at single e refl may tt s.words h after
+              as-found plan s.words i (set s.views seat w) (moves-one plan s.words s.views k seat v at single e refl (acts plan s.words s.views k seat v at single) may tt s.words h after
                   (laid-same plan.size s.words k.standing (joined plan.size k.standing e) refl refl k.laid)),
-              ((λ is. absurd (odd is)), (λ not. told-one plan s.words s.views k seat v at single e refl may tt h me.1 after), most),
+              ((λ is. absurd (odd is)), (λ not. told-one plan s.words s.views k seat v at single e refl (acts plan s.words s.views k seat v at single) may tt h me.1 after), most),
             )
       ]
 
@@ -110,9 +110,9 @@ module _ (plan : Plan) where
               w,
               keeps,
               tt,
-              as-found plan s.words i (set s.views seat w) (moves-one plan s.words s.views k seat v at single e refl stage tt s.words h after
+              as-found plan s.words i (set s.views seat w) (moves-one plan s.words s.views k seat v at single e refl (acts plan s.words s.views k seat v at single) stage tt s.words h after
                   (laid-same plan.size s.words k.standing (joined plan.size k.standing e) refl refl k.laid)),
-              ((λ is. told-one plan s.words s.views k seat v at single e refl stage tt h me.1 after), (λ not. absurd (not even)), most),
+              ((λ is. told-one plan s.words s.views k seat v at single e refl (acts plan s.words s.views k seat v at single) stage tt h me.1 after), (λ not. absurd (not even)), most),
             )
         | inr odd ↦
             let w = moved v k.history [] v.doing in (
@@ -144,9 +144,9 @@ module _ (plan : Plan) where
         w,
         keeps,
         tt,
-        as-found plan s.words i (set s.views seat w) (moves-one plan s.words s.views k seat v at single e refl may tt s.words h after
+        as-found plan s.words i (set s.views seat w) (moves-one plan s.words s.views k seat v at single e refl (acts plan s.words s.views k seat v at single) may tt s.words h after
             (laid-same plan.size s.words k.standing (joined plan.size k.standing e) refl refl k.laid)),
-        told-one plan s.words s.views k seat v at single e refl may tt h me.1 after,
+        told-one plan s.words s.views k seat v at single e refl (acts plan s.words s.views k seat v at single) may tt h me.1 after,
       )
 
   room-of : (n version limit : ℕ) → 2 * n ≡ version → version < 2 * limit → n < limit
@@ -196,12 +196,12 @@ module _ (plan : Plan) where
               keeps,
               tt,
               subst (λ b. Kept plan (set s.words i (either b (version + 1) n)) (set s.views seat w)) (sym (eq-eqb n version hit))
-                  (moves-one plan s.words s.views k seat v at single begin refl knows.at orderly (set s.words i (version + 1)) won after
+                  (moves-one plan s.words s.views k seat v at single begin refl (acts plan s.words s.views k seat v at single) knows.at orderly (set s.words i (version + 1)) won after
                   (subst (λ (m : ℕ). IsLaid plan.size (set s.words i (m + 1)) (joined plan.size k.standing begin)) is
                   (laid-tag plan.size s.words k.standing (joined plan.size k.standing begin) class (k.standing.edges class + 1) below refl refl k.laid))),
               (
                 (λ hit'. decides plan s.words s.views k seat v at single (begin ∷ []) won me.1 (IsUndisturbedAt (ask (origin_of plan) p value) v.lead version) fact
-                    (told-one plan s.words s.views k seat v at single begin refl knows.at orderly won me.1 after)),
+                    (told-one plan s.words s.views k seat v at single begin refl (acts plan s.words s.views k seat v at single) knows.at orderly won me.1 after)),
                 λ not. absurd (not hit),
               ),
             )
@@ -221,12 +221,12 @@ module _ (plan : Plan) where
               keeps,
               tt,
               subst (λ b. Kept plan (set s.words i (either b (version + 1) n)) (set s.views seat w)) (sym (ne_eqb n version miss))
-                  (as-found plan s.words i (set s.views seat w) (moves-one plan s.words s.views k seat v at single fail refl may gone s.words lost after
+                  (as-found plan s.words i (set s.views seat w) (moves-one plan s.words s.views k seat v at single fail refl (acts plan s.words s.views k seat v at single) may gone s.words lost after
                   (laid-same plan.size s.words k.standing (joined plan.size k.standing fail) refl refl k.laid))),
               (
                 (λ hit. absurd (miss hit)),
                 λ not. decides plan s.words s.views k seat v at single (fail ∷ []) lost me.1 (HasLost (ask (origin_of plan) p value) v.lead) fact
-                    (told-one plan s.words s.views k seat v at single fail refl may gone lost me.1 after),
+                    (told-one plan s.words s.views k seat v at single fail refl (acts plan s.words s.views k seat v at single) may gone lost me.1 after),
               ),
             )
       ]
@@ -255,10 +255,10 @@ module _ (plan : Plan) where
         w,
         keeps,
         tt,
-        as-found plan s.words 0 (set s.views seat w) (moves-one plan s.words s.views k seat v at single e refl may tt s.words h after
+        as-found plan s.words 0 (set s.views seat w) (moves-one plan s.words s.views k seat v at single e refl (acts plan s.words s.views k seat v at single) may tt s.words h after
             (laid-same plan.size s.words k.standing (joined plan.size k.standing e) refl refl k.laid)),
         decides plan s.words s.views k seat v at single (e ∷ []) h me.1 (IsDisturbed (ask (origin_of plan) p value) v.lead) fact
-            (told-one plan s.words s.views k seat v at single e refl may tt h me.1 after),
+            (told-one plan s.words s.views k seat v at single e refl (acts plan s.words s.views k seat v at single) may tt h me.1 after),
       )
 
   limit-of : (n version limit : ℕ) → 2 * n ≡ version → version ≡ 2 * limit → n ≡ limit
@@ -292,10 +292,10 @@ module _ (plan : Plan) where
         w,
         keeps,
         tt,
-        as-found plan s.words 0 (set s.views seat w) (moves-one plan s.words s.views k seat v at single e refl may tt s.words h after
+        as-found plan s.words 0 (set s.views seat w) (moves-one plan s.words s.views k seat v at single e refl (acts plan s.words s.views k seat v at single) may tt s.words h after
             (laid-same plan.size s.words k.standing (joined plan.size k.standing e) refl refl k.laid)),
         decides plan s.words s.views k seat v at single (e ∷ []) h me.1 (IsDisturbed (ask (origin_of plan) p value) v.lead) fact
-            (told-one plan s.words s.views k seat v at single e refl may tt h me.1 after),
+            (told-one plan s.words s.views k seat v at single e refl (acts plan s.words s.views k seat v at single) may tt h me.1 after),
       )
 
   -- CLREX
@@ -313,7 +313,7 @@ module _ (plan : Plan) where
         w,
         keeps,
         tt,
-        as-found plan s.words 0 (set s.views seat w) (moves-one plan s.words s.views k seat v at single e refl may tt s.words h after
+        as-found plan s.words 0 (set s.views seat w) (moves-one plan s.words s.views k seat v at single e refl (acts plan s.words s.views k seat v at single) may tt s.words h after
             (laid-same plan.size s.words k.standing (joined plan.size k.standing e) refl refl k.laid)),
-        told-one plan s.words s.views k seat v at single e refl may tt h me.1 after,
+        told-one plan s.words s.views k seat v at single e refl (acts plan s.words s.views k seat v at single) may tt h me.1 after,
       )

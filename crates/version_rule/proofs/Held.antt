@@ -10,7 +10,7 @@ use Rattle.history.specs.Entry.{thread_of}
 use Rattle.history.specs.Standing.{Standing, joined}
 use Rattle.history.specs.Follow.{MayJoin, flight_at}
 use Rattle.history.specs.declared.entry.Entry.{Entry}
-use Rattle.history.specs.declared.entry.Entry.TheVariants.{Read, Write, Fail, Clear, Watch, Miss, Begin, End}
+use Rattle.history.specs.declared.entry.Entry.TheVariants.{Read, Write, Fail, Clear, Watch, Miss, Begin, End, Start}
 use Rattle.history.proofs.Marks.{updated-other, updated-same}
 use Rattle.version_rule.specs.Hands.{class_at}
 use Rattle.version_rule.specs.Kept.{AreClasses}
@@ -40,6 +40,7 @@ edges-grow size s (End t p) c = elim (cases_eq c (class_at size p)) [
       (subst (λ (d : ℕ). s.edges c ≤ s.edges d + 1) same (omega arith))
   | inr other ↦ subst (λ (n : ℕ). s.edges c ≤ n) (sym (updated-other s.edges (class_at size p) (s.edges (class_at size p) + 1) c other)) (omega arith)
 ]
+edges-grow size s (Start t child entry arg) c = omega arith
 
 module _ (size : Numbers) (s : Standing) (k : AreClasses size s) where
   -- what another thread writes is of another class
@@ -54,6 +55,7 @@ module _ (size : Numbers) (s : Standing) (k : AreClasses size s) where
   held-edges (Write t p value ex) u c ne may orderly flies = refl
   held-edges (Fail t p value cause) u c ne may orderly flies = refl
   held-edges (Clear t) u c ne may orderly flies = refl
+  held-edges (Start t child entry arg) u c ne may orderly flies = refl
   held-edges (Watch t p) u c ne may orderly flies = refl
   held-edges (Miss t p) u c ne may orderly flies = refl
   held-edges (Begin t p) u c ne may orderly flies = updated-other s.edges (class_at size p) (s.edges (class_at size p) + 1) c
@@ -65,6 +67,7 @@ module _ (size : Numbers) (s : Standing) (k : AreClasses size s) where
   held-writes (Write t p value ex) u c ne may flies = updated-other s.writes (class_at size p) (s.writes (class_at size p) + 1) c (elsewhere u t c p ne flies (ap flight_at may.0))
   held-writes (Fail t p value cause) u c ne may flies = refl
   held-writes (Clear t) u c ne may flies = refl
+  held-writes (Start t child entry arg) u c ne may flies = refl
   held-writes (Watch t p) u c ne may flies = refl
   held-writes (Miss t p) u c ne may flies = refl
   held-writes (Begin t p) u c ne may flies = refl
@@ -76,6 +79,7 @@ module _ (size : Numbers) (s : Standing) (k : AreClasses size s) where
       (λ same. elsewhere u t (class_at size q) p ne flies (ap flight_at may.0) (class-same_cell size q p same))
   held-cell (Fail t p value cause) u q ne may flies = refl
   held-cell (Clear t) u q ne may flies = refl
+  held-cell (Start t child entry arg) u q ne may flies = refl
   held-cell (Watch t p) u q ne may flies = refl
   held-cell (Miss t p) u q ne may flies = refl
   held-cell (Begin t p) u q ne may flies = refl
@@ -91,6 +95,7 @@ module _ (size : Numbers) (s : Standing) (k : AreClasses size s) where
       other-row u t p value ex row ne (λ same. elsewhere u t (class_of size.classes row) p ne flies (ap flight_at may.0) (sym same)) marked
   held-mark (Fail t p value cause) u row ne may flies marked = mark-other size s (Fail t p value cause) u ne refl ∙ marked
   held-mark (Clear t) u row ne may flies marked = mark-other size s (Clear t) u ne refl ∙ marked
+  held-mark (Start t child entry arg) u row ne may flies marked = mark-other size s (Start t child entry arg) u ne refl ∙ marked
   held-mark (Watch t p) u row ne may flies marked = mark-other size s (Watch t p) u ne refl ∙ marked
   held-mark (Miss t p) u row ne may flies marked = mark-other size s (Miss t p) u ne refl ∙ marked
   held-mark (Begin t p) u row ne may flies marked = mark-other size s (Begin t p) u ne refl ∙ marked
@@ -108,6 +113,7 @@ module _ (size : Numbers) (s : Standing) (k : AreClasses size s) where
   ]
   found-cell (Fail t p value cause) q version cell may even most known is = known is
   found-cell (Clear t) q version cell may even most known is = known is
+  found-cell (Start t child entry arg) q version cell may even most known is = known is
   found-cell (Watch t p) q version cell may even most known is = known is
   found-cell (Miss t p) q version cell may even most known is = known is
   found-cell (Begin t p) q version cell may even most known is = let grow = edges-grow size s (Begin t p) (class_at size q) in known (between (s.edges (class_at size q)) ((joined size s (Begin t p)).edges (class_at size q)) version grow most is)

@@ -1,9 +1,10 @@
 -- A seat's step: from what is kept before it to what is kept after it, and what is told.
-use Rattle.std.proofs.Common.{◌≡◌, ◌≢◌, ℕ, true, List, [], ◌∷◌, ◌++◌, set, refl, sym, ap, ◌∙◌}
+use Rattle.std.proofs.Common.{◌≡◌, ◌≢◌, ℕ, true, List, [], ◌∷◌, ◌++◌, set, refl, sym, ap, ◌∙◌, inl}
 use mathlib.Core.Option.{some}
 use lib.ListN.{get_elem?}
 use Rattle.history.specs.Entry.{thread_of}
 use Rattle.history.specs.Standing.{Standing, joined, standing_after, standing_of}
+use Rattle.history.specs.Started.{AreBorn, MayAct, MayStand}
 use Rattle.history.specs.Steady.{AreSteady, IsSteady}
 use Rattle.history.specs.Follow.{MayFollow, MayJoin}
 use Rattle.history.specs.declared.entry.Entry.{Entry}
@@ -27,45 +28,57 @@ use Rattle.version_rule.proofs.Steady.{steady-joins}
 module _ (plan : Plan) (words : List ℕ) (views : List (View Hand)) (k : Kept plan words views) (seat : ℕ) (v : View Hand) (at : get_elem? views seat ≡ some v)
     (single : IsSingle v.lead (marked v.numbers)) where
   -- what is kept after entries of the seat's thread
-  moves : (words' : List ℕ) (es : List Entry) (h : Hand) → AreBy v.lead es → AreSteady plan.size (k.history ++ es) → MayFollow plan.size k.standing es
+  moves : (words' : List ℕ) (es : List Entry) (h : Hand) → AreBy v.lead es → AreBorn plan.size.threads 0 (k.history ++ es) → AreSteady plan.size (k.history ++ es) → MayFollow plan.size k.standing es
       → Knows plan.size (standing_after plan.size k.standing es) v.lead h
       → ((j : ℕ) (w : View Hand) → j ≢ seat → get_elem? views j ≡ some w → (u : ℕ) → IsOneOf u (marked w.numbers) → u ≢ v.lead → Knows plan.size k.standing u w.doing
       → Knows plan.size (standing_after plan.size k.standing es) u w.doing)
       → IsLaid plan.size words' (standing_after plan.size k.standing es)
       → AreClasses plan.size (standing_after plan.size k.standing es)
       → Kept plan words' (set views seat (moved v k.history es h))
-  moves words' es h by steady may known frame laid classes = record {
+  moves words' es h by born steady may known frame laid classes = record {
     history = k.history ++ es;
     standing = standing_after plan.size k.standing es;
+    born = born;
     steady = steady;
     tells = grown (Knows plan.size) plan.size plan.image.value.bytes views k.history es k.standing (standing_after plan.size k.standing es) seat v h k.tells at single by may refl known frame;
     laid = laid;
     classes = classes;
   }
 
-  told : (es : List Entry) (h : Hand) (slots : List (ℕ × Unit {0})) → AreBy v.lead es → MayFollow plan.size k.standing es
+  told : (es : List Entry) (h : Hand) (slots : List (ℕ × Unit {0})) → AreBy v.lead es → AreBorn plan.size.threads 0 (k.history ++ es) → MayFollow plan.size k.standing es
       → Knows plan.size (standing_after plan.size k.standing es) v.lead h
       → ((j : ℕ) (w : View Hand) → j ≢ seat → get_elem? views j ≡ some w → (u : ℕ) → IsOneOf u (marked w.numbers) → u ≢ v.lead → Knows plan.size k.standing u w.doing
       → Knows plan.size (standing_after plan.size k.standing es) u w.doing)
       → Goes (origin_of plan) (v, slots) es h (moved v k.history es h, slots)
-  told es h slots by may known frame = goes-grown (Knows plan.size) plan.size plan.image.value.bytes views k.history k.standing seat v k.tells at single plan.size.threads true true es h slots by may known frame
+  told es h slots by born may known frame = goes-grown (Knows plan.size) plan.size plan.image.value.bytes views k.history k.standing seat v k.tells at single plan.size.threads 0 true true es h slots by born may known frame
 
   -- what holds of the history before
   pub decides : (es : List Entry) (h : Hand) (slots : List (ℕ × Unit {0})) (about : List Entry → Type 0) → about k.history
       → Goes (origin_of plan) (v, slots) es h (moved v k.history es h, slots) → Decides (origin_of plan) (v, slots) es about h (moved v k.history es h, slots)
   decides es h slots about fact goes = record { goes = goes; past = k.history; since = (k.tells.each seat v at).part.front; is = refl; fact = fact }
 
+  -- the seat's thread is one of the first
+  pub acts : MayAct plan.size.threads v.lead k.history
+  acts = inl ((k.tells.each seat v at).below v.lead single.has)
+
+  -- no entry more
+  still : AreBorn plan.size.threads 0 (k.history ++ [])
+  still = each-still (MayStand plan.size.threads 0) k.history k.born
+
   -- no entry
   pub moves-none : (words' : List ℕ) (h : Hand) → Knows plan.size k.standing v.lead h → IsLaid plan.size words' k.standing
       → Kept plan words' (set views seat (moved v k.history [] h))
-  moves-none words' h known laid = moves words' [] h (are_by-none v.lead) (each-still (IsSteady plan.size) k.history k.steady) tt known (λ j w ne there u has other knows. knows) laid k.classes
+  moves-none words' h known laid = moves words' [] h (are_by-none v.lead) still (each-still (IsSteady plan.size) k.history k.steady) tt known (λ j w ne there u has other knows. knows) laid k.classes
 
   pub told-none : (h : Hand) (slots : List (ℕ × Unit {0})) → Knows plan.size k.standing v.lead h
       → Goes (origin_of plan) (v, slots) [] h (moved v k.history [] h, slots)
-  told-none h slots known = told [] h slots (are_by-none v.lead) tt known (λ j w ne there u has other knows. knows)
+  told-none h slots known = told [] h slots (are_by-none v.lead) still tt known (λ j w ne there u has other knows. knows)
 
   -- one entry
-  module _ (e : Entry) (own : thread_of e ≡ v.lead) (may : MayJoin plan.size k.standing e) (orderly : IsOrderly plan.size k.standing e) where
+  module _ (e : Entry) (own : thread_of e ≡ v.lead) (stands : MayStand plan.size.threads 0 k.history e) (may : MayJoin plan.size k.standing e) (orderly : IsOrderly plan.size k.standing e) where
+    born-one : AreBorn plan.size.threads 0 (k.history ++ e ∷ [])
+    born-one = each-more (MayStand plan.size.threads 0) k.history e k.born stands
+
     steady-one : IsSteady plan.size k.history e
     steady-one = steady-joins plan.size plan.image.value.bytes k.history k.standing e k.tells.standing_is may orderly
 
@@ -75,14 +88,17 @@ module _ (plan : Plan) (words : List ℕ) (views : List (View Hand)) (k : Kept p
 
     pub moves-one : (words' : List ℕ) (h : Hand) → Knows plan.size (joined plan.size k.standing e) v.lead h → IsLaid plan.size words' (joined plan.size k.standing e)
         → Kept plan words' (set views seat (moved v k.history (e ∷ []) h))
-    moves-one words' h known laid = moves words' (e ∷ []) h (are_by-one e v.lead own) (each-more (IsSteady plan.size) k.history e k.steady steady-one) (may, tt) known frame laid (classes-joined plan.size k.standing e may orderly k.classes)
+    moves-one words' h known laid = moves words' (e ∷ []) h (are_by-one e v.lead own) born-one (each-more (IsSteady plan.size) k.history e k.steady steady-one) (may, tt) known frame laid (classes-joined plan.size k.standing e may orderly k.classes)
 
     pub told-one : (h : Hand) (slots : List (ℕ × Unit {0})) → Knows plan.size (joined plan.size k.standing e) v.lead h
         → Goes (origin_of plan) (v, slots) (e ∷ []) h (moved v k.history (e ∷ []) h, slots)
-    told-one h slots known = told (e ∷ []) h slots (are_by-one e v.lead own) (may, tt) known frame
+    told-one h slots known = told (e ∷ []) h slots (are_by-one e v.lead own) born-one (may, tt) known frame
 
     -- and another
-    module _ (f : Entry) (own_f : thread_of f ≡ v.lead) (may_f : MayJoin plan.size (joined plan.size k.standing e) f) (orderly_f : IsOrderly plan.size (joined plan.size k.standing e) f) where
+    module _ (f : Entry) (own_f : thread_of f ≡ v.lead) (stands_f : MayStand plan.size.threads 0 (k.history ++ e ∷ []) f) (may_f : MayJoin plan.size (joined plan.size k.standing e) f) (orderly_f : IsOrderly plan.size (joined plan.size k.standing e) f) where
+      born-two : AreBorn plan.size.threads 0 (k.history ++ e ∷ f ∷ [])
+      born-two = each-two (MayStand plan.size.threads 0) k.history e f k.born stands stands_f
+
       steady-two : AreSteady plan.size (k.history ++ e ∷ f ∷ [])
       steady-two =
           let bytes = plan.image.value.bytes in
@@ -97,9 +113,9 @@ module _ (plan : Plan) (words : List ℕ) (views : List (View Hand)) (k : Kept p
 
       pub moves-two : (words' : List ℕ) (h : Hand) → Knows plan.size (joined plan.size (joined plan.size k.standing e) f) v.lead h → IsLaid plan.size words' (joined plan.size (joined plan.size k.standing e) f)
           → Kept plan words' (set views seat (moved v k.history (e ∷ f ∷ []) h))
-      moves-two words' h known laid = moves words' (e ∷ f ∷ []) h (are_by-two e f v.lead own own_f) steady-two (may, (may_f, tt)) known frame-two laid
+      moves-two words' h known laid = moves words' (e ∷ f ∷ []) h (are_by-two e f v.lead own own_f) born-two steady-two (may, (may_f, tt)) known frame-two laid
           (classes-joined plan.size (joined plan.size k.standing e) f may_f orderly_f (classes-joined plan.size k.standing e may orderly k.classes))
 
       pub told-two : (h : Hand) (slots : List (ℕ × Unit {0})) → Knows plan.size (joined plan.size (joined plan.size k.standing e) f) v.lead h
           → Goes (origin_of plan) (v, slots) (e ∷ f ∷ []) h (moved v k.history (e ∷ f ∷ []) h, slots)
-      told-two h slots known = told (e ∷ f ∷ []) h slots (are_by-two e f v.lead own own_f) (may, (may_f, tt)) known frame-two
+      told-two h slots known = told (e ∷ f ∷ []) h slots (are_by-two e f v.lead own own_f) born-two (may, (may_f, tt)) known frame-two

@@ -6,6 +6,7 @@ use Rattle.shared_memory.specs.Passes.{first_view}
 use Rattle.shared_memory.proofs.Closed.{opened}
 use Rattle.history.specs.Memory.{IsMemory}
 use Rattle.history.specs.Standing.{standing_of}
+use Rattle.history.specs.Started.{MayStand}
 use Rattle.history.specs.Steady.{IsSteady}
 use Rattle.history.proofs.Cuts.{each-none}
 use Rattle.llsc_base.specs.Sizes.{Numbers}
@@ -34,6 +35,7 @@ pub opens : (plan : Plan) (words : List ℕ) → IsMemory plan.size plan.image.v
 opens plan words memory long zeros cells = record {
   history = [];
   standing = standing_of plan.image.value.bytes;
+  born = each-none (MayStand plan.size.threads 0);
   steady = each-none (IsSteady plan.size);
   tells = opened (Knows plan.size) plan.size plan.image.value.bytes (hand Rest Nothing) memory (λ t. record { at = refl; reserve = refl; agrees = tt });
   laid = record { long = long; first = zeros 0 (omega arith); tags = λ c h. zeros (1 + c) (omega arith); cells = cells };

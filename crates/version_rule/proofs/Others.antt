@@ -8,7 +8,7 @@ use Rattle.history.specs.Entry.{thread_of}
 use Rattle.history.specs.Standing.{Standing, is_of_class, joined, updated}
 use Rattle.history.specs.Follow.{MayJoin, flight_at}
 use Rattle.history.specs.declared.entry.Entry.{Entry}
-use Rattle.history.specs.declared.entry.Entry.TheVariants.{Read, Write, Fail, Clear, Watch, Miss, Begin, End}
+use Rattle.history.specs.declared.entry.Entry.TheVariants.{Read, Write, Fail, Clear, Watch, Miss, Begin, End, Start}
 use Rattle.history.proofs.Marks.{updated-other, updated-same}
 use Rattle.version_rule.specs.declared.hands.Doing.{Doing}
 use Rattle.version_rule.specs.declared.hands.Doing.TheVariants.{Rest, Claimed, Holding, Written, Looking, First, Second}
@@ -153,6 +153,8 @@ module _ (size : Numbers) (s : Standing) (k : AreClasses size s) where
       watches-quiet (Fail t p value cause) u row version ne refl refl (λ h. h) refl (λ h m. mark-other size s (Fail t p value cause) u ne refl ∙ m) w
   watches-other (Clear t) u row version ne may w =
       watches-quiet (Clear t) u row version ne refl refl (λ h. h) refl (λ h m. mark-other size s (Clear t) u ne refl ∙ m) w
+  watches-other (Start t child entry arg) u row version ne may w =
+      watches-quiet (Start t child entry arg) u row version ne refl refl (λ h. h) refl (λ h m. mark-other size s (Start t child entry arg) u ne refl ∙ m) w
   watches-other (Miss t p) u row version ne may w =
       watches-quiet (Miss t p) u row version ne refl refl (λ h. h) refl (λ h m. mark-other size s (Miss t p) u ne refl ∙ m) w
   watches-other (Watch t p) u row version ne may w =

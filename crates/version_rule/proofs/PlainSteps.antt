@@ -28,7 +28,7 @@ use Rattle.version_rule.specs.Told.{Decides, Mine, changed, claimed, released, t
 use Rattle.version_rule.proofs.Classes.{IsOrderly}
 use Rattle.version_rule.proofs.Facts.{as-found, cell-below, cell-is, known, sound, spent, tag-is, writes-is}
 use Rattle.version_rule.proofs.Laid.{laid-cell, laid-same, laid-tag}
-use Rattle.version_rule.proofs.Moves.{decides, moves-none, moves-one, told-none, told-one}
+use Rattle.version_rule.proofs.Moves.{acts, decides, moves-none, moves-one, told-none, told-one}
 use Rattle.version_rule.proofs.Own.{own-change, own-claim, own-read, own-release, own-take}
 
 module _ (plan : Plan) where
@@ -52,9 +52,9 @@ module _ (plan : Plan) where
         keeps,
         tt,
         as-found plan s.words i (set s.views seat (moved v k.history (e ∷ []) v.doing))
-            (moves-one plan s.words s.views k seat v at single e refl may tt s.words v.doing after
+            (moves-one plan s.words s.views k seat v at single e refl (acts plan s.words s.views k seat v at single) may tt s.words v.doing after
             (laid-same plan.size s.words k.standing (joined plan.size k.standing e) refl refl k.laid)),
-        told-one plan s.words s.views k seat v at single e refl may tt v.doing me.1 after,
+        told-one plan s.words s.views k seat v at single e refl (acts plan s.words s.views k seat v at single) may tt v.doing me.1 after,
       )
 
   -- a load of a tag
@@ -99,12 +99,12 @@ module _ (plan : Plan) where
             let is : k.standing.edges class ≡ version = sym tag ∙ hit in
             let after = own-claim plan.size k.standing v.lead p version v.doing.reserve k.classes even is knows in
             let orderly : IsOrderly plan.size k.standing e = (ap (λ (m : ℕ). m % 2) is ∙ even, subst (λ (m : ℕ). m < 2 * plan.size.limit) (sym is) room) in
-            let goes = told-one plan s.words s.views k seat v at single e refl knows.at orderly h me.1 after in (
+            let goes = told-one plan s.words s.views k seat v at single e refl (acts plan s.words s.views k seat v at single) knows.at orderly h me.1 after in (
               w,
               keeps,
               tt,
               subst (λ b. Kept plan (set s.words i (either b (version + 1) n)) (set s.views seat w)) (sym (eq-eqb n version hit))
-                  (moves-one plan s.words s.views k seat v at single e refl knows.at orderly (set s.words i (version + 1)) h after
+                  (moves-one plan s.words s.views k seat v at single e refl (acts plan s.words s.views k seat v at single) knows.at orderly (set s.words i (version + 1)) h after
                   (subst (λ (m : ℕ). IsLaid plan.size (set s.words i (m + 1)) (joined plan.size k.standing e)) is
                   (laid-tag plan.size s.words k.standing (joined plan.size k.standing e) class (k.standing.edges class + 1) below refl refl k.laid))),
               (
@@ -160,12 +160,12 @@ module _ (plan : Plan) where
       let after = own-change plan.size k.standing v.lead p value version ex cell v.doing.reserve knows in
       let may : MayJoin plan.size k.standing e = (knows.at.0.stage, sound plan s.words s.views k seat v at single p value aligned inside fits, knows.at.0.marked) in
       let w = moved v k.history (e ∷ []) h in
-      let goes = told-one plan s.words s.views k seat v at single e refl may tt h me.1 after in
+      let goes = told-one plan s.words s.views k seat v at single e refl (acts plan s.words s.views k seat v at single) may tt h me.1 after in
       let had : IsVersion plan.size p version k.history = ap (λ (m : ℕ). 2 * m) (writes-is plan s.words s.views k p) ∙ knows.at.0.writes in (
         w,
         keeps,
         tt,
-        moves-one plan s.words s.views k seat v at single e refl may tt (set s.words i (cell_with cell p value)) h after
+        moves-one plan s.words s.views k seat v at single e refl (acts plan s.words s.views k seat v at single) may tt (set s.words i (cell_with cell p value)) h after
             (subst (λ (c : ℕ). IsLaid plan.size (set s.words i (cell_with c p value)) (joined plan.size k.standing e)) knows.at.1
             (laid-cell plan.size s.words k.standing (joined plan.size k.standing e) (cell_of p) (cell_with (k.standing.cells (cell_of p)) p value) (cell-below plan s.words s.views k p inside) refl refl k.laid)),
         λ version' ex' cell' holding'.
@@ -196,8 +196,8 @@ module _ (plan : Plan) where
         moved v k.history (e ∷ []) h,
         keeps,
         tt,
-        moves-one plan s.words s.views k seat v at single e refl knows.at.stage orderly (set s.words i (version + 2)) h after
+        moves-one plan s.words s.views k seat v at single e refl (acts plan s.words s.views k seat v at single) knows.at.stage orderly (set s.words i (version + 2)) h after
             (subst (λ (m : ℕ). IsLaid plan.size (set s.words i m) (joined plan.size k.standing e)) over
             (laid-tag plan.size s.words k.standing (joined plan.size k.standing e) class (k.standing.edges class + 1) below refl refl k.laid)),
-        told-one plan s.words s.views k seat v at single e refl knows.at.stage orderly h me.1 after,
+        told-one plan s.words s.views k seat v at single e refl (acts plan s.words s.views k seat v at single) knows.at.stage orderly h me.1 after,
       )

@@ -32,6 +32,7 @@ module _ (plan : Plan) where
   splits seat v t lead left right has fresh s k at = record {
     history = k.history;
     standing = k.standing;
+    born = k.born;
     steady = k.steady;
     tells = split (Knows plan.size) plan.size plan.image.value.bytes s.views k.history k.standing seat v t lead (hand Rest Nothing) k.tells at left right has fresh
         (λ u stage reserved. record { at = stage; reserve = reserved; agrees = tt });
@@ -51,6 +52,7 @@ module _ (plan : Plan) where
       record {
         history = k.history;
         standing = k.standing;
+        born = k.born;
         steady = k.steady;
         tells = joined (Knows plan.size) plan.size plan.image.value.bytes s.views k.history k.standing seat other v w h (hand Rest Nothing) k.tells at apart there
             (λ t knows. known t v.doing rest_v knows) (λ t knows. known t w.doing rest_w knows);
@@ -68,6 +70,7 @@ module _ (plan : Plan) where
         as-found plan s.words 0 (set s.views seat w) (record {
           history = k.history;
           standing = k.standing;
+          born = k.born;
           steady = k.steady;
           tells = settled (Knows plan.size) plan.size plan.image.value.bytes s.views k.history k.standing seat v k.tells at;
           laid = k.laid;

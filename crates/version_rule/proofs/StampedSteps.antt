@@ -11,6 +11,7 @@ use Rattle.history.specs.Standing.{joined}
 use Rattle.history.specs.Follow.{MayJoin}
 use Rattle.history.specs.declared.entry.Entry.TheVariants.{Read, Watch}
 use Rattle.atomic_table.specs.Table.{Allows, keeps, step}
+use Rattle.history.proofs.Born.{may-act-later}
 use Rattle.shared_memory.specs.Seen.{IsSingle}
 use Rattle.shared_memory.specs.Passes.{marked, moved}
 use Rattle.version_rule.specs.declared.hands.Doing.{Doing}
@@ -27,7 +28,7 @@ use Rattle.version_rule.specs.Told.{Decides, Mine, first_found, second_found, th
 use Rattle.shared_memory.proofs.Apart.{stage-own}
 use Rattle.version_rule.proofs.Facts.{as-found, cell-is, known, sound, tag-is, writes-is}
 use Rattle.version_rule.proofs.Laid.{laid-same}
-use Rattle.version_rule.proofs.Moves.{decides, moves-none, moves-one, moves-two, told-none, told-one, told-two}
+use Rattle.version_rule.proofs.Moves.{acts, decides, moves-none, moves-one, moves-two, told-none, told-one, told-two}
 use Rattle.version_rule.proofs.Own.{own-first, own-read, own-read_ex, own-second, own-third, own-watch}
 
 module _ (plan : Plan) where
@@ -109,11 +110,11 @@ module _ (plan : Plan) where
             let after = own-read plan.size k.standing v.lead p found h refl rests in
             let had : IsVersion plan.size p version k.history = ap (λ (m : ℕ). 2 * m) (writes-is plan s.words s.views k p) ∙ k.classes.quiet class (ap (λ (m : ℕ). m % 2) is ∙ knows.at.0.even) ∙ is in
             let w = moved v k.history (e ∷ []) h in
-            let goes = decides plan s.words s.views k seat v at single (e ∷ []) h me.1 (IsVersion plan.size p version) had (told-one plan s.words s.views k seat v at single e refl may tt h me.1 after) in (
+            let goes = decides plan s.words s.views k seat v at single (e ∷ []) h me.1 (IsVersion plan.size p version) had (told-one plan s.words s.views k seat v at single e refl (acts plan s.words s.views k seat v at single) may tt h me.1 after) in (
               w,
               keeps,
               tt,
-              as-found plan s.words i (set s.views seat w) (moves-one plan s.words s.views k seat v at single e refl may tt s.words h after
+              as-found plan s.words i (set s.views seat w) (moves-one plan s.words s.views k seat v at single e refl (acts plan s.words s.views k seat v at single) may tt s.words h after
                   (laid-same plan.size s.words k.standing (joined plan.size k.standing e) refl refl k.laid)),
               λ version' cell' second'.
                   let same : Second p version cell ≡ Second p version' cell' = sym second ∙ second' in
@@ -165,11 +166,11 @@ module _ (plan : Plan) where
             let after = own-read_ex plan.size between v.lead p found (Row row version) (own-watch plan.size k.standing v.lead p version knows.at.0.even is) in
             let had : IsVersion plan.size p version k.history = ap (λ (m : ℕ). 2 * m) (writes-is plan s.words s.views k p) ∙ k.classes.quiet class (ap (λ (m : ℕ). m % 2) is ∙ knows.at.0.even) ∙ is in
             let w = moved v k.history (e ∷ f ∷ []) h in
-            let goes = decides plan s.words s.views k seat v at single (e ∷ f ∷ []) h me.1 (IsVersion plan.size p version) had (told-two plan s.words s.views k seat v at single e refl rests.at tt f refl may tt h me.1 after) in (
+            let goes = decides plan s.words s.views k seat v at single (e ∷ f ∷ []) h me.1 (IsVersion plan.size p version) had (told-two plan s.words s.views k seat v at single e refl (acts plan s.words s.views k seat v at single) rests.at tt f refl (may-act-later plan.size.threads v.lead k.history (e ∷ []) (acts plan s.words s.views k seat v at single)) may tt h me.1 after) in (
               w,
               keeps,
               tt,
-              as-found plan s.words i (set s.views seat w) (moves-two plan s.words s.views k seat v at single e refl rests.at tt f refl may tt s.words h after
+              as-found plan s.words i (set s.views seat w) (moves-two plan s.words s.views k seat v at single e refl (acts plan s.words s.views k seat v at single) rests.at tt f refl (may-act-later plan.size.threads v.lead k.history (e ∷ []) (acts plan s.words s.views k seat v at single)) may tt s.words h after
                   (laid-same plan.size s.words k.standing (joined plan.size between f) refl refl k.laid)),
               λ version' cell' second'.
                   let same : Second p version cell ≡ Second p version' cell' = sym second ∙ second' in

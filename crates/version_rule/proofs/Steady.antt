@@ -7,7 +7,7 @@ use Rattle.history.specs.Standing.{Standing, standing_after, standing_of}
 use Rattle.history.specs.Follow.{MayJoin}
 use Rattle.history.specs.declared.entry.Cause.TheVariants.{Absent, Lost, Limit}
 use Rattle.history.specs.declared.entry.Entry.{Entry}
-use Rattle.history.specs.declared.entry.Entry.TheVariants.{Read, Write, Fail, Clear, Watch, Miss, Begin, End}
+use Rattle.history.specs.declared.entry.Entry.TheVariants.{Read, Write, Fail, Clear, Watch, Miss, Begin, End, Start}
 use Rattle.history.proofs.Flags.{overtaken-standing}
 use Rattle.history.proofs.Steps.{reservation_of-standing}
 use Rattle.version_rule.proofs.Classes.{IsOrderly}
@@ -28,3 +28,4 @@ steady-joins size bytes past s (Watch thread place) is may orderly = tt
 steady-joins size bytes past s (Miss thread place) is may orderly = tt
 steady-joins size bytes past s (Begin thread place) is may orderly = tt
 steady-joins size bytes past s (End thread place) is may orderly = tt
+steady-joins size bytes past s (Start thread child entry arg) is may orderly = tt

@@ -2,6 +2,7 @@
 use Rattle.std.specs.Prelude.{◌≡◌, ◌*◌, ◌/◌, ◌%◌, ◌<◌, ◌≤◌, ℕ, List, length, slice_index, true}
 use Rattle.llsc_base.specs.Sizes.{Numbers}
 use Rattle.history.specs.Standing.{Standing}
+use Rattle.history.specs.Started.{AreBorn}
 use Rattle.history.specs.Steady.{AreSteady}
 use Rattle.history.specs.declared.entry.Entry.{Entry}
 use Rattle.atomic_table.specs.Table.{State}
@@ -33,6 +34,7 @@ pub record AreClasses (size : Numbers) (s : Standing) : Type 0 where
 pub record Kept (plan : Plan) (words : List ℕ) (views : List (View Hand)) : Type 0 where
   pub history : List Entry
   pub standing : Standing
+  pub born : AreBorn plan.size.threads 0 history
   pub steady : AreSteady plan.size history
   pub tells : Tells (Knows plan.size) plan.size plan.image.value.bytes views history standing
   pub laid : IsLaid plan.size words standing
@@ -43,4 +45,4 @@ KeptBy plan state = Kept plan state.words state.views
 
 -- what such a memory was made with
 abbrev pub origin_of : Plan → Origin
-origin_of plan = record { size = plan.size; first = plan.size.threads; bytes = plan.image.value.bytes; spends = true; steady = true }
+origin_of plan = record { size = plan.size; first = plan.size.threads; spare = 0; bytes = plan.image.value.bytes; spends = true; steady = true }

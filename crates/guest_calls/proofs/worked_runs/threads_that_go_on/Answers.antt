@@ -19,7 +19,7 @@ returns-clause-stores c = store_reached
 pub returns-clause-yields : goal.returns-clause-yields
 returns-clause-yields c =
     subst (λ m. Reaches calling 1 (thread_at 0 5 0 0 158) [] m 1 []) (call_returned 5 0 0 158 0)
-    (returns [] (thread_at 0 5 0 0 158) 0 [] (call 158 5 0 0) 0 begins (lit< tt) (call_next 5 0 0 158) refl)
+    (returns [] (thread_at 0 5 0 0 158) 0 [] (call 158 5 0 0) 0 begins (lit< tt) (call_next 5 0 0 158) refl refl)
 
 pub returns-clause-writes : goal.returns-clause-writes
 returns-clause-writes c = write_reached
@@ -29,7 +29,7 @@ returns-clause-from_a_point c =
     subst
     (λ m. ReachesFrom calling 8 (record { machine = thread_at 0 5 0 0 158; steps = 7; output = 104 ∷ [] }) [] m 8 (104 ∷ []))
     (call_returned 5 0 0 158 0)
-    (returns [] (thread_at 0 5 0 0 158) 7 (104 ∷ []) (call 158 5 0 0) 0 begins (lit< tt) (call_next 5 0 0 158) refl)
+    (returns [] (thread_at 0 5 0 0 158) 7 (104 ∷ []) (call 158 5 0 0) 0 begins (lit< tt) (call_next 5 0 0 158) refl refl)
 
 pub returns-clause-not_by_exit : goal.returns-clause-not_by_exit
 returns-clause-not_by_exit c = λ machine reached.

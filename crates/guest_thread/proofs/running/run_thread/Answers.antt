@@ -1,4 +1,5 @@
 use Rattle.std.proofs.Common.{◌∙◌, refl, sym, subst}
+use Rattle.history.specs.Started.{MayAct}
 use Rattle.shared_memory.specs.Seen.{IsFront, IsSingle}
 use Rattle.guest_thread.specs.Outcome.{IsEndOn}
 use Rattle.guest_thread.specs.declared.ends.GuestEnd.{GuestEnd}
@@ -6,6 +7,12 @@ use Rattle.guest_thread.specs.Sharing.{RefusesAt}
 use Rattle.guest_thread.proofs.FewAccesses.{few_in_history}
 use Rattle.guest_thread.proofs.Finishing.{at_start, end_on, ends_as, shared_from, spends_at}
 use Rattle.guest_thread.proofs.running.run_thread.Goals as goal
+
+pub new-sharing-requires-clause-may_act : goal.new-sharing-requires-clause-may_act
+new-sharing-requires-clause-may_act g c κs within =
+    let single = c.requires.single in
+    subst (λ t. MayAct (g.M.SharedMemory.origin c.args.mem.now).first t (g.M.SharedMemory.seen c.args.pass))
+    (c.thread-thread.ensures.only single.0 single.1.has) single.2
 
 pub returns-clause-end : goal.returns-clause-end
 returns-clause-end g c =

@@ -1,8 +1,10 @@
-use Rattle.std.proofs.Common.{◌≡◌, List, [], ◌∷◌, ◌++◌, refl, arith}
+use Rattle.std.proofs.Common.{◌≡◌, ◌<◌, [], ◌∷◌, refl, arith}
 use Rattle.llsc_base.specs.Memory.{number_of}
 use Rattle.history.specs.Cause.{HasCause}
 use Rattle.history.specs.Standing.{looked, rests}
-use Rattle.history.specs.declared.entry.Entry.{Entry}
+use Rattle.history.specs.Started.{MayStand, starts_of}
+use Rattle.history.specs.declared.entry.Entry.TheVariants.{Start}
+use Rattle.history.proofs.Cuts.{each-none}
 use Rattle.history.proofs.Operations.{last_stage-AreFinished}
 use Rattle.history.proofs.SmallHistories.{not_begun}
 use Rattle.a32_instr.specs.declared.outside.Stop.TheVariants.{Exit}
@@ -13,19 +15,15 @@ use Rattle.guest_thread.proofs.SmallEnds.{both_ends_on, same_code}
 use Rattle.guest_thread.proofs.SmallRuns.{left}
 use Rattle.guest_thread.proofs.worked_ends.outcomes.Goals as goal
 
--- nothing stands in an empty history
-nothing_stands : (past : List Entry) (entry : Entry) (rest : List Entry) → [] ≡ past ++ (entry ∷ rest) → HasCause (machine_of 2 1 1) past entry
-nothing_stands [] entry rest parts = absurd (let f : ⊥ = cc in f)
-nothing_stands (first ∷ past) entry rest parts = absurd (let f : ⊥ = cc in f)
-
 pub returns-clause-outcome : goal.returns-clause-outcome
 returns-clause-outcome c = record {
   legal = record {
     accesses = tt;
     operations = λ thread. record { missing = []; finished = record { operations = []; are = refl } };
-    causes = nothing_stands;
+    causes = each-none (HasCause (machine_of 2 1 1));
   };
   complete = λ thread. record { operations = []; are = refl };
+  born = each-none (MayStand 2 0);
   ends = both_ends_on;
 }
 
@@ -55,3 +53,6 @@ returns-clause-not_legal c = λ ends outcome.
 pub returns-clause-not_complete : goal.returns-clause-not_complete
 returns-clause-not_complete c = λ ends outcome.
     let wrong : looked word ≡ rests = last_stage-AreFinished 0 _ (outcome.complete 0) in cc
+
+pub returns-clause-one_started : goal.returns-clause-one_started
+returns-clause-one_started c = λ ends outcome. let none : starts_of 0 [] < 0 = (outcome.born [] (Start 0 2 0 0) [] refl).1 in absurd (omega arith)
