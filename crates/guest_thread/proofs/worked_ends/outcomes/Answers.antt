@@ -1,4 +1,4 @@
-use Rattle.std.proofs.Common.{◌≡◌, ◌<◌, [], ◌∷◌, refl, arith}
+use Rattle.std.proofs.Common.{◌≡◌, ◌<◌, [], refl, arith}
 use Rattle.llsc_base.specs.Memory.{number_of}
 use Rattle.history.specs.Cause.{HasCause}
 use Rattle.history.specs.Standing.{looked, rests}

@@ -1,11 +1,11 @@
 use Rattle.std.proofs.Common.{◌≡◌, ℕ, Some, List, [], ◌∷◌, lit<, refl, subst}
 use Rattle.history.specs.Starts.{Started}
-use Rattle.a32_step.specs.Machine.{Machine, after_next}
+use Rattle.a32_step.specs.Machine.{Machine}
 use Rattle.a32_instr.specs.declared.outside.Stop.TheVariants.{Budget}
 use Rattle.guest_calls.specs.Run.{Point, begins, by_itself, first_point, spends}
 use Rattle.guest_calls.specs.Worked.{call, calling, thread_at}
 use Rattle.guest_calls.proofs.SmallRuns.{call_next, call_returned}
-use Rattle.guest_thread.specs.StockRun.{Comes, IsStockRun, Stock, begins_so, starts_one}
+use Rattle.guest_thread.specs.StockRun.{Comes, Stock, begins_so, starts_one}
 use Rattle.guest_thread.proofs.StockRun.{stockless_run}
 use Rattle.guest_thread.proofs.worked_stocks.runs_with_a_stock.Goals as goal
 
