@@ -12,7 +12,8 @@ use llsc_files::{LEAST_GRANULE, load, numbers_of};
 use llsc_words::Format;
 use std::alloc::Global;
 
-/// Runs an image as one thread.
+/// Runs an image as one thread. The loop of the thread stands in a function of its own, so that it has all registers.
+#[inline(never)]
 fn run(alloc: Global, size: &MachineSize, image: &Image, budget: u64) -> Outcome
     requires one_thread { size.now.threads ≡ 1 }
     requires budget { budget ≤ most_budget }
