@@ -9,3 +9,4 @@ pub mod Branching
 pub mod OwnAccesses
 pub mod Pieces
 pub mod Staying
+pub mod Retries

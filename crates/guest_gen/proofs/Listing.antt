@@ -9,10 +9,10 @@ use Rattle.elf32.specs.declared.units.Unit.{Unit}
 use Rattle.elf32.proofs.Fetched.{fetched}
 
 -- words that mean these instructions, one by one
-abbrev pub Mean : List ℕ → List Instr → Type 0
-Mean [] [] = Prim.Unit {0}
-Mean (word ∷ words) (instr ∷ instrs) = (word < 2 ^ 32) × ((meaning table word ≡ Ok instr) × Mean words instrs)
-Mean _ _ = ⊥
+pub data Mean : List ℕ → List Instr → Type 0 where
+  none : Mean [] []
+  word : (code : ℕ) (instr : Instr) (words : List ℕ) (instrs : List Instr) → code < 2 ^ 32 → meaning table code ≡ Ok instr
+      → Mean words instrs → Mean (code ∷ words) (instr ∷ instrs)
 
 -- one of these words
 record IsListed (words : List ℕ) (k : ℕ) (instr : Instr) : Type 0 where
@@ -22,15 +22,13 @@ record IsListed (words : List ℕ) (k : ℕ) (instr : Instr) : Type 0 where
 
 listed : (words : List ℕ) (instrs : List Instr) → Mean words instrs → (k : ℕ) (instr : Instr) → slice_get instrs k ≡ Some instr
     → IsListed words k instr
-listed [] [] mean k instr there = absurd (let f : ⊥ = cc in f)
-listed [] (first ∷ instrs) mean k instr there = absurd mean
-listed (word ∷ words) [] mean k instr there = absurd mean
-listed (word ∷ words) (first ∷ instrs) mean zero instr there =
+listed _ _ none k instr there = absurd (let f : ⊥ = cc in f)
+listed _ _ (word code first words instrs small means rest) zero instr there =
     let same : first ≡ instr = cc in
-    record { known = omega arith; small = mean.0; means = mean.1.0 ∙ ap Ok same }
-listed (word ∷ words) (first ∷ instrs) mean (suc k) instr there =
-    let rest = listed words instrs mean.1.1 k instr there in
-    record { known = let known = rest.known in omega (arith, known); small = rest.small; means = rest.means }
+    record { known = omega arith; small = small; means = means ∙ ap Ok same }
+listed _ _ (word code first words instrs small means rest) (suc k) instr there =
+    let later = listed words instrs rest k instr there in
+    record { known = let known = later.known in omega (arith, known); small = later.small; means = later.means }
 
 -- The instruction at the k-th word of the code.
 pub instr_listed : (unit : Unit) (size : Numbers) (instrs : List Instr) → Mean unit.words instrs → 4096 + 4 * length unit.words ≤ size.mem

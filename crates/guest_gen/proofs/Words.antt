@@ -12,7 +12,7 @@ use Rattle.a32_instr.specs.declared.instructions.ShiftKind.TheVariants.{Lsl, Lsr
 use Rattle.a32_instr.proofs.WideMoves.{movt_word, movw_word}
 use Rattle.a32_step.specs.Machine.{instr_at}
 use Rattle.guest_gen.specs.Counters.{counter_image, counter_unit, counter_words, high_half, low_half}
-use Rattle.guest_gen.proofs.Listing.{Mean, instr_listed}
+use Rattle.guest_gen.proofs.Listing.{Mean, none, word, instr_listed}
 
 -- the counter guest as instructions, of so many rounds, where the draws begin at this number
 abbrev pub counter_instrs : (start rounds : ℕ) → List Instr
@@ -43,156 +43,35 @@ counter_instrs start rounds =
     Alu 14 Mov false 7 0 (Imm 0 1) ∷
     Svc 14 0 ∷ []
 
+-- each word means its instruction: by computing, where no half in it is a variable
 words_mean : (start rounds : ℕ) → start < 2 ^ 32 → rounds < 2 ^ 32 → Mean (counter_words start rounds) (counter_instrs start rounds)
 unfolding meaning alu_op alu_fits alu_unpredictable shift_kind one_of_2_is_pc one_of_3_is_pc one_of_4_is_pc exclusive_size no_pair status_clashes signed24 index_fits half_fits
-words_mean start rounds begins few = (
-  omega arith,
-  (
-    movw_word 4 (low_half start) (lit< tt) (omega arith),
-    (
-      omega (arith, begins),
-      (
-        movt_word 4 (high_half start) (lit< tt) (omega (arith, begins)),
-        (
-          lit< tt,
-          (
-            refl,
-            (
-              lit< tt,
-              (
-                refl,
-                (
-                  lit< tt,
-                  (
-                    refl,
-                    (
-                      lit< tt,
-                      (
-                        refl,
-                        (
-                          lit< tt,
-                          (
-                            refl,
-                            (
-                              omega arith,
-                              (
-                                movw_word 8 (low_half rounds) (lit< tt) (omega arith),
-                                (
-                                  omega (arith, few),
-                                  (
-                                    movt_word 8 (high_half rounds) (lit< tt) (omega (arith, few)),
-                                    (
-                                      lit< tt,
-                                      (
-                                        refl,
-                                        (
-                                          lit< tt,
-                                          (
-                                            refl,
-                                            (
-                                              lit< tt,
-                                              (
-                                                refl,
-                                                (
-                                                  lit< tt,
-                                                  (
-                                                    refl,
-                                                    (
-                                                      lit< tt,
-                                                      (
-                                                        refl,
-                                                        (
-                                                          lit< tt,
-                                                          (
-                                                            refl,
-                                                            (
-                                                              lit< tt,
-                                                              (
-                                                                refl,
-                                                                (
-                                                                  lit< tt,
-                                                                  (
-                                                                    refl,
-                                                                    (
-                                                                      lit< tt,
-                                                                      (
-                                                                        refl,
-                                                                        (
-                                                                          lit< tt,
-                                                                          (
-                                                                            refl,
-                                                                            (
-                                                                              lit< tt,
-                                                                              (
-                                                                                refl,
-                                                                                (
-                                                                                  lit< tt,
-                                                                                  (
-                                                                                    refl,
-                                                                                    (
-                                                                                      lit< tt,
-                                                                                      (
-                                                                                        refl,
-                                                                                        (
-                                                                                          lit< tt,
-                                                                                          (
-                                                                                            refl,
-                                                                                            (
-                                                                                              lit< tt,
-                                                                                              (
-                                                                                                refl,
-                                                                                                (
-                                                                                                  lit< tt,
-                                                                                                  (refl, tt),
-                                                                                                ),
-                                                                                              ),
-                                                                                            ),
-                                                                                          ),
-                                                                                        ),
-                                                                                      ),
-                                                                                    ),
-                                                                                  ),
-                                                                                ),
-                                                                              ),
-                                                                            ),
-                                                                          ),
-                                                                        ),
-                                                                      ),
-                                                                    ),
-                                                                  ),
-                                                                ),
-                                                              ),
-                                                            ),
-                                                          ),
-                                                        ),
-                                                      ),
-                                                    ),
-                                                  ),
-                                                ),
-                                              ),
-                                            ),
-                                          ),
-                                        ),
-                                      ),
-                                    ),
-                                  ),
-                                ),
-                              ),
-                            ),
-                          ),
-                        ),
-                      ),
-                    ),
-                  ),
-                ),
-              ),
-            ),
-          ),
-        ),
-      ),
-    ),
-  ),
-)
+words_mean start rounds begins few =
+    word _ _ _ _ (omega arith) (movw_word 4 (low_half start) (lit< tt) (omega arith))
+    (word _ _ _ _ (omega (arith, begins)) (movt_word 4 (high_half start) (lit< tt) (omega (arith, begins)))
+    (word _ _ _ _ (lit< tt) refl
+    (word _ _ _ _ (lit< tt) refl
+    (word _ _ _ _ (lit< tt) refl
+    (word _ _ _ _ (lit< tt) refl
+    (word _ _ _ _ (lit< tt) refl
+    (word _ _ _ _ (omega arith) (movw_word 8 (low_half rounds) (lit< tt) (omega arith))
+    (word _ _ _ _ (omega (arith, few)) (movt_word 8 (high_half rounds) (lit< tt) (omega (arith, few)))
+    (word _ _ _ _ (lit< tt) refl
+    (word _ _ _ _ (lit< tt) refl
+    (word _ _ _ _ (lit< tt) refl
+    (word _ _ _ _ (lit< tt) refl
+    (word _ _ _ _ (lit< tt) refl
+    (word _ _ _ _ (lit< tt) refl
+    (word _ _ _ _ (lit< tt) refl
+    (word _ _ _ _ (lit< tt) refl
+    (word _ _ _ _ (lit< tt) refl
+    (word _ _ _ _ (lit< tt) refl
+    (word _ _ _ _ (lit< tt) refl
+    (word _ _ _ _ (lit< tt) refl
+    (word _ _ _ _ (lit< tt) refl
+    (word _ _ _ _ (lit< tt) refl
+    (word _ _ _ _ (lit< tt) refl
+    (word _ _ _ _ (lit< tt) refl none))))))))))))))))))))))))
 
 -- The k-th instruction of the counter guest, in its image.
 pub counter_instr_at : (seed rounds : ℕ) (size : Numbers) → 4196 ≤ size.mem → rounds < 2 ^ 32
