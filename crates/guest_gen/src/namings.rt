@@ -42,7 +42,8 @@ fn namings_in(first: u32, rounds: u32, index: u32) -> u32
     count
 }
 
-/// How often the threads of the counter guest name a counter, each in so many rounds.
+/// How often the threads of the counter guest name a counter, each in so many rounds: 1 to 16 threads, 1 to 50,000 rounds, and
+/// one of the counters 0 to 15. Of the seed the low 32 bits count.
 #[tactic(auto, using(crate::proofs::Loops::threads_more, crate::proofs::Loops::threads_none))]
 pub fn named(seed: u64, threads: u32, rounds: u32, index: u32) -> u32
     requires range { AreInRange threads rounds }
