@@ -2,3 +2,11 @@
 mod cpu;
 mod decoder;
 mod encoder;
+
+use std::fmt::Debug;
+use std::process::Abort;
+
+/// Compares what is there with what is wanted.
+fn same<R: Abort, T: PartialEq + Debug + Copy>(rt: &R, given: T, wanted: T) {
+    assert_eq!(rt; given, wanted);
+}

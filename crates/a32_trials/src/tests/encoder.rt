@@ -1,6 +1,7 @@
 //! Words both ways: what the decoder reads of a word is encoded as that word.
 ghost use Rattle.std.specs.Prelude.{◌<◌};
 
+use crate::tests::same;
 use a32_decode::decode;
 use a32_encode::{EncodeFault, encode};
 use a32_instr::{AluOp, BarrierKind, Cond, HalfKind, Index, Instr, Offset, Operand2, Reg};
@@ -151,5 +152,5 @@ fn gives_no_word_where_there_is_none(rt: HostRuntime) {
 
 #[test]
 fn names_its_fault(rt: HostRuntime) {
-    assert_eq!(rt; EncodeFault::NoEncoding.name(), "NoEncoding");
+    same(&rt, EncodeFault::NoEncoding.name(), "NoEncoding");
 }

@@ -53,6 +53,6 @@ fn counts_with_all_rows_in_one_class(rt: HostRuntime) -> Result<(), Fail> {
         &[],
         SPACE,
     )?;
-    assert_eq!(rt; status, 0);
+    same(&rt, status, 0);
     Ok(())
 }

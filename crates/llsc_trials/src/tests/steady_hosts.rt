@@ -31,13 +31,9 @@ fn answer_steady<R: Threads + Wait + Sync + AllocGlobal + Abort>(
     let texts = owned(alloc, words)?;
     let mut host = SteadyHost::new(alloc, bytes_of(alloc, LEAVE)?, space)?;
     let ended = steady(rt, alloc, texts.as_slice(), &mut host);
-    let wanted = told.map(|text| text.as_bytes());
-    assert_eq!(rt;
-        (ended.status, host.written()),
-        (status, wanted),
-        "for {words} and {space}"
-    );
-    assert_eq!(rt; host.past(), past, "for {words} and {space}");
+    let wanted = (status, told.map(|text| text.as_bytes()), past);
+    let given = (ended.status, host.written(), host.past());
+    same(rt, (words, space, given), (words, space, wanted));
     Ok(())
 }
 

@@ -1,4 +1,5 @@
 //! An ELF file that is loaded.
+use super::same;
 use elf32::load;
 use llsc_base::{Bar, Image, MachineSize, Place, Size, SizeFault};
 use std::alloc::{AllocError, Global};
@@ -6,6 +7,20 @@ use std::test::Fail;
 
 /// How many bytes the file below has.
 const LEN: usize = 212;
+
+/// The file's header behind its identification: its kind 2 and its machine 40, the version, the entry, the places of both tables
+/// of headers, the flags, and the sizes and counts of the headers, two to a word: 52 and 32, 4 and 40, 0 and 0.
+const HEADER: [u32; 9] = [
+    0x0028_0002,
+    1,
+    0x1_00b4,
+    52,
+    0,
+    0x0500_0200,
+    0x0020_0034,
+    0x0028_0004,
+    0,
+];
 
 /// A file as the GNU linker lays it out: an exception table, code, data with eight bytes behind it that
 /// are in memory alone, and the stack's flags.
@@ -33,13 +48,6 @@ fn size() -> Result<MachineSize, SizeFault> {
     MachineSize::new(1_048_576, 1, 4096, 1 << 62)
 }
 
-fn push_halves(file: &mut Vec<u8>, halves: &[u16]) -> Result<(), AllocError> {
-    for half in halves {
-        file.extend_from_slice(&half.to_le_bytes())?;
-    }
-    Ok(())
-}
-
 fn push_words(file: &mut Vec<u8>, words: &[u32]) -> Result<(), AllocError> {
     for word in words {
         file.extend_from_slice(&word.to_le_bytes())?;
@@ -50,9 +58,7 @@ fn push_words(file: &mut Vec<u8>, words: &[u32]) -> Result<(), AllocError> {
 fn linked(alloc: Global) -> Result<Vec<u8>, AllocError> {
     let mut file = Vec::new(alloc);
     file.extend_from_slice(&[0x7f, b'E', b'L', b'F', 1, 1, 1, 0, 0, 0, 0, 0, 0, 0, 0, 0])?;
-    push_halves(&mut file, &[2, 40])?;
-    push_words(&mut file, &[1, 0x1_00b4, 52, 0, 0x0500_0200])?;
-    push_halves(&mut file, &[52, 32, 4, 40, 0, 0])?;
+    push_words(&mut file, &HEADER)?;
     for header in &HEADERS {
         push_words(&mut file, header)?;
     }
@@ -102,10 +108,10 @@ fn is_barred(image: &Image, addr: u32, bar: Option<Bar>) -> bool {
 #[test]
 fn a_linked_file(rt: HostRuntime) -> Result<(), Fail> {
     let file = linked(rt.alloc())?;
-    assert_eq!(rt; file.len(), LEN);
+    same(&rt, file.len(), LEN);
     let image = load(rt.alloc(), &file, &size()?)?;
-    assert_eq!(rt; image.entry(), 0x1_00b4);
-    assert_eq!(rt; image.bytes().len(), 1_048_576);
+    same(&rt, image.entry(), 0x1_00b4);
+    same(&rt, image.bytes().len(), 1_048_576);
     for &(addr, word) in &WORDS {
         assert!(rt; is_word(&image, addr, word), "at {addr}");
     }

@@ -1,4 +1,5 @@
 //! The ELF file of a program, against rows that were written by hand.
+use super::same;
 use elf32::{Bytes, Unit, Words, write};
 use std::alloc::{AllocError, Global};
 use std::test::Fail;
@@ -72,6 +73,6 @@ fn written(alloc: Global) -> Result<Vec<u8>, AllocError> {
 fn writes_each_part(rt: HostRuntime) -> Result<(), Fail> {
     let file = written(rt.alloc())?;
     let rows = wanted(rt.alloc())?;
-    assert_eq!(rt; file.as_slice(), rows.as_slice());
+    same(&rt, file.as_slice(), rows.as_slice());
     Ok(())
 }

@@ -1,4 +1,5 @@
 //! The image of a flat file.
+use super::same;
 use llsc_base::{Bar, BarredWord, Image, MachineSize, Place, Size};
 use std::alloc::Global;
 use std::test::Fail;
@@ -27,12 +28,12 @@ fn is_word(image: &Image, addr: u32, word: Option<u32>) -> bool {
 #[test]
 fn words(rt: HostRuntime) -> Result<(), Fail> {
     let image = image(rt.alloc())?;
-    assert_eq!(rt; image.entry(), 0x1000);
-    assert_eq!(rt; image.bytes().len(), 1_048_576);
+    assert!(rt; image.bytes().len() == 1_048_576);
+    same(&rt, image.entry(), 0x1000);
     for &(addr, word) in &WORDS {
         assert!(rt; is_word(&image, addr, word), "at {addr}");
     }
-    assert_eq!(rt; image.byte(0x1003), 0xe3);
+    same(&rt, image.byte(0x1003), 0xe3);
     Ok(())
 }
 

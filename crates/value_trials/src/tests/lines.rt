@@ -1,4 +1,5 @@
 //! A text that is held in place.
+use super::same;
 use llsc_base::Line;
 
 #[test]
@@ -6,5 +7,5 @@ fn grows(rt: HostRuntime) {
     let mut line = Line::new();
     line.push(b'h');
     line.push(b'i');
-    assert_eq!(rt; line.bytes(), b"hi".as_slice());
+    same(&rt, line.bytes(), b"hi");
 }

@@ -1,4 +1,5 @@
 //! Hexadecimal numbers that are read, and one that is written again.
+use super::same;
 use llsc_base::Line;
 use number_text::{long_number, word_number, write_long};
 
@@ -22,9 +23,13 @@ fn reads_words(rt: HostRuntime) {
 #[test]
 fn reads_longs(rt: HostRuntime) {
     let text = "0123456789abcdef";
-    assert_eq!(rt; long_number(text.as_bytes()), Some(0x0123_4567_89ab_cdef));
-    assert_eq!(rt; long_number(b"00c0ffee"), None);
+    same(
+        &rt,
+        long_number(text.as_bytes()),
+        Some(0x0123_4567_89ab_cdef),
+    );
+    same(&rt, long_number(b"00c0ffee"), None);
     let mut line = Line::new();
     write_long(&mut line, 0x0123_4567_89ab_cdef);
-    assert_eq!(rt; line.bytes(), text.as_bytes());
+    same(&rt, line.bytes(), text.as_bytes());
 }

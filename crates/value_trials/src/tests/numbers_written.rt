@@ -1,4 +1,5 @@
 //! Numbers that are written, against texts that were written by hand.
+use super::same;
 use llsc_base::Line;
 use number_text::{write_decimal, write_word};
 
@@ -7,8 +8,8 @@ use number_text::{write_decimal, write_word};
 fn writes_numbers(rt: HostRuntime) {
     let mut decimal = Line::new();
     write_decimal(&mut decimal, 4294967295);
-    assert_eq!(rt; decimal.bytes(), b"4294967295".as_slice());
+    same(&rt, decimal.bytes(), b"4294967295");
     let mut word = Line::new();
     write_word(&mut word, 0x00c0_ffee);
-    assert_eq!(rt; word.bytes(), b"00c0ffee".as_slice());
+    same(&rt, word.bytes(), b"00c0ffee");
 }

@@ -51,7 +51,8 @@ fn tried(access: Access) -> Access
 /// granule.
 fn all_answer_on(alloc: Global, granule: u64, accesses: &[Access]) -> Result<bool, Fail> {
     let size = MachineSize::new(65_536, 2, 4096, 1)?.with_granule(granule)?;
-    let mut memory = PlainMemory::sized(alloc, &[0; 65_536], &size)?;
+    let bytes = vec![in alloc; 0; 65_536]?;
+    let mut memory = PlainMemory::sized(alloc, bytes.as_slice(), &size)?;
     for access in accesses {
         if !answers(&mut memory, *access) {
             return Ok(false);

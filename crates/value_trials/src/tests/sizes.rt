@@ -1,4 +1,5 @@
 //! The numbers of a machine.
+use super::same;
 use llsc_base::{MachineSize, SizeFault};
 use std::test::Fail;
 
@@ -23,11 +24,9 @@ fn ranges(rt: HostRuntime) {
 #[test]
 fn numbers(rt: HostRuntime) -> Result<(), Fail> {
     let size = MachineSize::new(1_048_576, 2, 4096, 7)?;
-    assert_eq!(rt;
-        (size.mem(), size.threads(), size.classes(), size.limit()),
-        (1_048_576, 2, 4096, 7)
-    );
-    assert_eq!(rt; size.room(), 1_040_384);
-    assert_eq!(rt; SizeFault::Classes.name(), "Classes");
+    let found = [size.mem(), size.threads(), size.classes(), size.room()];
+    same(&rt, found, [1_048_576, 2, 4096, 1_040_384]);
+    same(&rt, size.limit(), 7);
+    same(&rt, SizeFault::Classes.name(), "Classes");
     Ok(())
 }

@@ -6,6 +6,7 @@
 ghost use Rattle.a32_step.specs.Machine.{IsReady};
 
 use super::*;
+use crate::tests::same;
 use a32_instr::Ask;
 use std::process::Abort;
 use std::str::SplitWhitespace;
@@ -40,28 +41,30 @@ fn start_in(part: &str) -> Result<Start, Fail> {
 
 /// The text of an access.
 fn access_text(alloc: Global, ask: Ask) -> Result<String, Fail> {
-    match ask {
-        Ask::Load(place) => {
-            Ok(format!(in alloc; "load {} {:x}, ", place.size.bytes(), place.addr)?)
-        }
-        Ask::Store(place, value) => {
-            let size = place.size.bytes();
-            Ok(format!(in alloc; "store {size} {:x} {value:x}, ", place.addr)?)
-        }
-        _ => Err("an access of another kind")?,
+    let (name, place, value) = match ask {
+        Ask::Load(place) => ("load", place, None),
+        Ask::Store(place, value) => ("store", place, Some(value)),
+        _ => return Err("an access of another kind")?,
+    };
+    let mut text = format!(in alloc; "{name} {} {:x}", place.size.bytes(), place.addr)?;
+    if let Some(value) = value {
+        write!(text, " {value:x}")?;
     }
+    text.push_str(", ")?;
+    Ok(text)
 }
 
 /// The text of a stop.
 fn stop_text(alloc: Global, stop: Stop) -> Result<String, Fail> {
-    match stop {
-        Stop::Alignment(addr) => Ok(format!(in alloc; "alignment {addr:x}")?),
-        Stop::Outside(addr) => Ok(format!(in alloc; "outside {addr:x}")?),
-        Stop::ReadOnly(addr) => Ok(format!(in alloc; "readonly {addr:x}")?),
-        Stop::Thumb(pc) => Ok(format!(in alloc; "thumb {pc:x}")?),
-        Stop::Unpredictable(pc) => Ok(format!(in alloc; "unpredictable {pc:x}")?),
-        _ => Err("a stop of another kind")?,
-    }
+    let (name, number) = match stop {
+        Stop::Alignment(addr) => ("alignment", addr),
+        Stop::Outside(addr) => ("outside", addr),
+        Stop::ReadOnly(addr) => ("readonly", addr),
+        Stop::Thumb(pc) => ("thumb", pc),
+        Stop::Unpredictable(pc) => ("unpredictable", pc),
+        _ => return Err("a stop of another kind")?,
+    };
+    Ok(format!(in alloc; "{name} {number:x}")?)
 }
 
 /// The reply to an access: a load has the next of these values.
@@ -118,7 +121,7 @@ fn transcript(alloc: Global, start: Start, values: &str) -> Result<String, Fail>
 }
 
 /// Each row's transcript is the one that stands in it.
-pub(super) fn check(rt: &impl Abort, alloc: Global, rows: &str) -> Result<(), Fail> {
+pub(super) fn check<R: Abort>(rt: &R, alloc: Global, rows: &str) -> Result<(), Fail> {
     for row in rows.lines() {
         if row.starts_with(';') {
             continue;
@@ -128,7 +131,7 @@ pub(super) fn check(rt: &impl Abort, alloc: Global, rows: &str) -> Result<(), Fa
         let start = start_in(first)?;
         for flags in reachable(start.flags) {
             let text = transcript(alloc, Start { flags, ..start }, values)?;
-            assert_eq!(rt; text.as_str(), wanted.trim(), "{row}");
+            same(rt, (row, text.as_str()), (row, wanted.trim()));
         }
     }
     Ok(())

@@ -2,6 +2,7 @@
 ghost use Rattle.std.specs.Prelude.{◌<◌};
 
 use super::first_wrong;
+use crate::tests::same;
 use a32_decode::DecodeFault;
 use a32_instr::{AluOp, Cond, Index, Instr, Offset, Operand2, Reg, ShiftKind};
 use llsc_base::Size;
@@ -121,7 +122,7 @@ fn decodes_words_of_each_row(rt: HostRuntime) {
         (0xEF000000, svc(0)),
         (0xEF123456, svc(0x123456)),
     ];
-    assert_eq!(rt; first_wrong(&words), None);
+    same(&rt, first_wrong(&words), None);
 }
 
 #[test]
@@ -160,5 +161,5 @@ fn decodes_each_form_of_an_access(rt: HostRuntime) {
         (0xE1E10F92, store_ex(Size::B2)),
         (0xE1A10F92, store_ex(Size::B8)),
     ];
-    assert_eq!(rt; first_wrong(&words), None);
+    same(&rt, first_wrong(&words), None);
 }
