@@ -29,9 +29,11 @@ impl HstMemory {
     {
         let (threads, mem) = (size.threads(), size.mem());
         prove!(mem % 8 == 0);
-        let words = first_words(alloc, image.bytes(), 1 + size.classes() as usize)?;
+        let words = first_words(alloc, image.bytes(), 1 + size.classes() as usize, 0)?;
         let plan = Plan {
             size: *size,
+            first: threads,
+            spare: 0,
             image: Snapshot::of(image),
         };
         let (table, seat) = HstTable::of_words(alloc, words.as_slice(), &plan)?;

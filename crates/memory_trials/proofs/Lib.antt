@@ -1,2 +1,4 @@
 mod FewNumbers
 mod ManyNumbers
+mod StartsSeen
+mod ThreeNumbers

@@ -14,6 +14,12 @@ pub record IsOf (threads : ℕ) (origin : Origin) : Type 0 where
   pub threads_are : origin.size.threads ≡ threads
   pub first : origin.first ≡ threads
 
+-- a machine of 65,536 bytes and three threads, of which the first may start the others
+pub record IsFamily (origin : Origin) : Type 0 where
+  pub mem : origin.size.mem ≡ 65536
+  pub first : origin.first ≡ 1
+  pub spare : origin.spare ≡ 2
+
 -- two places that may be accessed there
 pub record AreWords (one other : Place) : Type 0 where
   pub one_aligned : IsTrue (is_aligned one)

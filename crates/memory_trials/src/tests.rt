@@ -5,6 +5,7 @@ mod logged;
 mod many_threads;
 mod names;
 mod order;
+mod starts;
 mod trials;
 mod tried;
 mod versions;
@@ -16,8 +17,15 @@ use crate::tests::trials::{
     stores_by_granule, undone_change,
 };
 use hst_memory::HstMemory;
+use std::fmt::Debug;
+use std::process::Abort;
 use std::test::Fail;
 use version_memory::VersionMemory;
+
+/// Compares what is there with what is wanted.
+fn same<R: Abort, T: PartialEq + Debug + Copy>(rt: &R, given: T, wanted: T) {
+    assert_eq!(rt; given, wanted);
+}
 
 #[test]
 fn a_change_that_is_undone_is_a_change(rt: HostRuntime) -> Result<(), Fail> {
@@ -58,11 +66,9 @@ fn rows_are_as_wide_as_the_granule(rt: HostRuntime) -> Result<(), Fail> {
 
 #[test]
 fn what_one_thread_stored_another_loads(rt: HostRuntime) -> Result<(), Fail> {
-    assert_eq!(rt; handed_over::<HstMemory, _>(&rt, rt.alloc())?, (true, 5, 5));
-    assert_eq!(rt;
-        handed_over::<VersionMemory, _>(&rt, rt.alloc())?,
-        (true, 5, 5)
-    );
+    let by_names = handed_over::<HstMemory, _>(&rt, rt.alloc())?;
+    let by_versions = handed_over::<VersionMemory, _>(&rt, rt.alloc())?;
+    same(&rt, [by_names, by_versions], [(true, 5, 5); 2]);
     Ok(())
 }
 

@@ -1,10 +1,8 @@
 -- The words and the marks of a memory that is made, one after another.
-use Rattle.std.proofs.Common.{◌≡◌, ◌+◌, ◌<◌, ℕ, zero, suc, Bool, true, false, IsTrue, List, [], ◌∷◌, ◌++◌, length, get_or, nat_lt, replicate, set, arith, inl, inr, ap, refl, sym, ◌∙◌, get_or-set_same, get_or-set_other}
+use Rattle.std.proofs.Common.{◌≡◌, ◌+◌, ◌<◌, ℕ, zero, suc, Bool, true, false, IsTrue, List, length, get_or, nat_lt, replicate, set, arith, inl, inr, ap, refl, sym, ◌∙◌, get_or-set_same, get_or-set_other}
 use Rattle.std.proofs.lemmas.Bool.{cases_eq, cases_lt, eqb-true, le-ltb, lt-ltb}
 use Rattle.std.proofs.lemmas.List.{get_or-replicate, get_or_past, length-replicate}
 use Rattle.std.proofs.lemmas.Nat.{ones_le_self}
-use Rattle.std.proofs.Math.ListN.{get_or-append}
-use Rattle.std.proofs.Math.Seq.{get_or-append_seam}
 use Rattle.std.specs.Int.{is_power_of_two}
 use Rattle.std.specs.Int.RustNames.{count_ones}
 use Rattle.shared_memory.specs.Passes.{marked}
@@ -15,12 +13,6 @@ some-class classes power =
     let few = ones_le_self classes in
     let one : count_ones classes ≡ 1 = eqb-true (count_ones classes) 1 power in
     omega arith
-
-pub word-kept : (xs : List ℕ) (y k : ℕ) → k < length xs → get_or (xs ++ y ∷ []) k 0 ≡ get_or xs k 0
-word-kept xs y k h = get_or-append xs (y ∷ []) 0 k h
-
-pub word-last : (xs : List ℕ) (y k : ℕ) → k ≡ length xs → get_or (xs ++ y ∷ []) k 0 ≡ y
-word-last xs y k is = ap (λ (j : ℕ). get_or (xs ++ y ∷ []) j 0) is ∙ get_or-append_seam xs y [] 0
 
 pub zero-words : (n k : ℕ) → get_or (replicate {A = ℕ} n 0) k 0 ≡ 0
 zero-words zero k = refl

@@ -2,7 +2,8 @@
 //!
 //! [`SharedMemory`] is the promise, call by call. Its words are in `specs/Seen`: what a pass has seen of the history, which
 //! thread numbers it holds, and when a class may take no write; `specs/Origin` says what a memory was made with, and which
-//! histories are legal of it. [`Rows`] are the cells of a memory that was closed.
+//! histories are legal of it. [`StartMemory`] promises besides that threads may start others. [`Rows`] are the cells of a memory
+//! that was closed.
 //!
 //! The rest is what memories share that keep the promise on a table of atomic words. `specs/Layout` says which word is a tag and
 //! which a cell; a [`Plan`] is what the table is told once, [`first_words`] makes its words, and a [`Target`] is a place with its
@@ -21,6 +22,7 @@ mod numbers;
 mod plans;
 mod rows;
 mod seats;
+mod starts;
 mod targets;
 mod views;
 mod words;
@@ -32,6 +34,7 @@ pub use numbers::{Marks, first_marks, merge_marks, only_mark, other_number};
 pub use plans::Plan;
 pub use rows::Rows;
 pub use seats::Gives;
+pub use starts::StartMemory;
 pub use targets::{Target, word_of_cell};
 pub use views::{Part, View};
 pub use words::first_words;

@@ -6,5 +6,9 @@ use std::snapshot::Snapshot;
 #[derive(Drop)]
 pub struct Plan {
     pub size: MachineSize,
+    /// How many threads begin by themselves.
+    pub first: u32,
+    /// How many threads each of these may start.
+    pub spare: u32,
     pub image: Snapshot<Image>,
 }

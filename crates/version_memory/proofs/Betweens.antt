@@ -2,6 +2,9 @@
 use Rattle.std.proofs.Common.{◌≡◌, ◌≢◌, ◌==◌, ◌&&◌, ◌||◌, not, ℕ, Bool, true, false, if◌then◌else◌, Option, None, List, [], set, refl, ap, sym, ◌∙◌, subst, inl, inr, ◌≤◌, nat_lt, arith}
 use Rattle.std.proofs.lemmas.Bool.{cases_Bool, eqb-false, lt-ltb}
 use Rattle.history.specs.declared.entry.Entry.{Entry}
+use Rattle.atomic_table.specs.Seated.{TableId}
+use Rattle.history.specs.Started.{MayAct}
+use Rattle.shared_memory.specs.declared.plans.Plan.{Plan}
 use Rattle.shared_memory.specs.Origin.{Origin}
 use Rattle.shared_memory.specs.declared.views.View.{View}
 use Rattle.shared_memory.specs.Passes.{alone_mark, first_view, joined_view, marked, merged, one_mark, without_mark}
@@ -14,7 +17,7 @@ use Rattle.version_rule.specs.declared.hands.Reserve.TheVariants.{Nothing, Row, 
 use Rattle.version_memory.specs.declared.passes.Reserved.{Reserved}
 use Rattle.version_rule.specs.declared.hands.Hand.{Hand}
 use Rattle.version_rule.specs.Hands.{hand, reserve_joined}
-use Rattle.version_memory.specs.Passes.{IsBetween, reserved_of}
+use Rattle.version_memory.specs.Passes.{IsAwaiting, IsBetween, IsMade, IsReady, reserved_of}
 use Rattle.shared_memory.specs.Told.{Goes, Settles}
 use Rattle.version_rule.specs.Told.{Mine}
 
@@ -117,4 +120,28 @@ between-joined me other new has has_other has_both number number_other reserved 
       several = λ h t single. several-joined me.0 other.0 (lead-held me has number reserved b) (lead-held other has_other number_other reserved_other o) (sym reserve ∙ h) t
           (subst (λ (ns : List Bool). IsSingle t (marked ns)) numbers single);
       slots = both.slots ∙ b.slots;
+    }
+
+-- the seat of a pass that has one number, of a thread that may act, may make a step
+pub ready-pass : (plan : Plan) (table home : TableId) (me : Mine) (has : List Bool) (number : ℕ) (reserved : Option Reserved) → IsMade plan table → home ≡ table → IsBetween me has number reserved
+    → (t : ℕ) → IsSingle t (marked me.0.numbers) → MayAct plan.first t me.0.seen → IsReady plan table home me
+ready-pass plan table home me has number reserved made same b t single acts =
+    let lead : t ≡ me.0.lead = sym (single.only me.0.lead (lead-held me has number reserved b)) in
+    record {
+      made = made;
+      home_is = same;
+      single = subst (λ (u : ℕ). IsSingle u (marked me.0.numbers)) lead single;
+      acts = subst (λ (u : ℕ). MayAct plan.first u me.0.seen) lead acts;
+    }
+
+-- and of one that doesn't begin by itself, may look whether it was started
+pub awaiting-pass : (plan : Plan) (table home : TableId) (me : Mine) (has : List Bool) (number : ℕ) (reserved : Option Reserved) → IsMade plan table → home ≡ table → IsBetween me has number reserved
+    → (t : ℕ) → IsSingle t (marked me.0.numbers) → plan.first ≤ t → IsAwaiting plan table home me
+awaiting-pass plan table home me has number reserved made same b t single from =
+    let lead : t ≡ me.0.lead = sym (single.only me.0.lead (lead-held me has number reserved b)) in
+    record {
+      made = made;
+      home_is = same;
+      single = subst (λ (u : ℕ). IsSingle u (marked me.0.numbers)) lead single;
+      from = subst (λ (u : ℕ). plan.first ≤ u) lead from;
     }

@@ -4,3 +4,4 @@ mod Whole
 mod Waited
 mod Exactly
 mod Betweens
+mod Counted

@@ -1,8 +1,9 @@
 -- What holds of a pass between two calls, and of a seat in a call. This project's own.
-use Rattle.std.specs.Prelude.{◌≡◌, ◌%◌, ◌^◌, ◌<◌, ◌≤◌, ◌==◌, if◌then◌else◌, ℕ, Bool, Option, Some, None, List, []}
+use Rattle.std.specs.Prelude.{◌≡◌, ◌+◌, ◌*◌, ◌%◌, ◌^◌, ◌<◌, ◌≤◌, ◌==◌, if◌then◌else◌, ℕ, Bool, Option, Some, None, List, []}
 use Rattle.llsc_base.specs.Memory.{class_of}
 use Rattle.llsc_base.specs.Sizes.{Numbers}
 use Rattle.llsc_base.specs.declared.access.Place.{Place}
+use Rattle.history.specs.Started.{MayAct, starts_of}
 use Rattle.atomic_table.specs.Seated.{TableId}
 use Rattle.shared_memory.specs.Passes.{marked, nobody}
 use Rattle.shared_memory.specs.Seen.{IsOneOf, IsSingle}
@@ -11,24 +12,34 @@ use Rattle.version_rule.specs.declared.hands.Reserve.{Reserve}
 use Rattle.version_rule.specs.declared.hands.Reserve.TheVariants.{Nothing, Row, Several}
 use Rattle.shared_memory.specs.declared.plans.Plan.{Plan}
 use Rattle.version_rule.specs.Hands.{class_at}
-use Rattle.shared_memory.specs.Layout.{words_of}
+use Rattle.version_rule.specs.StartWords.{all_words}
 use Rattle.version_rule.specs.Told.{Mine}
 use Rattle.version_memory.specs.declared.passes.Reserved.{Reserved}
 
 -- the table of a memory of this plan
 pub record IsMade (plan : Plan) (table : TableId) : Type 0 where
-  pub sized : table.words ≡ words_of plan.size
+  pub sized : table.words ≡ all_words plan
   pub slotless : table.slots ≡ 0
   pub few : plan.size.threads ≤ 16
+  pub some_first : 1 ≤ plan.first
+  pub all : plan.first * (1 + plan.spare) ≡ plan.size.threads
   pub some_class : 0 < plan.size.classes
   pub whole : plan.size.mem % 8 ≡ 0
   pub short : plan.size.limit ≤ 2 ^ 62
 
--- a seat of the table that has one number may make a step
+-- a seat of the table that has one number may make a step, where its thread may act by what it has seen
 pub record IsReady (plan : Plan) (table home : TableId) (me : Mine) : Type 0 where
   pub made : IsMade plan table
   pub home_is : home ≡ table
   pub single : IsSingle me.0.lead (marked me.0.numbers)
+  pub acts : MayAct plan.first me.0.lead me.0.seen
+
+-- a seat of the table that has one number, of a thread that doesn't begin by itself, may look whether it was started
+pub record IsAwaiting (plan : Plan) (table home : TableId) (me : Mine) : Type 0 where
+  pub made : IsMade plan table
+  pub home_is : home ≡ table
+  pub single : IsSingle me.0.lead (marked me.0.numbers)
+  pub from : plan.first ≤ me.0.lead
 
 -- what a pass keeps of a reservation
 abbrev pub reserved_of : Reserve → Option Reserved
@@ -54,3 +65,7 @@ pub record IsBetween (me : Mine) (has : List Bool) (number : ℕ) (reserved : Op
   pub short : (row version : ℕ) → me.0.doing.reserve ≡ Row row version → version ≤ 2 ^ 63
   pub several : me.0.doing.reserve ≡ Several → (t : ℕ) → IsSingle t (marked me.0.numbers) → ⊥
   pub slots : me.1 ≡ []
+
+-- and it is known how many threads its thread has started, where the pass has one number
+pub record HasStarted (me : Mine) (started : ℕ) : Type 0 where
+  pub counts : (t : ℕ) → IsSingle t (marked me.0.numbers) → starts_of t me.0.seen ≡ started

@@ -4,11 +4,12 @@
 //! with one atomic operation. `plain` has those of loads and stores: `load_cell`; `look_at_tag`, `claim`, `take_cell`,
 //! `change_cell` and `release`, of which `store_cell` is made. `exclusive` has those of exclusive accesses: `try_watch`, `watch`
 //! and `read_ex`, of which `load_ex_cell` is made; `claim_ex`, with which `store_ex_cell` begins, and
-//! `fail_limited`; `fail_absent`, and CLREX as `clear_reservation`. `stamped` has the three looks of a stamped load. `seats`
-//! splits and joins, `making` makes a memory, and `pauses` says how long a thread waits whose store-exclusives failed.
+//! `fail_limited`; `fail_absent`, and CLREX as `clear_reservation`. `stamped` has the three looks of a stamped load. `starts` has
+//! `start_child`, and of a thread that waits for its start `know_own` and `look_at_start`. `seats` splits and joins, `making`
+//! makes a memory, and `pauses` says how long a thread waits whose store-exclusives failed.
 //!
-//! Its calls are in `sharing`, those of exclusive accesses that wait for nobody in `now`, and those of accesses that give their
-//! stamps in `stamps`. `specs/Stands` says where an entry stands in what a pass has seen, and what was so before it;
+//! Its calls are in `sharing`, those by which threads start others in `starting`, those of exclusive accesses that wait for
+//! nobody in `now`, and those of accesses that give their stamps in `stamps`. `specs/Stands` says where an entry stands in what a pass has seen, and what was so before it;
 //! `specs/Exact` says when a store-exclusive has failed; [`worked`] has small cases, what holds and what doesn't.
 #![tactic(auto)]
 
@@ -23,6 +24,8 @@ mod seats;
 mod sharing;
 mod stamped;
 mod stamps;
+mod starting;
+mod starts;
 pub mod worked;
 
 pub use memory::VersionMemory;

@@ -10,11 +10,17 @@ use version_rule::VersionTable;
 /// Each class of rows has a tag: twice the number of its writes that are over, and one more while one of them is in flight. A
 /// load is one load of a cell. A store claims its class, by a tag that was even and becomes odd; then it loads the cell,
 /// stores it changed, and gives the class back with the next even tag. A load-exclusive keeps the even tag that it finds, and
-/// its store-exclusive claims the class by that tag alone: it succeeds just where no write has begun in the class since.
+/// its store-exclusive claims the class by that tag alone: it succeeds just where no write has begun in the class since. A
+/// thread that doesn't begin by itself has a word, which the thread that starts it sets, and for which it waits.
 #[derive(Drop)]
 pub struct VersionMemory {
     pub(crate) table: VersionTable,
     pub(crate) size: MachineSize,
+    /// How many threads begin by themselves.
+    pub(crate) first: u32,
+    /// How many threads each of these may start.
+    pub(crate) spare: u32,
     ghost sized: { size ≡ table.shared.key.size },
+    ghost dealt: { (first ≡ table.shared.key.first) × (spare ≡ table.shared.key.spare) },
     ghost made: { IsMade table.shared.key table.shared.table_id },
 }

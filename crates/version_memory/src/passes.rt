@@ -1,6 +1,6 @@
 //! A pass, and the story of a memory that was closed.
 ghost use Rattle.std.specs.Prelude.{◌≤◌};
-ghost use Rattle.version_memory.specs.Passes.{IsBetween};
+ghost use Rattle.version_memory.specs.Passes.{HasStarted, IsBetween};
 
 use std::snapshot::Snapshot;
 use version_rule::VersionSeat;
@@ -26,8 +26,11 @@ pub struct VersionPass {
     pub(crate) reserved: Option<Reserved>,
     /// How often the next load-exclusive of its thread pauses first.
     pub(crate) pauses: u32,
+    /// How many threads its thread has started.
+    pub(crate) started: u32,
     ghost between: { IsBetween seat.me has number reserved },
     ghost few: { pauses ≤ 8 },
+    ghost counted: { HasStarted seat.me started },
 }
 
 /// The whole history of a memory that was closed.

@@ -94,7 +94,7 @@ impl SharedMemory for VersionMemory {
     }
 
     fn first(&self) -> u32 {
-        self.size.threads()
+        self.first
     }
 
     fn thread(&self, pass: &VersionPass) -> u32 {
@@ -169,12 +169,14 @@ impl SharedMemory for VersionMemory {
         pass.has[t as usize] = false;
         pass.number = lead;
         pass.reserved = None;
+        pass.started = 0;
         VersionPass {
             seat,
             has: only_mark(t),
             number: t,
             reserved: None,
             pauses: 0,
+            started: 0,
         }
     }
 
@@ -185,6 +187,7 @@ impl SharedMemory for VersionMemory {
             number: _,
             reserved: _,
             pauses: _,
+            started: _,
         } = other;
         join_numbers(&self.table.shared, &mut pass.seat, seat);
         pass.has = merge_marks(&pass.has, &has);
@@ -192,13 +195,19 @@ impl SharedMemory for VersionMemory {
     }
 
     fn close(self, pass: VersionPass) -> (Rows, VersionStory) {
-        let VersionMemory { table, size } = self;
+        let VersionMemory {
+            table,
+            size,
+            first: _,
+            spare: _,
+        } = self;
         let VersionPass {
             seat,
             has: _,
             number: _,
             reserved: _,
             pauses: _,
+            started: _,
         } = pass;
         let story = VersionStory {
             of: Snapshot::of(&seat),

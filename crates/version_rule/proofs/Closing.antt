@@ -30,7 +30,7 @@ use Rattle.version_rule.proofs.Classes.{flies-none}
 module _ (plan : Plan) (words : List ℕ) (slots : List (Unit {0})) (seat : ℕ) (v : View Hand) (all : (t : ℕ) → t < plan.size.threads → IsOneOf t (marked v.numbers)) (rest : v.doing.doing ≡ Rest)
     (final : Final (Seen (KeptBy plan) seat v) words slots) where
   pub legal-closed : IsLegalFrom (origin_of plan) v.seen
-  legal-closed = let k = final.1.0 in legal-seen (Knows plan.size) plan final.0.views k.history k.standing seat v k.tells final.1.1 all plan.size.threads 0 true true k.born
+  legal-closed = let k = final.1.0 in legal-seen (Knows plan.size) plan final.0.views k.history k.standing seat v k.tells final.1.1 all plan.first plan.spare true true k.born
 
   pub steady-closed : AreSteady plan.size v.seen
   steady-closed =

@@ -13,6 +13,7 @@ use Rattle.history.specs.Follow.{MayJoin, flight_at}
 use Rattle.history.specs.declared.entry.Entry.TheVariants.{Read, Fail, Clear, Watch, Miss, Begin}
 use Rattle.history.specs.declared.entry.Cause.TheVariants.{Absent, Lost, Limit}
 use Rattle.atomic_table.specs.Table.{Allows, keeps, step}
+use Rattle.history.specs.Started.{MayAct}
 use Rattle.shared_memory.specs.Seen.{IsSingle}
 use Rattle.shared_memory.specs.Passes.{marked, moved}
 use Rattle.version_rule.specs.declared.hands.Doing.{Doing}
@@ -24,13 +25,13 @@ use Rattle.shared_memory.specs.declared.plans.Plan.{Plan}
 use Rattle.version_rule.specs.Hands.{class_at, hand}
 use Rattle.version_rule.specs.Knowledge.{IsAt, IsReserve, Knows}
 use Rattle.shared_memory.specs.Layout.{cell_word, tag_word}
-use Rattle.version_rule.specs.Kept.{IsLaid, Kept, KeptBy, origin_of}
+use Rattle.version_rule.specs.Kept.{Kept, KeptBy, origin_of}
 use Rattle.shared_memory.specs.Told.{ask}
 use Rattle.version_rule.specs.Told.{HasLost, IsDisturbed, IsUndisturbedAt, Mine, absent, claimed_ex, cleared, limited, read_ex, watched, watched_or_not}
 use Rattle.version_rule.proofs.Classes.{IsOrderly, flies-none}
 use Rattle.version_rule.proofs.Facts.{as-found, cell-is, known, lead-below, overtaken-is, reserved-is, sound, stirred-is, tag-is, writes-is}
-use Rattle.version_rule.proofs.Laid.{laid-same, laid-tag}
-use Rattle.version_rule.proofs.Moves.{acts, decides, moves-none, moves-one, told-none, told-one}
+use Rattle.version_rule.proofs.Laid.{AreRelaid, laid-same, laid-tag}
+use Rattle.version_rule.proofs.Moves.{decides, moves-none, moves-one, told-none, told-one}
 use Rattle.version_rule.proofs.Own.{own-claim_ex, own-clear, own-fail, own-miss, own-read_ex, own-watch}
 
 odd-of : (n : ℕ) → n % 2 ≢ 0 → n % 2 ≡ 1
@@ -38,9 +39,9 @@ odd-of n h = omega arith
 
 module _ (plan : Plan) where
   -- a load-exclusive begins
-  pub watches : (slots seat : ℕ) (me : Mine) (p : Place) (value : ℕ) → IsSingle me.0.lead (marked me.0.numbers) → me.0.doing.doing ≡ Rest → 0 < plan.size.classes
+  pub watches : (slots seat : ℕ) (me : Mine) (p : Place) (value : ℕ) → IsSingle me.0.lead (marked me.0.numbers) → MayAct plan.first me.0.lead me.0.seen → me.0.doing.doing ≡ Rest → 0 < plan.size.classes
       → Allows (KeptBy plan) slots seat me (tag_word (class_at plan.size p)) (λ n. n) (watched (ask (origin_of plan) p value) (step slots (tag_word (class_at plan.size p)) 0 0 none) me)
-  watches slots seat me p value single rest some_class s k long at small =
+  watches slots seat me p value single act rest some_class s k long at small =
       let class = class_at plan.size p in
       let i = tag_word class in
       let n = slice_index s.words i in
@@ -58,9 +59,9 @@ module _ (plan : Plan) where
               w,
               keeps,
               tt,
-              as-found plan s.words i (set s.views seat w) (moves-one plan s.words s.views k seat v at single e refl (acts plan s.words s.views k seat v at single) stage tt s.words h after
+              as-found plan s.words i (set s.views seat w) (moves-one plan s.words s.views k seat v at single e refl refl act stage tt s.words h after
                   (laid-same plan.size s.words k.standing (joined plan.size k.standing e) refl refl k.laid)),
-              ((λ is. told-one plan s.words s.views k seat v at single e refl (acts plan s.words s.views k seat v at single) stage tt h me.1 after), (λ not. absurd (not even)), most),
+              ((λ is. told-one plan s.words s.views k seat v at single e refl refl act stage tt h me.1 after), (λ not. absurd (not even)), most),
             )
         | inr odd ↦
             let e = Miss v.lead p in
@@ -83,16 +84,16 @@ module _ (plan : Plan) where
               w,
               keeps,
               tt,
-              as-found plan s.words i (set s.views seat w) (moves-one plan s.words s.views k seat v at single e refl (acts plan s.words s.views k seat v at single) may tt s.words h after
+              as-found plan s.words i (set s.views seat w) (moves-one plan s.words s.views k seat v at single e refl refl act may tt s.words h after
                   (laid-same plan.size s.words k.standing (joined plan.size k.standing e) refl refl k.laid)),
-              ((λ is. absurd (odd is)), (λ not. told-one plan s.words s.views k seat v at single e refl (acts plan s.words s.views k seat v at single) may tt h me.1 after), most),
+              ((λ is. absurd (odd is)), (λ not. told-one plan s.words s.views k seat v at single e refl refl act may tt h me.1 after), most),
             )
       ]
 
   -- the same, where it waits rather than to begin without a reservation
-  pub tries-watch : (slots seat : ℕ) (me : Mine) (p : Place) (value : ℕ) → IsSingle me.0.lead (marked me.0.numbers) → me.0.doing.doing ≡ Rest → 0 < plan.size.classes
+  pub tries-watch : (slots seat : ℕ) (me : Mine) (p : Place) (value : ℕ) → IsSingle me.0.lead (marked me.0.numbers) → MayAct plan.first me.0.lead me.0.seen → me.0.doing.doing ≡ Rest → 0 < plan.size.classes
       → Allows (KeptBy plan) slots seat me (tag_word (class_at plan.size p)) (λ n. n) (watched_or_not (ask (origin_of plan) p value) (step slots (tag_word (class_at plan.size p)) 0 0 none) me)
-  tries-watch slots seat me p value single rest some_class s k long at small =
+  tries-watch slots seat me p value single act rest some_class s k long at small =
       let class = class_at plan.size p in
       let i = tag_word class in
       let n = slice_index s.words i in
@@ -110,25 +111,25 @@ module _ (plan : Plan) where
               w,
               keeps,
               tt,
-              as-found plan s.words i (set s.views seat w) (moves-one plan s.words s.views k seat v at single e refl (acts plan s.words s.views k seat v at single) stage tt s.words h after
+              as-found plan s.words i (set s.views seat w) (moves-one plan s.words s.views k seat v at single e refl refl act stage tt s.words h after
                   (laid-same plan.size s.words k.standing (joined plan.size k.standing e) refl refl k.laid)),
-              ((λ is. told-one plan s.words s.views k seat v at single e refl (acts plan s.words s.views k seat v at single) stage tt h me.1 after), (λ not. absurd (not even)), most),
+              ((λ is. told-one plan s.words s.views k seat v at single e refl refl act stage tt h me.1 after), (λ not. absurd (not even)), most),
             )
         | inr odd ↦
             let w = moved v k.history [] v.doing in (
               w,
               keeps,
               tt,
-              as-found plan s.words i (set s.views seat w) (moves-none plan s.words s.views k seat v at single s.words v.doing knows k.laid),
+              as-found plan s.words i (set s.views seat w) (moves-none plan s.words s.views k seat v at single v.doing knows),
               ((λ is. absurd (odd is)), (λ not. told-none plan s.words s.views k seat v at single v.doing me.1 knows), most),
             )
       ]
 
   -- it loads the cell
-  pub reads-ex : (slots seat : ℕ) (me : Mine) (p : Place) (value : ℕ) → IsSingle me.0.lead (marked me.0.numbers) → me.0.doing.doing ≡ Looking p
+  pub reads-ex : (slots seat : ℕ) (me : Mine) (p : Place) (value : ℕ) → IsSingle me.0.lead (marked me.0.numbers) → MayAct plan.first me.0.lead me.0.seen → me.0.doing.doing ≡ Looking p
       → is_aligned p ≡ true → p.addr + size_bytes p.size ≤ plan.size.mem
       → Allows (KeptBy plan) slots seat me (cell_word plan.size (cell_of p)) (λ n. n) (read_ex (ask (origin_of plan) p value) (step slots (cell_word plan.size (cell_of p)) 0 0 none) me)
-  reads-ex slots seat me p value single looking aligned inside s k long at small =
+  reads-ex slots seat me p value single act looking aligned inside s k long at small =
       let i = cell_word plan.size (cell_of p) in
       let n = slice_index s.words i in
       let v = me.0 in
@@ -144,21 +145,21 @@ module _ (plan : Plan) where
         w,
         keeps,
         tt,
-        as-found plan s.words i (set s.views seat w) (moves-one plan s.words s.views k seat v at single e refl (acts plan s.words s.views k seat v at single) may tt s.words h after
+        as-found plan s.words i (set s.views seat w) (moves-one plan s.words s.views k seat v at single e refl refl act may tt s.words h after
             (laid-same plan.size s.words k.standing (joined plan.size k.standing e) refl refl k.laid)),
-        told-one plan s.words s.views k seat v at single e refl (acts plan s.words s.views k seat v at single) may tt h me.1 after,
+        told-one plan s.words s.views k seat v at single e refl refl act may tt h me.1 after,
       )
 
   room-of : (n version limit : ℕ) → 2 * n ≡ version → version < 2 * limit → n < limit
   room-of n version limit is room = omega arith
 
   -- a store-exclusive with a reservation on the row is decided
-  pub claims-ex : (slots seat : ℕ) (me : Mine) (version : ℕ) (p : Place) (value : ℕ) → IsSingle me.0.lead (marked me.0.numbers) → me.0.doing ≡ hand Rest (Row (row_of plan.size.granule p) version)
+  pub claims-ex : (slots seat : ℕ) (me : Mine) (version : ℕ) (p : Place) (value : ℕ) → IsSingle me.0.lead (marked me.0.numbers) → MayAct plan.first me.0.lead me.0.seen → me.0.doing ≡ hand Rest (Row (row_of plan.size.granule p) version)
       → 0 < plan.size.classes → version ≢ 2 * plan.size.limit
       → is_aligned p ≡ true → p.addr + size_bytes p.size ≤ plan.size.mem → value < 256 ^ size_bytes p.size
       → Allows (KeptBy plan) slots seat me (tag_word (class_at plan.size p)) (λ n. either (n == version) (version + 1) n)
       (claimed_ex (ask (origin_of plan) p value) (step slots (tag_word (class_at plan.size p)) version (version + 1) none) me)
-  claims-ex slots seat me version p value single doing some_class other aligned inside fits s k long at small =
+  claims-ex slots seat me version p value single act doing some_class other aligned inside fits s k long at small =
       let class = class_at plan.size p in
       let i = tag_word class in
       let n = slice_index s.words i in
@@ -196,12 +197,12 @@ module _ (plan : Plan) where
               keeps,
               tt,
               subst (λ b. Kept plan (set s.words i (either b (version + 1) n)) (set s.views seat w)) (sym (eq-eqb n version hit))
-                  (moves-one plan s.words s.views k seat v at single begin refl (acts plan s.words s.views k seat v at single) knows.at orderly (set s.words i (version + 1)) won after
-                  (subst (λ (m : ℕ). IsLaid plan.size (set s.words i (m + 1)) (joined plan.size k.standing begin)) is
+                  (moves-one plan s.words s.views k seat v at single begin refl refl act knows.at orderly (set s.words i (version + 1)) won after
+                  (subst (λ (m : ℕ). AreRelaid plan.size s.words (set s.words i (m + 1)) (joined plan.size k.standing begin)) is
                   (laid-tag plan.size s.words k.standing (joined plan.size k.standing begin) class (k.standing.edges class + 1) below refl refl k.laid))),
               (
                 (λ hit'. decides plan s.words s.views k seat v at single (begin ∷ []) won me.1 (IsUndisturbedAt (ask (origin_of plan) p value) v.lead version) fact
-                    (told-one plan s.words s.views k seat v at single begin refl (acts plan s.words s.views k seat v at single) knows.at orderly won me.1 after)),
+                    (told-one plan s.words s.views k seat v at single begin refl refl act knows.at orderly won me.1 after)),
                 λ not. absurd (not hit),
               ),
             )
@@ -221,12 +222,12 @@ module _ (plan : Plan) where
               keeps,
               tt,
               subst (λ b. Kept plan (set s.words i (either b (version + 1) n)) (set s.views seat w)) (sym (ne_eqb n version miss))
-                  (as-found plan s.words i (set s.views seat w) (moves-one plan s.words s.views k seat v at single fail refl (acts plan s.words s.views k seat v at single) may gone s.words lost after
+                  (as-found plan s.words i (set s.views seat w) (moves-one plan s.words s.views k seat v at single fail refl refl act may gone s.words lost after
                   (laid-same plan.size s.words k.standing (joined plan.size k.standing fail) refl refl k.laid))),
               (
                 (λ hit. absurd (miss hit)),
                 λ not. decides plan s.words s.views k seat v at single (fail ∷ []) lost me.1 (HasLost (ask (origin_of plan) p value) v.lead) fact
-                    (told-one plan s.words s.views k seat v at single fail refl (acts plan s.words s.views k seat v at single) may gone lost me.1 after),
+                    (told-one plan s.words s.views k seat v at single fail refl refl act may gone lost me.1 after),
               ),
             )
       ]
@@ -237,11 +238,11 @@ module _ (plan : Plan) where
   not-reserved s t row Several h other several is = several refl
 
   -- one without a reservation on the row fails
-  pub absents : (slots seat : ℕ) (me : Mine) (p : Place) (value : ℕ) → IsSingle me.0.lead (marked me.0.numbers) → me.0.doing.doing ≡ Rest
+  pub absents : (slots seat : ℕ) (me : Mine) (p : Place) (value : ℕ) → IsSingle me.0.lead (marked me.0.numbers) → MayAct plan.first me.0.lead me.0.seen → me.0.doing.doing ≡ Rest
       → ((version : ℕ) → me.0.doing.reserve ≡ Row (row_of plan.size.granule p) version → ⊥) → (me.0.doing.reserve ≡ Several → ⊥)
       → is_aligned p ≡ true → p.addr + size_bytes p.size ≤ plan.size.mem → value < 256 ^ size_bytes p.size
       → Allows (KeptBy plan) slots seat me 0 (λ n. n) (absent (ask (origin_of plan) p value) (step slots 0 0 0 none) me)
-  absents slots seat me p value single rest other several aligned inside fits s k long at small =
+  absents slots seat me p value single act rest other several aligned inside fits s k long at small =
       let v = me.0 in
       let knows = known plan s.words s.views k seat v at single in
       let stage = subst (λ (d : Doing). IsAt plan.size k.standing v.lead d) rest knows.at in
@@ -255,21 +256,21 @@ module _ (plan : Plan) where
         w,
         keeps,
         tt,
-        as-found plan s.words 0 (set s.views seat w) (moves-one plan s.words s.views k seat v at single e refl (acts plan s.words s.views k seat v at single) may tt s.words h after
+        as-found plan s.words 0 (set s.views seat w) (moves-one plan s.words s.views k seat v at single e refl refl act may tt s.words h after
             (laid-same plan.size s.words k.standing (joined plan.size k.standing e) refl refl k.laid)),
         decides plan s.words s.views k seat v at single (e ∷ []) h me.1 (IsDisturbed (ask (origin_of plan) p value) v.lead) fact
-            (told-one plan s.words s.views k seat v at single e refl (acts plan s.words s.views k seat v at single) may tt h me.1 after),
+            (told-one plan s.words s.views k seat v at single e refl refl act may tt h me.1 after),
       )
 
   limit-of : (n version limit : ℕ) → 2 * n ≡ version → version ≡ 2 * limit → n ≡ limit
   limit-of n version limit is twice = omega arith
 
   -- one whose class has had all of its writes fails
-  pub limits : (slots seat : ℕ) (me : Mine) (version : ℕ) (p : Place) (value : ℕ) → IsSingle me.0.lead (marked me.0.numbers) → me.0.doing ≡ hand Rest (Row (row_of plan.size.granule p) version)
+  pub limits : (slots seat : ℕ) (me : Mine) (version : ℕ) (p : Place) (value : ℕ) → IsSingle me.0.lead (marked me.0.numbers) → MayAct plan.first me.0.lead me.0.seen → me.0.doing ≡ hand Rest (Row (row_of plan.size.granule p) version)
       → version ≡ 2 * plan.size.limit
       → is_aligned p ≡ true → p.addr + size_bytes p.size ≤ plan.size.mem → value < 256 ^ size_bytes p.size
       → Allows (KeptBy plan) slots seat me 0 (λ n. n) (limited (ask (origin_of plan) p value) (step slots 0 0 0 none) me)
-  limits slots seat me version p value single doing twice aligned inside fits s k long at small =
+  limits slots seat me version p value single act doing twice aligned inside fits s k long at small =
       let class = class_at plan.size p in
       let v = me.0 in
       let knows = subst (λ (h : Hand). Knows plan.size k.standing v.lead h) doing (known plan s.words s.views k seat v at single) in
@@ -292,16 +293,16 @@ module _ (plan : Plan) where
         w,
         keeps,
         tt,
-        as-found plan s.words 0 (set s.views seat w) (moves-one plan s.words s.views k seat v at single e refl (acts plan s.words s.views k seat v at single) may tt s.words h after
+        as-found plan s.words 0 (set s.views seat w) (moves-one plan s.words s.views k seat v at single e refl refl act may tt s.words h after
             (laid-same plan.size s.words k.standing (joined plan.size k.standing e) refl refl k.laid)),
         decides plan s.words s.views k seat v at single (e ∷ []) h me.1 (IsDisturbed (ask (origin_of plan) p value) v.lead) fact
-            (told-one plan s.words s.views k seat v at single e refl (acts plan s.words s.views k seat v at single) may tt h me.1 after),
+            (told-one plan s.words s.views k seat v at single e refl refl act may tt h me.1 after),
       )
 
   -- CLREX
-  pub clears : (slots seat : ℕ) (me : Mine) (p : Place) (value : ℕ) → IsSingle me.0.lead (marked me.0.numbers) → me.0.doing.doing ≡ Rest
+  pub clears : (slots seat : ℕ) (me : Mine) (p : Place) (value : ℕ) → IsSingle me.0.lead (marked me.0.numbers) → MayAct plan.first me.0.lead me.0.seen → me.0.doing.doing ≡ Rest
       → Allows (KeptBy plan) slots seat me 0 (λ n. n) (cleared (ask (origin_of plan) p value) (step slots 0 0 0 none) me)
-  clears slots seat me p value single rest s k long at small =
+  clears slots seat me p value single act rest s k long at small =
       let v = me.0 in
       let knows = known plan s.words s.views k seat v at single in
       let stage = subst (λ (d : Doing). IsAt plan.size k.standing v.lead d) rest knows.at in
@@ -313,7 +314,7 @@ module _ (plan : Plan) where
         w,
         keeps,
         tt,
-        as-found plan s.words 0 (set s.views seat w) (moves-one plan s.words s.views k seat v at single e refl (acts plan s.words s.views k seat v at single) may tt s.words h after
+        as-found plan s.words 0 (set s.views seat w) (moves-one plan s.words s.views k seat v at single e refl refl act may tt s.words h after
             (laid-same plan.size s.words k.standing (joined plan.size k.standing e) refl refl k.laid)),
-        told-one plan s.words s.views k seat v at single e refl (acts plan s.words s.views k seat v at single) may tt h me.1 after,
+        told-one plan s.words s.views k seat v at single e refl refl act may tt h me.1 after,
       )

@@ -7,7 +7,7 @@ use Rattle.llsc_base.specs.declared.access.Place.{Place}
 use Rattle.history.specs.Standing.{Standing, begun, is_of_class, joined, looked, rests, written}
 use Rattle.history.specs.declared.entry.Cause.{Cause}
 use Rattle.history.specs.declared.entry.Entry.{Entry}
-use Rattle.history.specs.declared.entry.Entry.TheVariants.{Read, Write, Fail, Clear, Watch, Miss, Begin, End}
+use Rattle.history.specs.declared.entry.Entry.TheVariants.{Read, Write, Fail, Clear, Watch, Miss, Begin, End, Start}
 use Rattle.history.proofs.Marks.{updated-other, updated-same}
 use Rattle.history.proofs.Steps.{joined-reserved}
 use Rattle.version_rule.specs.declared.hands.Doing.{Doing}
@@ -70,6 +70,19 @@ pub own-read : (size : Numbers) (s : Standing) (t : ℕ) (place : Place) (value 
     → Knows size s t h → Knows size (joined size s (Read t place value false)) t h
 own-read size s t place value h rest k =
     let e = Read t place value false in
+    let at : s.stage t ≡ rests = subst (λ (d : Doing). IsAt size s t d) rest k.at in
+    record {
+      at = subst (λ (d : Doing). IsAt size (joined size s e) t d) (sym rest) (stage-own size s e);
+      reserve = reserve-own size s e t h.reserve refl (λ row version is keeps. watches-own size s e t row version refl refl refl refl refl (rests-unlooked s t at) (λ m. m) keeps) k.reserve;
+      agrees = k.agrees;
+    }
+
+-- ---- threads that are started
+
+pub own-start : (size : Numbers) (s : Standing) (t child entry arg : ℕ) (h : Hand) → h.doing ≡ Rest
+    → Knows size s t h → Knows size (joined size s (Start t child entry arg)) t h
+own-start size s t child entry arg h rest k =
+    let e = Start t child entry arg in
     let at : s.stage t ≡ rests = subst (λ (d : Doing). IsAt size s t d) rest k.at in
     record {
       at = subst (λ (d : Doing). IsAt size (joined size s e) t d) (sym rest) (stage-own size s e);

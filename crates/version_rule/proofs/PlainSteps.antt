@@ -13,6 +13,7 @@ use Rattle.history.specs.Follow.{MayJoin}
 use Rattle.history.specs.declared.entry.Entry.{Entry}
 use Rattle.history.specs.declared.entry.Entry.TheVariants.{Read, Write, Begin, End}
 use Rattle.atomic_table.specs.Table.{Allows, keeps, step}
+use Rattle.history.specs.Started.{MayAct}
 use Rattle.shared_memory.specs.Seen.{IsSingle}
 use Rattle.shared_memory.specs.Passes.{marked, moved}
 use Rattle.version_rule.specs.declared.hands.Doing.{Doing}
@@ -22,21 +23,21 @@ use Rattle.version_rule.specs.Exact.{IsSpent, IsVersion}
 use Rattle.version_rule.specs.Hands.{class_at, hand, reserve_after}
 use Rattle.version_rule.specs.Knowledge.{IsAt, Knows}
 use Rattle.shared_memory.specs.Layout.{cell_word, tag_word}
-use Rattle.version_rule.specs.Kept.{IsLaid, Kept, KeptBy, origin_of}
+use Rattle.version_rule.specs.Kept.{Kept, KeptBy, origin_of}
 use Rattle.shared_memory.specs.Told.{Goes, ask, loaded}
 use Rattle.version_rule.specs.Told.{Decides, Mine, changed, claimed, released, tag_found, taken}
 use Rattle.version_rule.proofs.Classes.{IsOrderly}
 use Rattle.version_rule.proofs.Facts.{as-found, cell-below, cell-is, known, sound, spent, tag-is, writes-is}
-use Rattle.version_rule.proofs.Laid.{laid-cell, laid-same, laid-tag}
-use Rattle.version_rule.proofs.Moves.{acts, decides, moves-none, moves-one, told-none, told-one}
+use Rattle.version_rule.proofs.Laid.{AreRelaid, laid-cell, laid-same, laid-tag}
+use Rattle.version_rule.proofs.Moves.{decides, moves-none, moves-one, told-none, told-one}
 use Rattle.version_rule.proofs.Own.{own-change, own-claim, own-read, own-release, own-take}
 
 module _ (plan : Plan) where
   -- a load of a cell
-  pub loads : (slots seat : ℕ) (me : Mine) (p : Place) → IsSingle me.0.lead (marked me.0.numbers) → me.0.doing.doing ≡ Rest
+  pub loads : (slots seat : ℕ) (me : Mine) (p : Place) → IsSingle me.0.lead (marked me.0.numbers) → MayAct plan.first me.0.lead me.0.seen → me.0.doing.doing ≡ Rest
       → is_aligned p ≡ true → p.addr + size_bytes p.size ≤ plan.size.mem
       → Allows (KeptBy plan) slots seat me (cell_word plan.size (cell_of p)) (λ n. n) (loaded (ask (origin_of plan) p 0) (step slots (cell_word plan.size (cell_of p)) 0 0 none) me)
-  loads slots seat me p single rest aligned inside s k long at small =
+  loads slots seat me p single act rest aligned inside s k long at small =
       let i = cell_word plan.size (cell_of p) in
       let n = slice_index s.words i in
       let v = me.0 in
@@ -52,9 +53,9 @@ module _ (plan : Plan) where
         keeps,
         tt,
         as-found plan s.words i (set s.views seat (moved v k.history (e ∷ []) v.doing))
-            (moves-one plan s.words s.views k seat v at single e refl (acts plan s.words s.views k seat v at single) may tt s.words v.doing after
+            (moves-one plan s.words s.views k seat v at single e refl refl act may tt s.words v.doing after
             (laid-same plan.size s.words k.standing (joined plan.size k.standing e) refl refl k.laid)),
-        told-one plan s.words s.views k seat v at single e refl (acts plan s.words s.views k seat v at single) may tt v.doing me.1 after,
+        told-one plan s.words s.views k seat v at single e refl refl act may tt v.doing me.1 after,
       )
 
   -- a load of a tag
@@ -68,7 +69,7 @@ module _ (plan : Plan) where
         moved v k.history [] v.doing,
         keeps,
         tt,
-        as-found plan s.words i (set s.views seat (moved v k.history [] v.doing)) (moves-none plan s.words s.views k seat v at single s.words v.doing knows k.laid),
+        as-found plan s.words i (set s.views seat (moved v k.history [] v.doing)) (moves-none plan s.words s.views k seat v at single v.doing knows),
         record {
           goes = told-none plan s.words s.views k seat v at single v.doing me.1 knows;
           most = subst (λ (n : ℕ). n ≤ 2 * plan.size.limit) (sym tag) (k.classes.most (class_at plan.size p));
@@ -77,11 +78,11 @@ module _ (plan : Plan) where
       )
 
   -- a store claims its class
-  pub claims : (slots seat : ℕ) (me : Mine) (version : ℕ) (p : Place) (value : ℕ) → IsSingle me.0.lead (marked me.0.numbers) → me.0.doing.doing ≡ Rest → 0 < plan.size.classes
+  pub claims : (slots seat : ℕ) (me : Mine) (version : ℕ) (p : Place) (value : ℕ) → IsSingle me.0.lead (marked me.0.numbers) → MayAct plan.first me.0.lead me.0.seen → me.0.doing.doing ≡ Rest → 0 < plan.size.classes
       → version % 2 ≡ 0 → version < 2 * plan.size.limit
       → Allows (KeptBy plan) slots seat me (tag_word (class_at plan.size p)) (λ n. either (n == version) (version + 1) n)
       (claimed (ask (origin_of plan) p value) (step slots (tag_word (class_at plan.size p)) version (version + 1) none) me)
-  claims slots seat me version p value single rest some_class even room s k long at small =
+  claims slots seat me version p value single act rest some_class even room s k long at small =
       let class = class_at plan.size p in
       let i = tag_word class in
       let n = slice_index s.words i in
@@ -99,13 +100,13 @@ module _ (plan : Plan) where
             let is : k.standing.edges class ≡ version = sym tag ∙ hit in
             let after = own-claim plan.size k.standing v.lead p version v.doing.reserve k.classes even is knows in
             let orderly : IsOrderly plan.size k.standing e = (ap (λ (m : ℕ). m % 2) is ∙ even, subst (λ (m : ℕ). m < 2 * plan.size.limit) (sym is) room) in
-            let goes = told-one plan s.words s.views k seat v at single e refl (acts plan s.words s.views k seat v at single) knows.at orderly h me.1 after in (
+            let goes = told-one plan s.words s.views k seat v at single e refl refl act knows.at orderly h me.1 after in (
               w,
               keeps,
               tt,
               subst (λ b. Kept plan (set s.words i (either b (version + 1) n)) (set s.views seat w)) (sym (eq-eqb n version hit))
-                  (moves-one plan s.words s.views k seat v at single e refl (acts plan s.words s.views k seat v at single) knows.at orderly (set s.words i (version + 1)) h after
-                  (subst (λ (m : ℕ). IsLaid plan.size (set s.words i (m + 1)) (joined plan.size k.standing e)) is
+                  (moves-one plan s.words s.views k seat v at single e refl refl act knows.at orderly (set s.words i (version + 1)) h after
+                  (subst (λ (m : ℕ). AreRelaid plan.size s.words (set s.words i (m + 1)) (joined plan.size k.standing e)) is
                   (laid-tag plan.size s.words k.standing (joined plan.size k.standing e) class (k.standing.edges class + 1) below refl refl k.laid))),
               (
                 (λ hit'. decides plan s.words s.views k seat v at single (e ∷ []) h me.1 (IsVersion plan.size p version)
@@ -118,7 +119,7 @@ module _ (plan : Plan) where
           keeps,
           tt,
           subst (λ b. Kept plan (set s.words i (either b (version + 1) n)) (set s.views seat stays)) (sym (ne_eqb n version miss))
-              (as-found plan s.words i (set s.views seat stays) (moves-none plan s.words s.views k seat v at single s.words v.doing all k.laid)),
+              (as-found plan s.words i (set s.views seat stays) (moves-none plan s.words s.views k seat v at single v.doing all)),
           ((λ hit. absurd (miss hit)), λ not. told-none plan s.words s.views k seat v at single v.doing me.1 all),
         )
       ]
@@ -138,7 +139,7 @@ module _ (plan : Plan) where
         w,
         keeps,
         tt,
-        as-found plan s.words i (set s.views seat w) (moves-none plan s.words s.views k seat v at single s.words h after k.laid),
+        as-found plan s.words i (set s.views seat w) (moves-none plan s.words s.views k seat v at single h after),
         λ version' ex' begun'.
             let same : Claimed p version ex ≡ Claimed p version' ex' = sym begun ∙ begun' in
             let is : Holding p version ex n ≡ Holding p version' ex' n = cc in
@@ -146,11 +147,11 @@ module _ (plan : Plan) where
       )
 
   -- it stores the changed cell
-  pub changes : (slots seat : ℕ) (me : Mine) (version : ℕ) (ex : Bool) (cell : ℕ) (p : Place) (value : ℕ) → IsSingle me.0.lead (marked me.0.numbers) → me.0.doing.doing ≡ Holding p version ex cell
+  pub changes : (slots seat : ℕ) (me : Mine) (version : ℕ) (ex : Bool) (cell : ℕ) (p : Place) (value : ℕ) → IsSingle me.0.lead (marked me.0.numbers) → MayAct plan.first me.0.lead me.0.seen → me.0.doing.doing ≡ Holding p version ex cell
       → is_aligned p ≡ true → p.addr + size_bytes p.size ≤ plan.size.mem → value < 256 ^ size_bytes p.size
       → Allows (KeptBy plan) slots seat me (cell_word plan.size (cell_of p)) (λ _. cell_with cell p value)
       (λ _. changed (ask (origin_of plan) p value) (step slots (cell_word plan.size (cell_of p)) (cell_with cell p value) 0 none) me (cell_with cell p value))
-  changes slots seat me version ex cell p value single holding aligned inside fits s k long at small =
+  changes slots seat me version ex cell p value single act holding aligned inside fits s k long at small =
       let class = class_at plan.size p in
       let i = cell_word plan.size (cell_of p) in
       let v = me.0 in
@@ -160,13 +161,13 @@ module _ (plan : Plan) where
       let after = own-change plan.size k.standing v.lead p value version ex cell v.doing.reserve knows in
       let may : MayJoin plan.size k.standing e = (knows.at.0.stage, sound plan s.words s.views k seat v at single p value aligned inside fits, knows.at.0.marked) in
       let w = moved v k.history (e ∷ []) h in
-      let goes = told-one plan s.words s.views k seat v at single e refl (acts plan s.words s.views k seat v at single) may tt h me.1 after in
+      let goes = told-one plan s.words s.views k seat v at single e refl refl act may tt h me.1 after in
       let had : IsVersion plan.size p version k.history = ap (λ (m : ℕ). 2 * m) (writes-is plan s.words s.views k p) ∙ knows.at.0.writes in (
         w,
         keeps,
         tt,
-        moves-one plan s.words s.views k seat v at single e refl (acts plan s.words s.views k seat v at single) may tt (set s.words i (cell_with cell p value)) h after
-            (subst (λ (c : ℕ). IsLaid plan.size (set s.words i (cell_with c p value)) (joined plan.size k.standing e)) knows.at.1
+        moves-one plan s.words s.views k seat v at single e refl refl act may tt (set s.words i (cell_with cell p value)) h after
+            (subst (λ (c : ℕ). AreRelaid plan.size s.words (set s.words i (cell_with c p value)) (joined plan.size k.standing e)) knows.at.1
             (laid-cell plan.size s.words k.standing (joined plan.size k.standing e) (cell_of p) (cell_with (k.standing.cells (cell_of p)) p value) (cell-below plan s.words s.views k p inside) refl refl k.laid)),
         λ version' ex' cell' holding'.
             let same : Holding p version ex cell ≡ Holding p version' ex' cell' = sym holding ∙ holding' in
@@ -178,10 +179,10 @@ module _ (plan : Plan) where
       )
 
   -- it gives the class back
-  pub releases : (slots seat : ℕ) (me : Mine) (version : ℕ) (p : Place) (value : ℕ) → IsSingle me.0.lead (marked me.0.numbers) → me.0.doing.doing ≡ Written p version → 0 < plan.size.classes
+  pub releases : (slots seat : ℕ) (me : Mine) (version : ℕ) (p : Place) (value : ℕ) → IsSingle me.0.lead (marked me.0.numbers) → MayAct plan.first me.0.lead me.0.seen → me.0.doing.doing ≡ Written p version → 0 < plan.size.classes
       → Allows (KeptBy plan) slots seat me (tag_word (class_at plan.size p)) (λ _. version + 2)
       (λ _. released (ask (origin_of plan) p value) (step slots (tag_word (class_at plan.size p)) (version + 2) 0 none) me (version + 2))
-  releases slots seat me version p value single written some_class s k long at small =
+  releases slots seat me version p value single act written some_class s k long at small =
       let class = class_at plan.size p in
       let i = tag_word class in
       let v = me.0 in
@@ -196,8 +197,8 @@ module _ (plan : Plan) where
         moved v k.history (e ∷ []) h,
         keeps,
         tt,
-        moves-one plan s.words s.views k seat v at single e refl (acts plan s.words s.views k seat v at single) knows.at.stage orderly (set s.words i (version + 2)) h after
-            (subst (λ (m : ℕ). IsLaid plan.size (set s.words i m) (joined plan.size k.standing e)) over
+        moves-one plan s.words s.views k seat v at single e refl refl act knows.at.stage orderly (set s.words i (version + 2)) h after
+            (subst (λ (m : ℕ). AreRelaid plan.size s.words (set s.words i m) (joined plan.size k.standing e)) over
             (laid-tag plan.size s.words k.standing (joined plan.size k.standing e) class (k.standing.edges class + 1) below refl refl k.laid)),
-        told-one plan s.words s.views k seat v at single e refl (acts plan s.words s.views k seat v at single) knows.at.stage orderly h me.1 after,
+        told-one plan s.words s.views k seat v at single e refl refl act knows.at.stage orderly h me.1 after,
       )

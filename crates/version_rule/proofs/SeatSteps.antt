@@ -37,6 +37,7 @@ module _ (plan : Plan) where
     tells = split (Knows plan.size) plan.size plan.image.value.bytes s.views k.history k.standing seat v t lead (hand Rest Nothing) k.tells at left right has fresh
         (λ u stage reserved. record { at = stage; reserve = reserved; agrees = tt });
     laid = k.laid;
+    starts = k.starts;
     classes = k.classes;
   }
 
@@ -57,6 +58,7 @@ module _ (plan : Plan) where
         tells = joined (Knows plan.size) plan.size plan.image.value.bytes s.views k.history k.standing seat other v w h (hand Rest Nothing) k.tells at apart there
             (λ t knows. known t v.doing rest_v knows) (λ t knows. known t w.doing rest_w knows);
         laid = k.laid;
+        starts = k.starts;
         classes = k.classes;
       }
 
@@ -74,6 +76,7 @@ module _ (plan : Plan) where
           steady = k.steady;
           tells = settled (Knows plan.size) plan.size plan.image.value.bytes s.views k.history k.standing seat v k.tells at;
           laid = k.laid;
+          starts = k.starts;
           classes = k.classes;
         }),
         record { settled = settles (Knows plan.size) plan.size k.standing k.history k.tells.owner seat v (k.tells.each seat v at); slots = refl },

@@ -11,7 +11,7 @@ use Rattle.history.specs.Standing.{joined}
 use Rattle.history.specs.Follow.{MayJoin}
 use Rattle.history.specs.declared.entry.Entry.TheVariants.{Read, Watch}
 use Rattle.atomic_table.specs.Table.{Allows, keeps, step}
-use Rattle.history.proofs.Born.{may-act-later}
+use Rattle.history.specs.Started.{MayAct}
 use Rattle.shared_memory.specs.Seen.{IsSingle}
 use Rattle.shared_memory.specs.Passes.{marked, moved}
 use Rattle.version_rule.specs.declared.hands.Doing.{Doing}
@@ -28,7 +28,7 @@ use Rattle.version_rule.specs.Told.{Decides, Mine, first_found, second_found, th
 use Rattle.shared_memory.proofs.Apart.{stage-own}
 use Rattle.version_rule.proofs.Facts.{as-found, cell-is, known, sound, tag-is, writes-is}
 use Rattle.version_rule.proofs.Laid.{laid-same}
-use Rattle.version_rule.proofs.Moves.{acts, decides, moves-none, moves-one, moves-two, told-none, told-one, told-two}
+use Rattle.version_rule.proofs.Moves.{decides, moves-none, moves-one, moves-two, told-none, told-one, told-two}
 use Rattle.version_rule.proofs.Own.{own-first, own-read, own-read_ex, own-second, own-third, own-watch}
 
 module _ (plan : Plan) where
@@ -51,7 +51,7 @@ module _ (plan : Plan) where
               w,
               keeps,
               tt,
-              as-found plan s.words i (set s.views seat w) (moves-none plan s.words s.views k seat v at single s.words h after k.laid),
+              as-found plan s.words i (set s.views seat w) (moves-none plan s.words s.views k seat v at single h after),
               ((λ is. told-none plan s.words s.views k seat v at single h me.1 after), (λ not. absurd (not even)), most),
             )
         | inr odd ↦
@@ -59,7 +59,7 @@ module _ (plan : Plan) where
               w,
               keeps,
               tt,
-              as-found plan s.words i (set s.views seat w) (moves-none plan s.words s.views k seat v at single s.words v.doing all k.laid),
+              as-found plan s.words i (set s.views seat w) (moves-none plan s.words s.views k seat v at single v.doing all),
               ((λ is. absurd (odd is)), (λ not. told-none plan s.words s.views k seat v at single v.doing me.1 all), most),
             )
       ]
@@ -79,7 +79,7 @@ module _ (plan : Plan) where
         w,
         keeps,
         tt,
-        as-found plan s.words i (set s.views seat w) (moves-none plan s.words s.views k seat v at single s.words h after k.laid),
+        as-found plan s.words i (set s.views seat w) (moves-none plan s.words s.views k seat v at single h after),
         λ version' first'.
             let same : First p version ≡ First p version' = sym first ∙ first' in
             let is : Second p version n ≡ Second p version' n = cc in
@@ -87,10 +87,10 @@ module _ (plan : Plan) where
       )
 
   -- and at the tag again
-  pub looks-third : (slots seat : ℕ) (me : Mine) (version cell : ℕ) (p : Place) (value : ℕ) → IsSingle me.0.lead (marked me.0.numbers) → me.0.doing.doing ≡ Second p version cell → 0 < plan.size.classes
+  pub looks-third : (slots seat : ℕ) (me : Mine) (version cell : ℕ) (p : Place) (value : ℕ) → IsSingle me.0.lead (marked me.0.numbers) → MayAct plan.first me.0.lead me.0.seen → me.0.doing.doing ≡ Second p version cell → 0 < plan.size.classes
       → is_aligned p ≡ true → p.addr + size_bytes p.size ≤ plan.size.mem
       → Allows (KeptBy plan) slots seat me (tag_word (class_at plan.size p)) (λ n. n) (third_found (ask (origin_of plan) p value) (step slots (tag_word (class_at plan.size p)) 0 0 none) me)
-  looks-third slots seat me version cell p value single second some_class aligned inside s k long at small =
+  looks-third slots seat me version cell p value single act second some_class aligned inside s k long at small =
       let class = class_at plan.size p in
       let i = tag_word class in
       let n = slice_index s.words i in
@@ -110,11 +110,11 @@ module _ (plan : Plan) where
             let after = own-read plan.size k.standing v.lead p found h refl rests in
             let had : IsVersion plan.size p version k.history = ap (λ (m : ℕ). 2 * m) (writes-is plan s.words s.views k p) ∙ k.classes.quiet class (ap (λ (m : ℕ). m % 2) is ∙ knows.at.0.even) ∙ is in
             let w = moved v k.history (e ∷ []) h in
-            let goes = decides plan s.words s.views k seat v at single (e ∷ []) h me.1 (IsVersion plan.size p version) had (told-one plan s.words s.views k seat v at single e refl (acts plan s.words s.views k seat v at single) may tt h me.1 after) in (
+            let goes = decides plan s.words s.views k seat v at single (e ∷ []) h me.1 (IsVersion plan.size p version) had (told-one plan s.words s.views k seat v at single e refl refl act may tt h me.1 after) in (
               w,
               keeps,
               tt,
-              as-found plan s.words i (set s.views seat w) (moves-one plan s.words s.views k seat v at single e refl (acts plan s.words s.views k seat v at single) may tt s.words h after
+              as-found plan s.words i (set s.views seat w) (moves-one plan s.words s.views k seat v at single e refl refl act may tt s.words h after
                   (laid-same plan.size s.words k.standing (joined plan.size k.standing e) refl refl k.laid)),
               λ version' cell' second'.
                   let same : Second p version cell ≡ Second p version' cell' = sym second ∙ second' in
@@ -130,7 +130,7 @@ module _ (plan : Plan) where
               w,
               keeps,
               tt,
-              as-found plan s.words i (set s.views seat w) (moves-none plan s.words s.views k seat v at single s.words h rests k.laid),
+              as-found plan s.words i (set s.views seat w) (moves-none plan s.words s.views k seat v at single h rests),
               λ version' cell' second'.
                   let same : Second p version cell ≡ Second p version' cell' = sym second ∙ second' in
                   let version_is : version ≡ version' = cc in
@@ -139,10 +139,10 @@ module _ (plan : Plan) where
       ]
 
   -- the same of a load-exclusive, whose reservation begins there
-  pub looks-third_ex : (slots seat : ℕ) (me : Mine) (version cell : ℕ) (p : Place) (value : ℕ) → IsSingle me.0.lead (marked me.0.numbers) → me.0.doing.doing ≡ Second p version cell → 0 < plan.size.classes
+  pub looks-third_ex : (slots seat : ℕ) (me : Mine) (version cell : ℕ) (p : Place) (value : ℕ) → IsSingle me.0.lead (marked me.0.numbers) → MayAct plan.first me.0.lead me.0.seen → me.0.doing.doing ≡ Second p version cell → 0 < plan.size.classes
       → is_aligned p ≡ true → p.addr + size_bytes p.size ≤ plan.size.mem
       → Allows (KeptBy plan) slots seat me (tag_word (class_at plan.size p)) (λ n. n) (third_found_ex (ask (origin_of plan) p value) (step slots (tag_word (class_at plan.size p)) 0 0 none) me)
-  looks-third_ex slots seat me version cell p value single second some_class aligned inside s k long at small =
+  looks-third_ex slots seat me version cell p value single act second some_class aligned inside s k long at small =
       let class = class_at plan.size p in
       let i = tag_word class in
       let n = slice_index s.words i in
@@ -166,11 +166,11 @@ module _ (plan : Plan) where
             let after = own-read_ex plan.size between v.lead p found (Row row version) (own-watch plan.size k.standing v.lead p version knows.at.0.even is) in
             let had : IsVersion plan.size p version k.history = ap (λ (m : ℕ). 2 * m) (writes-is plan s.words s.views k p) ∙ k.classes.quiet class (ap (λ (m : ℕ). m % 2) is ∙ knows.at.0.even) ∙ is in
             let w = moved v k.history (e ∷ f ∷ []) h in
-            let goes = decides plan s.words s.views k seat v at single (e ∷ f ∷ []) h me.1 (IsVersion plan.size p version) had (told-two plan s.words s.views k seat v at single e refl (acts plan s.words s.views k seat v at single) rests.at tt f refl (may-act-later plan.size.threads v.lead k.history (e ∷ []) (acts plan s.words s.views k seat v at single)) may tt h me.1 after) in (
+            let goes = decides plan s.words s.views k seat v at single (e ∷ f ∷ []) h me.1 (IsVersion plan.size p version) had (told-two plan s.words s.views k seat v at single e refl refl act rests.at tt f refl refl may tt h me.1 after) in (
               w,
               keeps,
               tt,
-              as-found plan s.words i (set s.views seat w) (moves-two plan s.words s.views k seat v at single e refl (acts plan s.words s.views k seat v at single) rests.at tt f refl (may-act-later plan.size.threads v.lead k.history (e ∷ []) (acts plan s.words s.views k seat v at single)) may tt s.words h after
+              as-found plan s.words i (set s.views seat w) (moves-two plan s.words s.views k seat v at single e refl refl act rests.at tt f refl refl may tt s.words h after
                   (laid-same plan.size s.words k.standing (joined plan.size between f) refl refl k.laid)),
               λ version' cell' second'.
                   let same : Second p version cell ≡ Second p version' cell' = sym second ∙ second' in
@@ -186,7 +186,7 @@ module _ (plan : Plan) where
               w,
               keeps,
               tt,
-              as-found plan s.words i (set s.views seat w) (moves-none plan s.words s.views k seat v at single s.words stays rests k.laid),
+              as-found plan s.words i (set s.views seat w) (moves-none plan s.words s.views k seat v at single stays rests),
               λ version' cell' second'.
                   let same : Second p version cell ≡ Second p version' cell' = sym second ∙ second' in
                   let version_is : version ≡ version' = cc in

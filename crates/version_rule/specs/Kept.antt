@@ -13,11 +13,12 @@ use Rattle.shared_memory.specs.Layout.{cell_word, tag_word, words_of}
 use Rattle.version_rule.specs.declared.hands.Hand.{Hand}
 use Rattle.shared_memory.specs.declared.plans.Plan.{Plan}
 use Rattle.version_rule.specs.Knowledge.{Flies, Knows}
+use Rattle.version_rule.specs.StartWords.{AreStarts}
 
 -- the words are those of how things stand: each tag says how many writes of its class have begun, and are over, and each cell
 -- is memory's
 pub record IsLaid (size : Numbers) (words : List ℕ) (s : Standing) : Type 0 where
-  pub long : length words ≡ words_of size
+  pub long : words_of size ≤ length words
   pub first : slice_index words 0 ≡ 0
   pub tags : (class : ℕ) → class < size.classes → slice_index words (tag_word class) ≡ s.edges class
   pub cells : (cell : ℕ) → cell < size.mem / 8 → slice_index words (cell_word size cell) ≡ s.cells cell
@@ -34,10 +35,11 @@ pub record AreClasses (size : Numbers) (s : Standing) : Type 0 where
 pub record Kept (plan : Plan) (words : List ℕ) (views : List (View Hand)) : Type 0 where
   pub history : List Entry
   pub standing : Standing
-  pub born : AreBorn plan.size.threads 0 history
+  pub born : AreBorn plan.first plan.spare history
   pub steady : AreSteady plan.size history
   pub tells : Tells (Knows plan.size) plan.size plan.image.value.bytes views history standing
   pub laid : IsLaid plan.size words standing
+  pub starts : AreStarts plan words history
   pub classes : AreClasses plan.size standing
 
 abbrev pub KeptBy : Plan → State (Unit {0}) (View Hand) → Type 0
@@ -45,4 +47,4 @@ KeptBy plan state = Kept plan state.words state.views
 
 -- what such a memory was made with
 abbrev pub origin_of : Plan → Origin
-origin_of plan = record { size = plan.size; first = plan.size.threads; spare = 0; bytes = plan.image.value.bytes; spends = true; steady = true }
+origin_of plan = record { size = plan.size; first = plan.first; spare = plan.spare; bytes = plan.image.value.bytes; spends = true; steady = true }

@@ -1,5 +1,6 @@
 pub mod Hands
 pub mod Knowledge
+pub mod StartWords
 pub mod Kept
 pub mod Exact
 pub mod Told

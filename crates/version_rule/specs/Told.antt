@@ -1,12 +1,13 @@
 -- What a step tells its caller. This project's own.
-use Rattle.std.specs.Prelude.{◌≡◌, ◌≢◌, ◌*◌, ◌%◌, ◌≤◌, ℕ, Bool, true, false, List, [], ◌∷◌, ◌++◌}
+use Rattle.std.specs.Prelude.{◌≡◌, ◌≢◌, ◌*◌, ◌%◌, ◌<◌, ◌≤◌, ℕ, Bool, true, false, List, [], ◌∷◌, ◌++◌}
 use Rattle.llsc_base.specs.Memory.{row_of}
 use Rattle.row_bytes.specs.Cell.{value_in_cell}
+use Rattle.history.specs.Started.{is_started}
 use Rattle.history.specs.declared.entry.Entry.{Entry}
-use Rattle.history.specs.declared.entry.Entry.TheVariants.{Read, Write, Fail, Clear, Watch, Miss, Begin, End}
+use Rattle.history.specs.declared.entry.Entry.TheVariants.{Read, Write, Fail, Clear, Watch, Miss, Begin, End, Start}
 use Rattle.history.specs.declared.entry.Cause.TheVariants.{Absent, Lost, Limit}
 use Rattle.atomic_table.specs.Table.{Step}
-use Rattle.shared_memory.specs.Told.{Ask, Goes, SeatOf}
+use Rattle.shared_memory.specs.Told.{Ask, Goes, SeatOf, no_ask}
 use Rattle.shared_memory.specs.Origin.{Origin}
 use Rattle.shared_memory.specs.Seen.{IsFront}
 use Rattle.version_rule.specs.declared.hands.Hand.{Hand}
@@ -138,3 +139,31 @@ third_found_ex q st old n new = (version cell : ℕ) → old.0.doing.doing ≡ S
     → (n ≡ version → Decides q.origin old (Watch old.0.lead q.place ∷ Read old.0.lead q.place (value_in_cell cell q.place) true ∷ []) (IsVersion q.origin.size q.place version)
     (hand Rest (Row (row_of q.origin.size.granule q.place) version)) new)
     × (n ≢ version → Goes q.origin old [] (hand Rest old.0.doing.reserve) new)
+
+-- ---- threads that are started
+
+-- which thread is started, on which memory, where it begins, and with which argument
+pub record Birth : Type 0 where
+  pub origin : Origin
+  pub child : ℕ
+  pub entry : ℕ
+  pub arg : ℕ
+
+abbrev pub birth : Origin → (child entry arg : ℕ) → Birth
+birth origin child entry arg = record { origin = origin; child = child; entry = entry; arg = arg }
+
+-- where a call doesn't say which
+abbrev pub no_birth : Birth
+no_birth = birth no_ask.origin 0 0 0
+
+-- a thread is started
+abbrev pub started : Birth → Step (Unit {0}) → Mine → ℕ → Mine → Type 0
+started b st old n new = Goes b.origin old (Start old.0.lead b.child b.entry b.arg ∷ []) old.0.doing new
+
+-- a seat learns that its thread is one of the machine's
+abbrev pub known_own : Ask → Step (Unit {0}) → Mine → ℕ → Mine → Type 0
+known_own q st old n new = Goes q.origin old [] old.0.doing new × (old.0.lead < q.origin.size.threads)
+
+-- a thread looks whether it was started: its word is 1 only where it was
+abbrev pub start_found : Ask → Step (Unit {0}) → Mine → ℕ → Mine → Type 0
+start_found q st old n new = Goes q.origin old [] old.0.doing new × (n ≡ 1 → is_started old.0.lead new.0.seen ≡ true)

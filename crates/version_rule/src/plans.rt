@@ -5,7 +5,8 @@ use shared_memory::Plan;
 use std::alloc::Global;
 
 /// Versions: word 0 is 0, the words behind it are the tags of the classes, each twice the writes of the class that are over,
-/// and one more while one of them is in flight, and then come the cells.
+/// and one more while one of them is in flight, and then come the cells. Behind them each thread that doesn't begin by itself
+/// has a word, which is 1 once the thread was started, and 0 before.
 pub struct VersionRule;
 
 impl TableRule<(), VersionView, Plan> for VersionRule {

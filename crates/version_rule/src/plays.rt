@@ -2,7 +2,20 @@
 use crate::hands::VersionView;
 use atomic_table::Play;
 use shared_memory::Asks;
-use std::marker::PhantomData;
+use std::marker::{Brand, PhantomData};
+
+/// Which thread a call starts: a call picks it, and the step that it makes speaks of it.
+pub trait Births {
+    ghost use Rattle.version_rule.specs.Told.{Birth};
+
+    ghost birth: { Birth };
+}
+
+impl Births for Brand {
+    ghost use Rattle.version_rule.specs.Told.{no_birth};
+
+    ghost birth = { no_birth };
+}
 
 /// A load of a tag, which is no access.
 pub struct LookAtTag<J> {
@@ -178,4 +191,37 @@ impl<J: Asks> Play<(), VersionView> for ThirdLookEx<J> {
     ghost use Rattle.version_rule.specs.Told.{third_found_ex};
 
     ghost then = { third_found_ex J.ask };
+}
+
+/// A thread is started.
+pub struct StartChild<J> {
+    of: PhantomData<J>,
+}
+
+impl<J: Births> Play<(), VersionView> for StartChild<J> {
+    ghost use Rattle.version_rule.specs.Told.{started};
+
+    ghost then = { started J.birth };
+}
+
+/// A seat learns that its thread is one of the machine's.
+pub struct Know<J> {
+    of: PhantomData<J>,
+}
+
+impl<J: Asks> Play<(), VersionView> for Know<J> {
+    ghost use Rattle.version_rule.specs.Told.{known_own};
+
+    ghost then = { known_own J.ask };
+}
+
+/// A thread looks whether it was started.
+pub struct LookAtStart<J> {
+    of: PhantomData<J>,
+}
+
+impl<J: Asks> Play<(), VersionView> for LookAtStart<J> {
+    ghost use Rattle.version_rule.specs.Told.{start_found};
+
+    ghost then = { start_found J.ask };
 }

@@ -1,9 +1,11 @@
-//! Worked cases of when a store-exclusive succeeds, when one has lost, when a store is refused, and of versions.
+//! Worked cases of when a store-exclusive succeeds, when one has lost, when a store is refused, of versions, and of the words of
+//! started threads.
 //!
 //! Where there is one class, the next row falls into it, and where there are 4096 it doesn't.
-ghost use Rattle.std.specs.Prelude.{◌∷◌, [], false, true};
+ghost use Rattle.std.specs.Prelude.{◌≡◌, ◌∷◌, [], false, true};
 ghost use Rattle.history.specs.Worked.{beside, cell_before, next_row, wide_machine, word};
 ghost use Rattle.version_rule.specs.Exact.{IsOvertaken, IsSpent, IsUndisturbed, IsVersion};
+ghost use Rattle.version_rule.specs.StartWords.{start_mark};
 ghost use Rattle.shared_memory.specs.Worked.{limited_machine};
 
 use history::Entry;
@@ -71,4 +73,13 @@ pub fn versions_of_classes()
     ensures wide_row { IsVersion (wide_machine 4096) word 2 (Entry.Write 1 cell_before 5 false ∷ []) }
     ensures odd { ¬ IsVersion (limited_machine 1 1) word 1 (Entry.Write 1 word 5 false ∷ []) }
     ensures not_gone_on { ¬ IsVersion (limited_machine 1 1) word 0 (Entry.Write 1 word 5 false ∷ []) }
+{}
+
+/// The word of a thread is 1 from its start on, and 0 before; the start of another is none of it, nor one that it makes.
+pub fn words_of_started_threads()
+    ensures first { start_mark 2 [] ≡ 0 }
+    ensures started { start_mark 2 (Entry.Start 0 2 4096 7 ∷ []) ≡ 1 }
+    ensures later_on { start_mark 2 (Entry.Start 0 2 4096 7 ∷ Entry.Clear 0 ∷ Entry.Start 0 3 4096 7 ∷ []) ≡ 1 }
+    ensures another { start_mark 3 (Entry.Start 0 2 4096 7 ∷ []) ≡ 0 }
+    ensures starter { start_mark 0 (Entry.Start 0 2 4096 7 ∷ []) ≡ 0 }
 {}

@@ -73,6 +73,14 @@ pub(super) fn machine(threads: u64, shape: Shape) -> Result<MachineSize, Fail>
     Ok(size.with_granule(shape.granule)?)
 }
 
+/// 65,536 bytes that are 0.
+pub(super) fn zero_image(alloc: Global) -> Result<Image, Fail>
+    ensures { IfOk result (λ image. length image.bytes ≡ 65536) }
+{
+    let bytes = vec![in alloc; 0; 65_536]?;
+    Ok(Image::of(bytes, Vec::new(alloc), 0))
+}
+
 /// A memory of zeros, with the pass that holds the numbers of all its threads.
 pub(super) fn zeros<M: Tried>(alloc: Global, size: &MachineSize) -> Result<(M, M::Pass), Fail>
     requires { size.now.mem ≡ 65536 }
@@ -81,8 +89,7 @@ pub(super) fn zeros<M: Tried>(alloc: Global, size: &MachineSize) -> Result<(M, M
     ensures numbers { IfOk result (λ t. (u : ℕ) → M.numbers t.1 u ≡ nat_lt u size.now.threads) }
     ensures none { IfOk result (λ t. (u : ℕ) → entries_of u (M.seen t.1) ≡ []) }
 {
-    let bytes = vec![in alloc; 0; 65_536]?;
-    let image = Image::of(bytes, Vec::new(alloc), 0);
+    let image = zero_image(alloc)?;
     let (memory, pass) = M::made(alloc, &image, size)?;
     Ok((memory, pass))
 }

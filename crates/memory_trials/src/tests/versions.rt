@@ -1,5 +1,6 @@
 //! What a memory by versions answers beside every shared memory: stamps, and stores that are refused.
 use super::accesses::{Deed, X, all_answer, at_x, of_other};
+use super::same;
 use super::tried::{MANY, Shape, USUAL, two};
 use llsc_base::{Place, Size};
 use shared_memory::{SharedMemory, Spent};
@@ -40,9 +41,9 @@ fn stamps_of<R: Wait>(rt: &R, alloc: Global, classes: u64) -> Result<[(u64, u64)
 #[test]
 fn a_stamp_counts_the_writes_of_its_class(rt: HostRuntime) -> Result<(), Fail> {
     let apart = stamps_of(&rt, rt.alloc(), 4096)?;
-    assert_eq!(rt; apart, [(0, 0), (5, 0), (5, 1), (1, 0), (6, 1)]);
+    same(&rt, apart, [(0, 0), (5, 0), (5, 1), (1, 0), (6, 1)]);
     let together = stamps_of(&rt, rt.alloc(), 1)?;
-    assert_eq!(rt; together, [(0, 0), (5, 0), (5, 1), (1, 1), (6, 2)]);
+    same(&rt, together, [(0, 0), (5, 0), (5, 1), (1, 1), (6, 2)]);
     Ok(())
 }
 
@@ -64,11 +65,9 @@ fn exclusive_stamps<R: Wait>(
 
 #[test]
 fn exclusive_accesses_have_stamps(rt: HostRuntime) -> Result<(), Fail> {
-    assert_eq!(rt;
-        exclusive_stamps(&rt, rt.alloc(), false)?,
-        ((7, 1), Some(1))
-    );
-    assert_eq!(rt; exclusive_stamps(&rt, rt.alloc(), true)?, ((7, 1), None));
+    let left = exclusive_stamps(&rt, rt.alloc(), false)?;
+    let disturbed = exclusive_stamps(&rt, rt.alloc(), true)?;
+    same(&rt, [left, disturbed], [((7, 1), Some(1)), ((7, 1), None)]);
     Ok(())
 }
 
@@ -100,9 +99,8 @@ fn a_class_takes_so_many_writes(rt: HostRuntime) -> Result<(), Fail> {
         class: 0,
         writes: 2,
     };
-    assert_eq!(rt; answers, [None, None, Some(spent)]);
-    assert!(rt; reserved);
-    assert!(rt; !succeeds);
+    same(&rt, answers, [None, None, Some(spent)]);
+    same(&rt, (reserved, succeeds), (true, false));
     Ok(())
 }
 
@@ -117,6 +115,6 @@ fn after_one<R: Wait>(rt: &R, alloc: Global) -> Result<(bool, bool, bool), Fail>
 
 #[test]
 fn a_reservation_is_of_no_use_past_the_last_write(rt: HostRuntime) -> Result<(), Fail> {
-    assert_eq!(rt; after_one(&rt, rt.alloc())?, (true, true, false));
+    same(&rt, after_one(&rt, rt.alloc())?, (true, true, false));
     Ok(())
 }

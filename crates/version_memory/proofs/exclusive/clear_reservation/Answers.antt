@@ -7,5 +7,5 @@ load-requires g c =
     let q = c.requires in (
       q.ready.home_is,
       first-below c.args.shared.now.key c.args.shared.now.table_id q.ready.made,
-      rw q.asked (clears c.args.shared.now.key _ _ c.args.seat.now.me g.J.Asks.ask.place g.J.Asks.ask.value q.ready.single q.rest),
+      rw q.asked (clears c.args.shared.now.key _ _ c.args.seat.now.me g.J.Asks.ask.place g.J.Asks.ask.value q.ready.single q.ready.acts q.rest),
     )

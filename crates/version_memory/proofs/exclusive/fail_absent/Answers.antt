@@ -10,7 +10,7 @@ load-requires g c =
     let t = c.args.target in (
       q.ready.home_is,
       first-below c.args.shared.now.key c.args.shared.now.table_id q.ready.made,
-      rw q.asked (absents c.args.shared.now.key _ _ c.args.seat.now.me t.place t.value q.ready.single q.rest q.other q.one q.target.may.aligned q.target.may.inside q.target.fits),
+      rw q.asked (absents c.args.shared.now.key _ _ c.args.seat.now.me t.place t.value q.ready.single q.ready.acts q.rest q.other q.one q.target.may.aligned q.target.may.inside q.target.fits),
     )
 
 pub returns-clause-failed : goal.returns-clause-failed

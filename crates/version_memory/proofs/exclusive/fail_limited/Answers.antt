@@ -8,7 +8,7 @@ load-requires g c =
     let t = c.args.target in (
       q.ready.home_is,
       first-below c.args.shared.now.key c.args.shared.now.table_id q.ready.made,
-      rw q.asked (limits c.args.shared.now.key _ _ c.args.seat.now.me c.args.version t.place t.value q.ready.single q.reserved q.limit q.target.may.aligned q.target.may.inside q.target.fits),
+      rw q.asked (limits c.args.shared.now.key _ _ c.args.seat.now.me c.args.version t.place t.value q.ready.single q.ready.acts q.reserved q.limit q.target.may.aligned q.target.may.inside q.target.fits),
     )
 
 pub returns-clause-decides : goal.returns-clause-decides

@@ -8,7 +8,7 @@ load-requires g c =
     let t = c.args.target in (
       q.ready.home_is,
       rw q.target.word_is (cell_word-below c.args.shared.now.key c.args.shared.now.table_id t.place q.ready.made q.target.may),
-      rw (q.asked, q.target.word_is) (reads-ex c.args.shared.now.key _ _ c.args.seat.now.me t.place t.value q.ready.single q.looking q.target.may.aligned q.target.may.inside),
+      rw (q.asked, q.target.word_is) (reads-ex c.args.shared.now.key _ _ c.args.seat.now.me t.place t.value q.ready.single q.ready.acts q.looking q.target.may.aligned q.target.may.inside),
     )
 
 pub returns-clause-goes : goal.returns-clause-goes

@@ -11,7 +11,7 @@ load-requires g c =
     let t = c.args.target in (
       q.ready.home_is,
       rw q.target.tag_is (tag_word-below c.args.shared.now.key c.args.shared.now.table_id t.place q.ready.made),
-      rw (q.asked, q.target.tag_is) (watches c.args.shared.now.key _ _ c.args.seat.now.me t.place t.value q.ready.single q.rest q.ready.made.some_class),
+      rw (q.asked, q.target.tag_is) (watches c.args.shared.now.key _ _ c.args.seat.now.me t.place t.value q.ready.single q.ready.acts q.rest q.ready.made.some_class),
     )
 
 pub returns-clause-reserved : goal.returns-clause-reserved

@@ -15,7 +15,7 @@ store-requires g c =
     let t = c.args.target in (
       q.ready.home_is,
       rw q.target.word_is (cell_word-below c.args.shared.now.key c.args.shared.now.table_id t.place q.ready.made q.target.may),
-      rw (q.asked, q.target.word_is, c.put.ensures) (changes c.args.shared.now.key _ _ c.args.seat.now.me c.args.version c.args.ex c.args.cell t.place t.value q.ready.single q.holding q.target.may.aligned q.target.may.inside q.target.fits),
+      rw (q.asked, q.target.word_is, c.put.ensures) (changes c.args.shared.now.key _ _ c.args.seat.now.me c.args.version c.args.ex c.args.cell t.place t.value q.ready.single q.ready.acts q.holding q.target.may.aligned q.target.may.inside q.target.fits),
     )
 
 pub returns-clause-decides : goal.returns-clause-decides

@@ -7,7 +7,7 @@ load-requires g c =
     let q = c.requires in (
       q.ready.home_is,
       rw q.word (cell_word-below c.args.shared.now.key c.args.shared.now.table_id c.args.place q.ready.made q.place),
-      rw (q.asked, q.word) (loads c.args.shared.now.key _ _ c.args.seat.now.me c.args.place q.ready.single q.rest q.place.aligned q.place.inside),
+      rw (q.asked, q.word) (loads c.args.shared.now.key _ _ c.args.seat.now.me c.args.place q.ready.single q.ready.acts q.rest q.place.aligned q.place.inside),
     )
 
 pub returns-clause-goes : goal.returns-clause-goes

@@ -8,7 +8,7 @@ store-requires g c =
     let t = c.args.target in (
       q.ready.home_is,
       rw q.target.tag_is (tag_word-below c.args.shared.now.key c.args.shared.now.table_id t.place q.ready.made),
-      rw (q.asked, q.target.tag_is) (releases c.args.shared.now.key _ _ c.args.seat.now.me c.args.version t.place t.value q.ready.single q.written q.ready.made.some_class),
+      rw (q.asked, q.target.tag_is) (releases c.args.shared.now.key _ _ c.args.seat.now.me c.args.version t.place t.value q.ready.single q.ready.acts q.written q.ready.made.some_class),
     )
 
 pub returns-clause-goes : goal.returns-clause-goes

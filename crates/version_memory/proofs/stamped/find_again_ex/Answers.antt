@@ -11,7 +11,7 @@ load-requires g c =
     let t = c.args.target in (
       q.ready.home_is,
       rw q.target.tag_is (tag_word-below c.args.shared.now.key c.args.shared.now.table_id t.place q.ready.made),
-      rw (q.asked, q.target.tag_is) (looks-third_ex c.args.shared.now.key _ _ c.args.seat.now.me c.args.version c.args.cell t.place t.value q.ready.single q.second q.ready.made.some_class q.target.may.aligned q.target.may.inside),
+      rw (q.asked, q.target.tag_is) (looks-third_ex c.args.shared.now.key _ _ c.args.seat.now.me c.args.version c.args.cell t.place t.value q.ready.single q.ready.acts q.second q.ready.made.some_class q.target.may.aligned q.target.may.inside),
     )
 
 pub returns-clause-same : goal.returns-clause-same

@@ -1,5 +1,8 @@
+use mathlib.Core.Option.{none}
+use Rattle.atomic_table.specs.Table.{step}
+use Rattle.version_rule.specs.Kept.{origin_of}
 use Rattle.version_rule.proofs.StampedSteps.{looks-first}
-use Rattle.version_memory.proofs.Ready.{tag_word-below}
+use Rattle.version_memory.proofs.Ready.{ready-first, tag_word-below}
 use Rattle.version_memory.proofs.stamped.find_version.Goals as goal
 
 pub load-requires : goal.load-requires
@@ -19,3 +22,6 @@ returns-clause-not_yet g c = (rw c.requires.asked at c.load.ensures.2).1
 
 pub returns-clause-most : goal.returns-clause-most
 returns-clause-most g c = (rw c.requires.asked at c.load.ensures.2).2
+
+pub returns-clause-ready : goal.returns-clause-ready
+returns-clause-ready g c = ready-first _ _ _ _ (origin_of c.args.shared.now.key) c.args.target.place c.args.target.value _ (step c.args.shared.now.table_id.slots c.args.target.tag 0 0 none) _ _ c.requires.ready c.load.ensures.0 (rw c.requires.asked at c.load.ensures.2)

@@ -20,7 +20,7 @@ of_words-requires c =
       whole = (let pages = c.mem-mem.ensures.pages in let number = c.mem-mem.ensures.number in omega arith);
       small = λ k. rw (is, ← bytes) (c.first_words.ensures.bytes k);
     } in
-    opens (record { size = size; image = c.of.result }) c.as_slice.result.now memory
+    opens (record { size = size; first = c.threads-threads.result; spare = 0; image = c.of.result }) c.as_slice.result.now memory
     (rw c.as_slice.ensures.value (omega (arith, first.long, ap length bytes)))
     (λ i h. rw c.as_slice.ensures.value (first.zeros i (omega arith)))
     (λ i h. rw (c.as_slice.ensures.value, is, ← bytes, ← classes) (first.cells i (omega (arith, ap length bytes))))
