@@ -1,7 +1,7 @@
 //! The table of guest calls.
 ghost use Rattle.std.specs.Prelude.{◌≡◌, length};
 ghost use Rattle.a32_step.specs.Machine.{IsCalling};
-ghost use Rattle.guest_calls.specs.Calls.{call_effect, write_effect};
+ghost use Rattle.guest_calls.specs.Calls.{call_effect, is_start_call, write_effect};
 ghost use Rattle.guest_calls.specs.Run.{returned};
 ghost use Rattle.guest_calls.specs.Steps.{step_of, after_call, HaveRoom};
 
@@ -16,6 +16,9 @@ const WRITE: u32 = 4;
 
 /// The number of sched_yield.
 const SCHED_YIELD: u32 = 158;
+
+/// The number of the call that starts a thread.
+const START: u32 = 0xf_0001;
 
 /// The answer where there is no such call: minus 38, ENOSYS.
 const NO_CALL: u32 = 0xffff_ffda;
@@ -65,6 +68,13 @@ pub fn guest_call(cpu: &mut Cpu, ask: &CallAsk, mem: u32, out: &mut Output) -> C
         SCHED_YIELD => answered(cpu, 0),
         _ => answered(cpu, NO_CALL),
     }
+}
+
+/// Whether a call is to start a thread, for a thread that may start some: number 0xF0001, where the immediate is 0.
+pub fn is_start_call(ask: &CallAsk) -> bool
+    ensures { result ≡ is_start_call ask.now }
+{
+    ask.number == START && ask.imm == 0
 }
 
 /// The call is answered.

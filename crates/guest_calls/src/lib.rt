@@ -14,6 +14,6 @@ mod replies;
 pub mod worked;
 pub mod worked_runs;
 
-pub use calls::{CallStep, guest_call};
+pub use calls::{CallStep, guest_call, is_start_call};
 pub use output::Output;
 pub use replies::reply_of;

@@ -13,5 +13,3 @@ pub mod TracedAlone
 pub mod SmallRuns
 pub mod SmallTraces
 pub mod SmallLoop
-pub mod Crewed
-pub mod Prepared

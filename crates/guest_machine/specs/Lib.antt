@@ -4,4 +4,3 @@ pub mod Traces
 pub mod Alone
 pub mod Served
 pub mod Worked
-pub mod Crews

@@ -12,7 +12,6 @@
 #![tactic(auto)]
 
 mod alone;
-mod crews;
 mod drawing;
 mod ends;
 pub mod laws;
@@ -25,6 +24,6 @@ pub mod worked;
 pub mod worked_alone;
 
 pub use alone::solo;
-pub use crews::{Crew, Job, prepare};
-pub use runs::{Ran, run_all};
+pub use guest_thread::{Crew, Job, Ran, prepare};
+pub use runs::run_all;
 pub use traces::{TraceFault, Traced, trace};

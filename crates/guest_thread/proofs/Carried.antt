@@ -1,5 +1,5 @@
 -- A thread whose instructions are carried through over a port.
-use Rattle.std.proofs.Common.{◌≡◌, ◌⊎◌, inl, inr, ℕ, ◌+◌, ◌<◌, ◌≤◌, List, [], ◌∷◌, ◌++◌, Option, Some, None, length, refl, sym, subst, ap, ◌∙◌, append_assoc, append-nil, arith}
+use Rattle.std.proofs.Common.{◌≡◌, ◌⊎◌, inl, inr, ℕ, ◌+◌, ◌<◌, ◌≤◌, List, [], ◌∷◌, ◌++◌, Option, Some, None, length, refl, sym, subst, ap, ◌∙◌, append_assoc, append-nil, arith, Bool}
 use Rattle.std.proofs.lemmas.List.{length-append}
 use Rattle.llsc_base.specs.Images.{Program}
 use Rattle.a32_instr.specs.declared.outside.Ask.{Ask}
@@ -11,26 +11,26 @@ use Rattle.a32_step.specs.Phase.{Phase, Between, Inside, Awaiting, Calling, Stop
 use Rattle.a32_step.specs.Passages.{Comes, starts, replied, EndsAt, IsCarriedOn}
 use Rattle.a32_step.specs.Ports.{Leads, goes, refused, stays}
 use Rattle.a32_step.proofs.Follows.{next_follows}
-use Rattle.guest_calls.specs.Run.{Pair, Reaches, accesses, steps_on}
+use Rattle.guest_calls.specs.Run.{Pair, ReachesBy, accesses, steps_on, Point}
 use Rattle.guest_calls.specs.Calls.{most_output}
 use Rattle.guest_calls.proofs.FewAccesses.{given_one}
 use Rattle.guest_thread.specs.Ports.{IsAtRest, IsRunning}
 use Rattle.guest_thread.specs.Progress.{IsBounded, progress_of}
 use Rattle.guest_thread.specs.ThreadState.{ThreadState, IsReadyBy}
-use Rattle.guest_thread.specs.Under.{HasCome}
+use Rattle.guest_thread.specs.Under.{HasComeFrom}
 use Rattle.guest_thread.proofs.Leading.{leads_on}
 use Rattle.guest_thread.proofs.Reached.{come_by, reached_at, reached_by}
 
 -- ---- how far its run has come
 
-pub come_on : (program : Program) (budget : ℕ) (start old : Machine) (before : List Pair) (steps : ℕ) (output : List ℕ) (pairs : List Pair) (machine : Machine)
-    → Reaches program budget start before old steps output → steps < budget → Comes program old pairs machine
-    → Reaches program budget start (before ++ pairs) machine steps output
-come_on program budget start old before steps output _ _ reached within starts =
-    subst (λ all. Reaches program budget start all old steps output) (sym (append-nil before)) reached
-come_on program budget start old before steps output _ _ reached within (replied pairs machine ask reply comes asked) =
-    subst (λ all. Reaches program budget start all (given (after_next program machine) reply) steps output) (append_assoc before pairs ((ask, reply) ∷ []))
-    (accesses (before ++ pairs) machine steps output ask reply (come_on program budget start old before steps output pairs machine reached within comes) within asked)
+pub come_on : (stocked : Bool) (program : Program) (budget : ℕ) (point : Point) (old : Machine) (before : List Pair) (steps : ℕ) (output : List ℕ) (pairs : List Pair) (machine : Machine)
+    → ReachesBy stocked program budget point before old steps output → steps < budget → Comes program old pairs machine
+    → ReachesBy stocked program budget point (before ++ pairs) machine steps output
+come_on stocked program budget point old before steps output _ _ reached within starts =
+    subst (λ all. ReachesBy stocked program budget point all old steps output) (sym (append-nil before)) reached
+come_on stocked program budget point old before steps output _ _ reached within (replied pairs machine ask reply comes asked) =
+    subst (λ all. ReachesBy stocked program budget point all (given (after_next program machine) reply) steps output) (append_assoc before pairs ((ask, reply) ∷ []))
+    (accesses (before ++ pairs) machine steps output ask reply (come_on stocked program budget point old before steps output pairs machine reached within comes) within asked)
 
 -- ---- how many accesses it made
 
@@ -110,51 +110,51 @@ running_at mem budget new still ready within few short = record {
 module _ {S : Type 0} (replies : S → Ask → Option ℕ → S → Type 0) (program : Program) (budget : ℕ) (old new : ThreadState) (from to : S)
     (rest : IsAtRest old) (within : old.steps < budget) (same : new.output ≡ old.output) (still : new.printing ≡ None) where
   -- it was complete
-  pub after_one : IsCarriedOn replies program old.cpu from Complete new.cpu to → new.steps ≡ old.steps + 1 → (start : Machine) (before : List Pair)
-      → HasCome program budget start before old → (pairs : List Pair) × (Leads replies from pairs to × HasCome program budget start (before ++ pairs) new)
-  after_one carried more start before come =
-      let reached = come_on program budget start old.cpu before old.steps old.output carried.pairs carried.machine (reached_by program budget start before old rest.printing come) within carried.comes in (
+  pub after_one : IsCarriedOn replies program old.cpu from Complete new.cpu to → new.steps ≡ old.steps + 1 → (stocked : Bool) (point : Point) (before : List Pair)
+      → HasComeFrom stocked program budget point before old → (pairs : List Pair) × (Leads replies from pairs to × HasComeFrom stocked program budget point (before ++ pairs) new)
+  after_one carried more stocked point before come =
+      let reached = come_on stocked program budget point old.cpu before old.steps old.output carried.pairs carried.machine (reached_by stocked program budget point before old rest.printing come) within carried.comes in (
         carried.pairs,
         (
           carried.leads,
-          come_by program budget start (before ++ carried.pairs) new still
-              (reached_at program budget start new.cpu (after_next program carried.machine) (before ++ carried.pairs) new.steps (old.steps + 1) new.output old.output
+          come_by stocked program budget point (before ++ carried.pairs) new still
+              (reached_at stocked program budget point new.cpu (after_next program carried.machine) (before ++ carried.pairs) new.steps (old.steps + 1) new.output old.output
               carried.ends.2 more same (steps_on (before ++ carried.pairs) carried.machine old.steps old.output carried.ends.0 reached within carried.ends.1)),
         ),
       )
 
   -- it wasn't
   pub after_part : (machine : Machine) (pairs : List Pair) → Leads replies from pairs to → Comes program old.cpu pairs machine → new.cpu ≡ machine → new.steps ≡ old.steps
-      → (start : Machine) (before : List Pair) → HasCome program budget start before old
-      → (pairs : List Pair) × (Leads replies from pairs to × HasCome program budget start (before ++ pairs) new)
-  after_part machine pairs leads comes is steps start before come = (
+      → (stocked : Bool) (point : Point) (before : List Pair) → HasComeFrom stocked program budget point before old
+      → (pairs : List Pair) × (Leads replies from pairs to × HasComeFrom stocked program budget point (before ++ pairs) new)
+  after_part machine pairs leads comes is steps stocked point before come = (
     pairs,
     (
       leads,
-      come_by program budget start (before ++ pairs) new still
-          (reached_at program budget start new.cpu machine (before ++ pairs) new.steps old.steps new.output old.output is steps same
-          (come_on program budget start old.cpu before old.steps old.output pairs machine (reached_by program budget start before old rest.printing come) within comes)),
+      come_by stocked program budget point (before ++ pairs) new still
+          (reached_at stocked program budget point new.cpu machine (before ++ pairs) new.steps old.steps new.output old.output is steps same
+          (come_on stocked program budget point old.cpu before old.steps old.output pairs machine (reached_by stocked program budget point before old rest.printing come) within comes)),
     ),
   )
 
 -- ---- one way after another
 
-abbrev pub Ways : {S : Type 0} → (S → Ask → Option ℕ → S → Type 0) → Program → ℕ → ThreadState → S → ThreadState → S → Type 0
-Ways replies program budget old from new to = (start : Machine) (before : List Pair) → HasCome program budget start before old
-    → (pairs : List Pair) × (Leads replies from pairs to × HasCome program budget start (before ++ pairs) new)
+abbrev pub Ways : {S : Type 0} → (S → Ask → Option ℕ → S → Type 0) → Bool → Program → ℕ → ThreadState → S → ThreadState → S → Type 0
+Ways replies stocked program budget old from new to = (point : Point) (before : List Pair) → HasComeFrom stocked program budget point before old
+    → (pairs : List Pair) × (Leads replies from pairs to × HasComeFrom stocked program budget point (before ++ pairs) new)
 
-pub no_way : {S : Type 0} (replies : S → Ask → Option ℕ → S → Type 0) (program : Program) (budget : ℕ) (old : ThreadState) (from : S) → Ways replies program budget old from old from
-no_way replies program budget old from start before come =
-    ([], (stays, subst (λ all. HasCome program budget start all old) (sym (append-nil before)) come))
+pub no_way : {S : Type 0} (replies : S → Ask → Option ℕ → S → Type 0) (stocked : Bool) (program : Program) (budget : ℕ) (old : ThreadState) (from : S) → Ways replies stocked program budget old from old from
+no_way replies stocked program budget old from point before come =
+    ([], (stays, subst (λ all. HasComeFrom stocked program budget point all old) (sym (append-nil before)) come))
 
-pub way_on : {S : Type 0} (replies : S → Ask → Option ℕ → S → Type 0) (program : Program) (budget : ℕ) (first old new : ThreadState) (from at to : S)
-    → Ways replies program budget first from old at → Ways replies program budget old at new to → Ways replies program budget first from new to
-way_on replies program budget first old new from at to way further start before come =
-    let here = way start before come in
-    let next = further start (before ++ here.0) here.1.1 in (
+pub way_on : {S : Type 0} (replies : S → Ask → Option ℕ → S → Type 0) (stocked : Bool) (program : Program) (budget : ℕ) (first old new : ThreadState) (from at to : S)
+    → Ways replies stocked program budget first from old at → Ways replies stocked program budget old at new to → Ways replies stocked program budget first from new to
+way_on replies stocked program budget first old new from at to way further point before come =
+    let here = way point before come in
+    let next = further point (before ++ here.0) here.1.1 in (
       here.0 ++ next.0,
       (
         leads_on replies from at to here.0 next.0 here.1.0 next.1.0,
-        subst (λ all. HasCome program budget start all new) (append_assoc before here.0 next.0) next.1.1,
+        subst (λ all. HasComeFrom stocked program budget point all new) (append_assoc before here.0 next.0) next.1.1,
       ),
     )

@@ -49,7 +49,7 @@ all_counted (entry ∷ history) =
     omega (arith, here, reads, writes, fails)
 
 -- a thread's counts are no more than its accesses
-counted_within : (thread : ℕ) (history : List Entry) (end : GuestEnd) → AreCounts thread history (counts_in end)
+pub counted_within : (thread : ℕ) (history : List Entry) (end : GuestEnd) → AreCounts thread history (counts_in end)
     → accesses_counted (counts_in end) ≤ length (accesses_of (entries_of thread history))
 counted_within thread history end are =
     let all = all_counted (entries_of thread history) in

@@ -1,5 +1,5 @@
 -- The end of a thread's run over a memory that threads share.
-use Rattle.std.proofs.Common.{◌≡◌, inl, inr, ℕ, true, List, [], refl, sym, subst, ap, ◌∙◌}
+use Rattle.std.proofs.Common.{◌≡◌, inl, inr, ℕ, true, List, [], sym, subst, ap, ◌∙◌}
 use Rattle.llsc_base.specs.Images.{Program}
 use Rattle.history.specs.declared.entry.Entry.{Entry}
 use Rattle.a32_instr.specs.declared.outside.Stop.{Stop}
@@ -19,7 +19,7 @@ use Rattle.shared_memory.specs.Origin.{Origin}
 use Rattle.guest_thread.specs.ThreadState.{ThreadState}
 use Rattle.guest_thread.specs.declared.ends.GuestEnd.{GuestEnd}
 use Rattle.guest_thread.proofs.Placed.{ends_untagged}
-use Rattle.guest_thread.proofs.Shared.{HasShared, after_all}
+use Rattle.guest_thread.proofs.Shared.{HasShared, after_all, counts_alone, pairs_alone}
 
 same_limit : (addr other : ℕ) → TagLimit addr ≡ TagLimit other → addr ≡ other
 same_limit addr other same = cc
@@ -40,15 +40,15 @@ module _ (program : Program) (budget : ℕ) (start : Machine) (between_two : sta
   ends_on refuses pairs stop steps output (inr refused) = refused.1.2
 
   -- the end is that of the thread's run with its accesses
-  pub end_on : (first last : SharingState) (pairs : List Pair) (end : GuestEnd) → HasShared first pairs last → end.thread ≡ first.thread
-      → counts_in end ≡ last.counts → EndsBy (RefusesAt last) program budget start pairs end.stop end.steps end.out
+  pub end_on : (first last : SharingState) (pairs : List Pair) (end : GuestEnd) → HasShared first pairs last → entries_of first.thread first.seen ≡ []
+      → first.counts ≡ record { reads = 0; writes = 0; fails = 0 } → end.thread ≡ first.thread → counts_in end ≡ last.counts → EndsBy (RefusesAt last) program budget start pairs end.stop end.steps end.out
       → IsEndOn program first.origin.size budget start last.seen end
-  end_on first last pairs end shared thread counts ends = record {
+  end_on first last pairs end shared none zero thread counts ends = record {
     ends = subst (λ p. EndsOn program budget start p end.stop end.steps end.out)
-        (sym shared.pairs_are ∙ ap (λ t. pairs_of t last.seen) (sym thread))
+        (sym (pairs_alone first last pairs shared none) ∙ ap (λ t. pairs_of t last.seen) (sym thread))
         (ends_on (RefusesAt last) pairs end.stop end.steps end.out ends);
     spent = λ addr is. subst (λ o. IsSpent o.size last.seen addr) shared.goes_on.origin (refused_by (RefusesAt last) pairs end.stop end.steps end.out addr ends is).1;
-    counts = subst (λ t. AreCounts t last.seen (counts_in end)) (sym thread) (subst (AreCounts first.thread last.seen) (sym counts) shared.counts);
+    counts = subst (λ t. AreCounts t last.seen (counts_in end)) (sym thread) (subst (AreCounts first.thread last.seen) (sym counts) (counts_alone first last pairs shared none zero));
   }
 
   -- a store is refused only where the memory counts a class's writes
@@ -63,10 +63,10 @@ abbrev pub at_start : (mem : TableId) (origin : Origin) (thread : ℕ) (seen : L
 at_start mem origin thread seen = record { memory = mem; origin = origin; thread = thread; seen = seen; counts = record { reads = 0; writes = 0; fails = 0 } }
 
 pub shared_from : (mem : TableId) (origin : Origin) (thread : ℕ) (seen : List Entry) (first last : SharingState) (pairs : List Pair)
-    → first ≡ at_start mem origin thread seen → entries_of thread seen ≡ [] → Leads IsServedBy first pairs last
+    → first ≡ at_start mem origin thread seen → Leads IsServedBy first pairs last
     → HasShared (at_start mem origin thread seen) pairs last
-shared_from mem origin thread seen first last pairs is none leads =
-    after_all (at_start mem origin thread seen) pairs last none refl (subst (λ s. Leads IsServedBy s pairs last) is leads)
+shared_from mem origin thread seen first last pairs is leads =
+    after_all (at_start mem origin thread seen) pairs last (subst (λ s. Leads IsServedBy s pairs last) is leads)
 
 -- where the end has what the guest and its part have
 pub ends_as : (refuses : ℕ → Type 0) (program : Program) (budget : ℕ) (start : Machine) (pairs : List Pair) (stop : Stop) (steps : ℕ) (output : List ℕ) (guest : ThreadState)

@@ -18,3 +18,8 @@ pub mod SmallRuns
 pub mod Carried
 pub mod LeftRuns
 pub mod StockRun
+pub mod Crewed
+pub mod Prepared
+pub mod Going
+pub mod Answered
+pub mod Unstarted

@@ -1,5 +1,5 @@
 -- What a thread asks for next lies in memory, and no thread stops by itself for want of a tag.
-use Rattle.std.proofs.Common.{◌≡◌, ℕ, ◌+◌, ◌≤◌, ◌%◌, List, length, refl, sym, ap, subst, arith}
+use Rattle.std.proofs.Common.{◌≡◌, Bool, false, ℕ, ◌+◌, ◌≤◌, ◌%◌, List, length, refl, sym, ap, subst, arith}
 use Rattle.std.proofs.lemmas.Bool.{eq-eqb}
 use Rattle.llsc_base.specs.Images.{Program}
 use Rattle.a32_instr.specs.declared.outside.Ask.{Ask}
@@ -9,7 +9,7 @@ use Rattle.a32_step.specs.Phase.{Phase, Between, Inside, Awaiting, Calling, Stop
 use Rattle.a32_step.specs.Machine.{Machine, wanted_of, after_next, given_in, IsReady, IsAwaiting}
 use Rattle.a32_step.specs.declared.phases.Wanted.TheVariants as wanted
 use Rattle.a32_step.proofs.Follows.{next_follows}
-use Rattle.guest_calls.specs.Run.{Pair, Reaches, begins, accesses, steps_on, returns, prints, Ends, halts, leaves, spends, Asks, asks_access, asks_byte}
+use Rattle.guest_calls.specs.Run.{Pair, Point, first_point, ReachesBy, begins, accesses, steps_on, returns, prints, EndsFrom, Ends, halts, leaves, spends, AsksFrom, Asks, asks_access, asks_byte}
 use Rattle.guest_calls.proofs.Written.{written_within}
 use Rattle.a32_step.specs.Ports.{IsPlaced}
 use Rattle.a32_step.proofs.Placed.{passed_placed}
@@ -33,9 +33,9 @@ given_goes machine reply (Awaiting instr asked) awaits = tt
 given_goes machine reply (Calling call) awaits = absurd awaits
 given_goes machine reply (Stopped why) awaits = absurd awaits
 
-module _ (program : Program) (budget : ℕ) (start : Machine) (first : GoesOn start.phase) where
+module _ (stocked : Bool) (program : Program) (budget : ℕ) (point : Point) (first : GoesOn point.machine.phase) where
   -- a machine that a run reaches goes on
-  reached_goes : (pairs : List Pair) (machine : Machine) (steps : ℕ) (output : List ℕ) → Reaches program budget start pairs machine steps output → GoesOn machine.phase
+  pub reached_goes : (pairs : List Pair) (machine : Machine) (steps : ℕ) (output : List ℕ) → ReachesBy stocked program budget point pairs machine steps output → GoesOn machine.phase
   reached_goes _ _ _ _ begins = first
   reached_goes _ _ _ _ (accesses pairs machine steps output asked reply reached less is) =
       let ready = goes_ready machine.phase (reached_goes pairs machine steps output reached) in
@@ -49,20 +49,29 @@ module _ (program : Program) (budget : ℕ) (start : Machine) (first : GoesOn st
   reached_goes _ _ _ _ (prints pairs machine steps output call from bytes reached less is known) = tt
 
   -- what it asks lies in memory
-  pub asks_placed : (pairs : List Pair) (asked : Ask) → Asks program budget start pairs asked → IsPlaced (length program.bytes) asked
-  asks_placed _ _ (asks_access pairs machine steps output asked reached less is) =
+  asks_placed_from : (pairs : List Pair) (asked : Ask) → AsksFrom stocked program budget point pairs asked → IsPlaced (length program.bytes) asked
+  asks_placed_from _ _ (asks_access pairs machine steps output asked reached less is) =
       passed_placed program asked (next_passes program machine asked (reached_goes pairs machine steps output reached) is)
-  asks_placed _ _ (asks_byte pairs machine steps output call from count bytes reached less is known short) =
+  asks_placed_from _ _ (asks_byte pairs machine steps output call from count bytes reached less is known short) =
       let inside : from + count ≤ length program.bytes = (written_within call (length program.bytes) (length output) from count known).0 in
       (eq-eqb ((from + length bytes) % 1) 0 (omega arith), omega (arith, inside, short))
 
   -- its stop is an instruction's, the exit call, or the end of its steps
-  ends_own : (pairs : List Pair) (why : Stop) (steps : ℕ) (output : List ℕ) → Ends program budget start pairs why steps output → IsOwn why
+  ends_own : (pairs : List Pair) (why : Stop) (steps : ℕ) (output : List ℕ) → EndsFrom stocked program budget point pairs why steps output → IsOwn why
   ends_own _ _ _ _ (halts pairs machine steps output why reached less is) =
       next_own program machine why (reached_goes pairs machine steps output reached) is
   ends_own _ _ _ _ (leaves pairs machine steps output call code reached less is known) = tt
   ends_own _ _ _ _ (spends pairs machine output reached) = tt
 
   -- and no want of a tag
+  pub ends_untagged_from : (pairs : List Pair) (why : Stop) (steps : ℕ) (output : List ℕ) (addr : ℕ) → EndsFrom stocked program budget point pairs why steps output → why ≡ stop.TagLimit addr → ⊥
+  ends_untagged_from pairs why steps output addr ends same = subst IsOwn same (ends_own pairs why steps output ends)
+
+-- ---- from its start
+
+module _ (program : Program) (budget : ℕ) (start : Machine) (first : GoesOn start.phase) where
+  pub asks_placed : (pairs : List Pair) (asked : Ask) → Asks program budget start pairs asked → IsPlaced (length program.bytes) asked
+  asks_placed = asks_placed_from false program budget (first_point start) first
+
   pub ends_untagged : (pairs : List Pair) (why : Stop) (steps : ℕ) (output : List ℕ) (addr : ℕ) → Ends program budget start pairs why steps output → why ≡ stop.TagLimit addr → ⊥
-  ends_untagged pairs why steps output addr ends same = subst IsOwn same (ends_own pairs why steps output ends)
+  ends_untagged = ends_untagged_from false program budget (first_point start) first

@@ -3,14 +3,14 @@ use Rattle.std.proofs.Common.{◌≡◌, ℕ, ◌+◌, ◌<◌, Bool, true, fals
 use Rattle.std.proofs.lemmas.Bool.Decides.{nat_tests}
 use Rattle.llsc_base.specs.Images.{Program}
 use Rattle.a32_instr.specs.declared.outside.Ask.{Ask}
-use Rattle.a32_step.specs.Machine.{Machine, after_next}
+use Rattle.a32_step.specs.Machine.{after_next}
 use Rattle.guest_calls.specs.Calls.{writes_bytes}
-use Rattle.guest_calls.specs.Run.{Pair, byte_load, byte_loads, returned, Reaches, Asks, prints, asks_byte}
+use Rattle.guest_calls.specs.Run.{Pair, byte_load, byte_loads, returned, ReachesBy, AsksFrom, prints, asks_byte, Point}
 use Rattle.guest_thread.specs.declared.guests.Printing.{Printing}
 use Rattle.guest_thread.specs.declared.guests.Turn.TheVariants as turn
 use Rattle.guest_thread.specs.ThreadState.{ThreadState}
 use Rattle.guest_thread.specs.Turns.{after_byte, after_front_byte, after_last_byte}
-use Rattle.guest_thread.specs.Under.{HasCome, HasComeBy, IsPrinting, Awaits, AwaitsBy, ComesTo}
+use Rattle.guest_thread.specs.Under.{HasComeFrom, HasComeBy, IsPrintingFrom, AwaitsFrom, AwaitsBy, ComesToFrom}
 use Rattle.guest_thread.proofs.Reached.{reached_at}
 
 -- the loads of bytes and of one more
@@ -26,16 +26,16 @@ length-more : (bytes : List ℕ) (byte : ℕ) → length (bytes ++ byte ∷ []) 
 length-more bytes byte = length-append bytes (byte ∷ [])
 
 -- it asks for its next byte
-pub asking_byte : (program : Program) (budget : ℕ) (start : Machine) (pairs : List Pair) (standing : ThreadState) (printing : Printing)
-    → HasCome program budget start pairs standing → standing.printing ≡ Some printing
-    → ComesTo program budget start pairs (turn.Asks (byte_load (printing.from + printing.loaded))) standing
-asking_byte program budget start pairs standing printing come is =
-    let way : IsPrinting program budget start pairs standing printing = subst (λ p. HasComeBy program budget start pairs standing p) is come in
+pub asking_byte : (stocked : Bool) (program : Program) (budget : ℕ) (point : Point) (pairs : List Pair) (standing : ThreadState) (printing : Printing)
+    → HasComeFrom stocked program budget point pairs standing → standing.printing ≡ Some printing
+    → ComesToFrom stocked program budget point pairs (turn.Asks (byte_load (printing.from + printing.loaded))) standing
+asking_byte stocked program budget point pairs standing printing come is =
+    let way : IsPrintingFrom stocked program budget point pairs standing printing = subst (λ p. HasComeBy stocked program budget point pairs standing p) is come in
     let less : length way.bytes < printing.len = subst (λ n. n < printing.len) (sym way.loaded) way.left in (
-      subst (λ l. Asks program budget start l (byte_load (printing.from + printing.loaded))) (sym way.pairs_are)
-          (subst (λ n. Asks program budget start (way.before ++ byte_loads printing.from way.bytes) (byte_load (printing.from + n))) way.loaded
+      subst (λ l. AsksFrom stocked program budget point l (byte_load (printing.from + printing.loaded))) (sym way.pairs_are)
+          (subst (λ n. AsksFrom stocked program budget point (way.before ++ byte_loads printing.from way.bytes) (byte_load (printing.from + n))) way.loaded
           (asks_byte way.before way.machine standing.steps way.output way.call printing.from printing.len way.bytes way.reached way.within way.called way.writes less)),
-      subst (λ p. AwaitsBy program budget start pairs (byte_load (printing.from + printing.loaded)) standing p) (sym is) (way, refl),
+      subst (λ p. AwaitsBy stocked program budget point pairs (byte_load (printing.from + printing.loaded)) standing p) (sym is) (way, refl),
     )
 
 -- its accesses with one more byte
@@ -49,10 +49,10 @@ pairs_more before pairs from loaded bytes ask byte are number is =
     ∙ ap (λ l. before ++ l) (sym (byte_loads-more from bytes byte))
 
 -- a byte that isn't the last one
-after_front : (program : Program) (budget : ℕ) (start : Machine) (pairs : List Pair) (ask : Ask) (byte : ℕ) (old : ThreadState) (printing : Printing)
-    → IsPrinting program budget start pairs old printing → ask ≡ byte_load (printing.from + printing.loaded) → printing.loaded + 1 < printing.len
-    → HasCome program budget start (pairs ++ (ask, byte) ∷ []) (after_front_byte old printing byte)
-after_front program budget start pairs ask byte old printing way is less = record {
+after_front : (stocked : Bool) (program : Program) (budget : ℕ) (point : Point) (pairs : List Pair) (ask : Ask) (byte : ℕ) (old : ThreadState) (printing : Printing)
+    → IsPrintingFrom stocked program budget point pairs old printing → ask ≡ byte_load (printing.from + printing.loaded) → printing.loaded + 1 < printing.len
+    → HasComeFrom stocked program budget point (pairs ++ (ask, byte) ∷ []) (after_front_byte old printing byte)
+after_front stocked program budget point pairs ask byte old printing way is less = record {
   before = way.before;
   machine = way.machine;
   output = way.output;
@@ -70,15 +70,15 @@ after_front program budget start pairs ask byte old printing way is less = recor
 }
 
 -- the last byte
-after_last : (program : Program) (budget : ℕ) (start : Machine) (pairs : List Pair) (ask : Ask) (byte : ℕ) (old : ThreadState) (printing : Printing)
-    → IsPrinting program budget start pairs old printing → ask ≡ byte_load (printing.from + printing.loaded) → printing.loaded + 1 ≡ printing.len
-    → HasCome program budget start (pairs ++ (ask, byte) ∷ []) (after_last_byte old printing byte)
-after_last program budget start pairs ask byte old printing way is last =
+after_last : (stocked : Bool) (program : Program) (budget : ℕ) (point : Point) (pairs : List Pair) (ask : Ask) (byte : ℕ) (old : ThreadState) (printing : Printing)
+    → IsPrintingFrom stocked program budget point pairs old printing → ask ≡ byte_load (printing.from + printing.loaded) → printing.loaded + 1 ≡ printing.len
+    → HasComeFrom stocked program budget point (pairs ++ (ask, byte) ∷ []) (after_last_byte old printing byte)
+after_last stocked program budget point pairs ask byte old printing way is last =
     let bytes : List ℕ = way.bytes ++ byte ∷ [] in
     let number : length bytes ≡ printing.len = length-more way.bytes byte ∙ ap (λ n. n + 1) way.loaded ∙ last in
     let more = pairs_more way.before pairs printing.from printing.loaded way.bytes ask byte way.pairs_are way.loaded is in
-    subst (λ l. Reaches program budget start l (returned old.cpu printing.len) (old.steps + 1) (old.output ++ byte ∷ [])) (sym more)
-    (reached_at program budget start (returned old.cpu printing.len) (returned (after_next program way.machine) (length bytes))
+    subst (λ l. ReachesBy stocked program budget point l (returned old.cpu printing.len) (old.steps + 1) (old.output ++ byte ∷ [])) (sym more)
+    (reached_at stocked program budget point (returned old.cpu printing.len) (returned (after_next program way.machine) (length bytes))
     (way.before ++ byte_loads printing.from bytes) (old.steps + 1) (old.steps + 1) (old.output ++ byte ∷ []) (way.output ++ bytes)
     (ap (λ m. returned m printing.len) way.cpu ∙ ap (returned (after_next program way.machine)) (sym number)) refl
     (ap (λ o. o ++ byte ∷ []) way.output_is ∙ append_assoc way.output way.bytes (byte ∷ []))
@@ -86,20 +86,20 @@ after_last program budget start pairs ask byte old printing way is last =
     (way.writes ∙ ap (writes_bytes printing.from) (sym number))))
 
 -- either
-after_either : (program : Program) (budget : ℕ) (start : Machine) (pairs : List Pair) (ask : Ask) (byte : ℕ) (old : ThreadState) (printing : Printing) (b : Bool)
-    → IsPrinting program budget start pairs old printing → ask ≡ byte_load (printing.from + printing.loaded) → nat_lt (printing.loaded + 1) printing.len ≡ b
-    → HasCome program budget start (pairs ++ (ask, byte) ∷ []) (if b then after_front_byte old printing byte else after_last_byte old printing byte)
-after_either program budget start pairs ask byte old printing true way is test =
-    after_front program budget start pairs ask byte old printing way is (grind (arith, nat_tests, test))
-after_either program budget start pairs ask byte old printing false way is test =
+after_either : (stocked : Bool) (program : Program) (budget : ℕ) (point : Point) (pairs : List Pair) (ask : Ask) (byte : ℕ) (old : ThreadState) (printing : Printing) (b : Bool)
+    → IsPrintingFrom stocked program budget point pairs old printing → ask ≡ byte_load (printing.from + printing.loaded) → nat_lt (printing.loaded + 1) printing.len ≡ b
+    → HasComeFrom stocked program budget point (pairs ++ (ask, byte) ∷ []) (if b then after_front_byte old printing byte else after_last_byte old printing byte)
+after_either stocked program budget point pairs ask byte old printing true way is test =
+    after_front stocked program budget point pairs ask byte old printing way is (grind (arith, nat_tests, test))
+after_either stocked program budget point pairs ask byte old printing false way is test =
     let left : printing.loaded < printing.len = way.left in
-    after_last program budget start pairs ask byte old printing way is (grind (arith, nat_tests, test, left))
+    after_last stocked program budget point pairs ask byte old printing way is (grind (arith, nat_tests, test, left))
 
 -- a thread after the reply to the load of a byte
-pub after_byte_reply : (program : Program) (budget : ℕ) (start : Machine) (pairs : List Pair) (ask : Ask) (byte : ℕ) (old new : ThreadState) (printing : Printing)
-    → Awaits program budget start pairs ask old → old.printing ≡ Some printing → new ≡ after_byte old printing byte
-    → HasCome program budget start (pairs ++ (ask, byte) ∷ []) new
-after_byte_reply program budget start pairs ask byte old new printing awaits some is =
-    let awaited = subst (λ p. AwaitsBy program budget start pairs ask old p) some awaits in
-    subst (λ s. HasCome program budget start (pairs ++ (ask, byte) ∷ []) s) (sym is)
-    (after_either program budget start pairs ask byte old printing (nat_lt (printing.loaded + 1) printing.len) awaited.0 awaited.1 refl)
+pub after_byte_reply : (stocked : Bool) (program : Program) (budget : ℕ) (point : Point) (pairs : List Pair) (ask : Ask) (byte : ℕ) (old new : ThreadState) (printing : Printing)
+    → AwaitsFrom stocked program budget point pairs ask old → old.printing ≡ Some printing → new ≡ after_byte old printing byte
+    → HasComeFrom stocked program budget point (pairs ++ (ask, byte) ∷ []) new
+after_byte_reply stocked program budget point pairs ask byte old new printing awaits some is =
+    let awaited = subst (λ p. AwaitsBy stocked program budget point pairs ask old p) some awaits in
+    subst (λ s. HasComeFrom stocked program budget point (pairs ++ (ask, byte) ∷ []) s) (sym is)
+    (after_either stocked program budget point pairs ask byte old printing (nat_lt (printing.loaded + 1) printing.len) awaited.0 awaited.1 refl)

@@ -1,19 +1,25 @@
 -- A thread's part in a memory that threads share, from its start on.
-use Rattle.std.proofs.Common.{◌≡◌, ◌≤◌, ℕ, List, [], ◌∷◌, ◌++◌, map, refl, sym, subst, ap, ◌∙◌, append-nil, append_assoc}
+use Rattle.std.proofs.Common.{◌≡◌, ◌≤◌, ℕ, List, [], ◌∷◌, ◌++◌, ◌+◌, map, sum_by, refl, sym, subst, ap, ◌∙◌, append-nil, append_assoc}
+use Rattle.std.proofs.lemmas.List.{map-append}
+use Rattle.std.proofs.lemmas.List.Sums.{sum_by-append}
 use Rattle.llsc_base.specs.Memory.{row_of}
 use Rattle.llsc_base.specs.declared.access.Place.{Place}
 use Rattle.history.specs.Cause.{writes_in_class}
 use Rattle.history.specs.Marked.{byte_place}
 use Rattle.history.specs.Parts.{accesses_of, entries_of}
+use Rattle.history.specs.Started.{starts_of}
+use Rattle.history.specs.Starts.{starts_from, starts_in}
 use Rattle.history.specs.declared.entry.Entry.{Entry}
 use Rattle.shared_memory.specs.Origin.{Origin}
-use Rattle.shared_memory.specs.Seen.{IsFront, IsUsedUp}
+use Rattle.history.proofs.Appends.{accesses_of-append, entries_of-append}
+use Rattle.history.proofs.Starts.{starts_from-own, starts_in-same}
+use Rattle.shared_memory.specs.Seen.{IsFront, IsUsedUp, Sees}
 use Rattle.a32_instr.specs.declared.outside.Ask.{Ask}
 use Rattle.a32_step.specs.Ports.{Leads, stays, goes, refused}
 use Rattle.guest_calls.specs.Pairs.{pair_of, pairs_of}
 use Rattle.guest_calls.specs.Run.{Pair}
-use Rattle.guest_thread.specs.Counting.{AreCounts}
-use Rattle.guest_thread.specs.Counts.{reads_of, writes_of, fails_of}
+use Rattle.guest_thread.specs.Counting.{AreCounts, accesses_counted}
+use Rattle.guest_thread.specs.Counts.{reads_in, writes_in, fails_in, reads_of, writes_of, fails_of}
 use Rattle.guest_thread.specs.Outcome.{IsSpent}
 use Rattle.guest_thread.specs.declared.counts.Counts.{Counts}
 use Rattle.guest_thread.specs.Sharing.{SharingState, HasGoneOn, IsServed, IsUnserved, IsServedBy}
@@ -45,11 +51,12 @@ goes_further first at last early late = record {
   front = front_on first.seen at.seen last.seen early.front late.front;
 }
 
--- a thread has come from a first state with these accesses and replies
+-- a thread has come from a first state with these accesses and replies, and has started no other by itself
 pub record HasShared (first : SharingState) (pairs : List Pair) (now : SharingState) : Type 0 where
   pub goes_on : HasGoneOn first now
-  pub pairs_are : pairs_of first.thread now.seen ≡ pairs
-  pub counts : AreCounts first.thread now.seen now.counts
+  pub pairs_are : pairs_of first.thread now.seen ≡ pairs_of first.thread first.seen ++ pairs
+  pub unstarted : starts_in first.thread now.seen ≡ starts_in first.thread first.seen
+  pub counts : AreCounts first.thread first.seen first.counts → AreCounts first.thread now.seen now.counts
 
 served_on : (first at next : SharingState) (pairs : List Pair) (ask : Ask) (reply : ℕ) → HasShared first pairs at → IsServed at ask reply next
     → HasShared first (pairs ++ (ask, reply) ∷ []) next
@@ -57,8 +64,10 @@ served_on first at next pairs ask reply shared served =
     let same = shared.goes_on.thread in
     record {
       goes_on = goes_further first at next shared.goes_on served.goes_on;
-      pairs_are = subst (λ t. pairs_of t next.seen ≡ pairs_of t at.seen ++ (ask, reply) ∷ []) same served.pairs ∙ ap (λ l. l ++ (ask, reply) ∷ []) shared.pairs_are;
-      counts = subst (λ t. AreCounts t next.seen next.counts) same (served.counts (subst (λ t. AreCounts t at.seen at.counts) (sym same) shared.counts));
+      pairs_are = subst (λ t. pairs_of t next.seen ≡ pairs_of t at.seen ++ (ask, reply) ∷ []) same served.pairs ∙ ap (λ l. l ++ (ask, reply) ∷ []) shared.pairs_are
+          ∙ append_assoc (pairs_of first.thread first.seen) pairs ((ask, reply) ∷ []);
+      unstarted = subst (λ t. starts_in t next.seen ≡ starts_in t at.seen) same served.unstarted ∙ shared.unstarted;
+      counts = λ are. subst (λ t. AreCounts t next.seen next.counts) same (served.counts (subst (λ t. AreCounts t at.seen at.counts) (sym same) (shared.counts are)));
     }
 
 same_counts : (t : ℕ) (old new : List Entry) (counts : Counts) → entries_of t new ≡ entries_of t old → AreCounts t old counts → AreCounts t new counts
@@ -76,23 +85,62 @@ refused_on first at next pairs shared served =
     record {
       goes_on = goes_further first at next shared.goes_on served.goes_on;
       pairs_are = ap (λ l. map pair_of (accesses_of l)) entries ∙ shared.pairs_are;
-      counts = subst (AreCounts first.thread next.seen) (sym served.counts)
-          (same_counts first.thread at.seen next.seen at.counts entries shared.counts);
+      unstarted = starts_from-own first.thread 0 next.seen ∙ ap (starts_from first.thread 0) entries ∙ sym (starts_from-own first.thread 0 at.seen) ∙ shared.unstarted;
+      counts = λ are. subst (AreCounts first.thread next.seen) (sym served.counts)
+          (same_counts first.thread at.seen next.seen at.counts entries (shared.counts are));
     }
 
 -- all of them
-pub after_all : (first : SharingState) (pairs : List Pair) (last : SharingState) → entries_of first.thread first.seen ≡ []
-    → first.counts ≡ record { reads = 0; writes = 0; fails = 0 } → Leads IsServedBy first pairs last → HasShared first pairs last
-after_all first _ _ none counts stays = record {
+pub after_all : (first : SharingState) (pairs : List Pair) (last : SharingState) → Leads IsServedBy first pairs last → HasShared first pairs last
+after_all first _ _ stays = record {
   goes_on = goes_on_still first;
-  pairs_are = ap (λ l. map pair_of (accesses_of l)) none;
-  counts = subst (AreCounts first.thread first.seen) (sym counts) (record {
-    reads = ap reads_of (sym none);
-    writes = ap writes_of (sym none);
-    fails = ap fails_of (sym none);
-  });
+  pairs_are = sym (append-nil (pairs_of first.thread first.seen));
+  unstarted = refl;
+  counts = λ are. are;
 }
-after_all first _ _ none counts (goes pairs at next ask reply leads served) =
-    served_on first at next pairs ask reply (after_all first pairs at none counts leads) served
-after_all first _ _ none counts (refused pairs at next ask leads served) =
-    refused_on first at next pairs (after_all first pairs at none counts leads) served
+after_all first _ _ (goes pairs at next ask reply leads served) =
+    served_on first at next pairs ask reply (after_all first pairs at leads) served
+after_all first _ _ (refused pairs at next ask leads served) =
+    refused_on first at next pairs (after_all first pairs at leads) served
+
+-- ---- from its first access on
+
+-- all pairs are those of the way, where there were none before
+pub pairs_alone : (first last : SharingState) (pairs : List Pair) → HasShared first pairs last → entries_of first.thread first.seen ≡ []
+    → pairs_of first.thread last.seen ≡ pairs
+pairs_alone first last pairs shared none = shared.pairs_are ∙ ap (λ l. map pair_of (accesses_of l) ++ pairs) none
+
+pub counts_alone : (first last : SharingState) (pairs : List Pair) → HasShared first pairs last → entries_of first.thread first.seen ≡ []
+    → first.counts ≡ record { reads = 0; writes = 0; fails = 0 } → AreCounts first.thread last.seen last.counts
+counts_alone first last pairs shared none counts = shared.counts
+    (subst (AreCounts first.thread first.seen) (sym counts) (record {
+      reads = ap reads_of (sym none);
+      writes = ap writes_of (sym none);
+      fails = ap fails_of (sym none);
+    }))
+
+-- ---- an access of a memory, by which a thread is served
+
+-- by the entries of the thread that it adds, which start no other: what they are as an access and a reply, and how they count
+pub served_by : (origin : Origin) (own : List Entry) (old new : SharingState) (ask : Ask) (reply : ℕ) → HasGoneOn old new
+    → Sees origin old.thread old.seen own new.seen → map pair_of (accesses_of own) ≡ (ask, reply) ∷ [] → starts_of old.thread own ≡ 0
+    → new.counts.reads ≡ old.counts.reads + reads_of own → new.counts.writes ≡ old.counts.writes + writes_of own → new.counts.fails ≡ old.counts.fails + fails_of own
+    → accesses_counted new.counts ≤ accesses_counted old.counts + 1 → IsServed old ask reply new
+served_by origin own old new ask reply further sees pair none reads writes fails one =
+    let t = old.thread in
+    let entries : entries_of t new.seen ≡ entries_of t old.seen ++ own =
+    ap (entries_of t) sees.longer ∙ entries_of-append t old.seen sees.added ∙ ap (λ l. entries_of t old.seen ++ l) sees.mine in
+    let more : (count : Entry → ℕ) → sum_by count (entries_of t new.seen) ≡ sum_by count (entries_of t old.seen) + sum_by count own =
+    λ count. ap (sum_by count) entries ∙ sum_by-append count (entries_of t old.seen) own in
+    record {
+      goes_on = further;
+      pairs = ap (λ l. map pair_of (accesses_of l)) entries ∙ ap (map pair_of) (accesses_of-append (entries_of t old.seen) own)
+          ∙ map-append pair_of (accesses_of (entries_of t old.seen)) (accesses_of own) ∙ ap (λ l. pairs_of t old.seen ++ l) pair;
+      unstarted = subst (λ l. starts_in t l ≡ starts_in t old.seen) (sym sees.longer) (starts_in-same t old.seen sees.added own sees.mine none);
+      counts = λ are. record {
+        reads = reads ∙ ap (λ n. n + reads_of own) are.reads ∙ sym (more reads_in);
+        writes = writes ∙ ap (λ n. n + writes_of own) are.writes ∙ sym (more writes_in);
+        fails = fails ∙ ap (λ n. n + fails_of own) are.fails ∙ sym (more fails_in);
+      };
+      one = one;
+    }

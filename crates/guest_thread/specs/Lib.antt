@@ -14,3 +14,7 @@ pub mod Turns
 pub mod Under
 pub mod Worked
 pub mod StockRun
+pub mod Crews
+pub mod Begun
+pub mod BegunOutcome
+pub mod Pieces

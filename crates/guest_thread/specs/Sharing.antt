@@ -2,6 +2,7 @@
 use Rattle.std.specs.Prelude.{◌≡◌, ◌≤◌, ℕ, ◌+◌, true, Option, Some, None, List, [], ◌∷◌, ◌++◌}
 use Rattle.atomic_table.specs.Seated.{TableId}
 use Rattle.history.specs.Parts.{entries_of}
+use Rattle.history.specs.Starts.{starts_in}
 use Rattle.history.specs.declared.entry.Entry.{Entry}
 use Rattle.shared_memory.specs.Origin.{Origin}
 use Rattle.shared_memory.specs.Seen.{IsFront}
@@ -26,10 +27,12 @@ pub record HasGoneOn (old new : SharingState) : Type 0 where
   pub thread : new.thread ≡ old.thread
   pub front : IsFront old.seen new.seen
 
--- the thread made an access for what it asked: what was asked and the reply stand behind the thread's others, and it is counted
+-- the thread made an access for what it asked, and started no other: what was asked and the reply stand behind the thread's others,
+-- and it is counted
 pub record IsServed (old : SharingState) (ask : Ask) (reply : ℕ) (new : SharingState) : Type 0 where
   pub goes_on : HasGoneOn old new
   pub pairs : pairs_of old.thread new.seen ≡ pairs_of old.thread old.seen ++ (ask, reply) ∷ []
+  pub unstarted : starts_in old.thread new.seen ≡ starts_in old.thread old.seen
   pub counts : AreCounts old.thread old.seen old.counts → AreCounts old.thread new.seen new.counts
   pub one : accesses_counted new.counts ≤ accesses_counted old.counts + 1
 

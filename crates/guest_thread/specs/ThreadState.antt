@@ -1,9 +1,13 @@
 -- Where a guest thread stands between two of its accesses, and while it waits for the reply to one.
-use Rattle.std.specs.Prelude.{ℕ, ◌+◌, ◌-◌, ◌^◌, ◌<◌, ◌≤◌, List, length, Option, Some, None}
+use Rattle.std.specs.Prelude.{◌≡◌, ◌⊎◌, ℕ, ◌+◌, ◌-◌, ◌^◌, ◌<◌, ◌≤◌, List, length, Option, Some, None}
 use Rattle.a32_instr.specs.declared.outside.Ask.{Ask}
+use Rattle.a32_instr.specs.declared.outside.Stop.{Stop}
+use Rattle.a32_instr.specs.declared.outside.Stop.TheVariants.{Exit}
 use Rattle.a32_step.specs.Machine.{Machine, IsReady, IsAwaiting, IsCalling}
 use Rattle.a32_step.specs.Ports.{IsAskIn, ReplyFits}
 use Rattle.guest_calls.specs.Calls.{most_output}
+use Rattle.guest_thread.specs.declared.guests.Event.{Event}
+use Rattle.guest_thread.specs.declared.guests.Event.TheVariants as event
 use Rattle.guest_thread.specs.declared.guests.Printing.{Printing}
 use Rattle.guest_thread.specs.declared.guests.Turn.{Turn}
 use Rattle.guest_thread.specs.declared.guests.Turn.TheVariants as turn
@@ -63,3 +67,20 @@ pub record IsPending (mem budget : ℕ) (ask : Ask) (standing : ThreadState) : T
 abbrev pub IsPendingAfter : ℕ → ℕ → Turn → ThreadState → Type 0
 IsPendingAfter mem budget (turn.Asks ask) standing = IsPending mem budget ask standing
 IsPendingAfter mem budget (turn.Ended stop) standing = Unit {0}
+
+abbrev pub IsPendingAfterEvent : ℕ → ℕ → Event → ThreadState → Type 0
+IsPendingAfterEvent mem budget (event.Turns turn) standing = IsPendingAfter mem budget turn standing
+IsPendingAfterEvent mem budget _ standing = Unit {0}
+
+-- a thread's stop comes before its steps are the budget, or is the exit call
+abbrev pub StopsWithin : ℕ → Stop → (steps : ℕ) → Type 0
+StopsWithin budget stop steps = (steps < budget) ⊎ ((code : ℕ) × (stop ≡ Exit code))
+
+abbrev pub TurnsWithin : ℕ → Turn → ThreadState → Type 0
+TurnsWithin budget (turn.Asks ask) standing = Unit {0}
+TurnsWithin budget (turn.Ended stop) standing = StopsWithin budget stop standing.steps
+
+-- where a turn is a stop, it is such a one
+abbrev pub EndsWithin : ℕ → Event → ThreadState → Type 0
+EndsWithin budget (event.Turns turn) standing = TurnsWithin budget turn standing
+EndsWithin budget _ standing = Unit {0}

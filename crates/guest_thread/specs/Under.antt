@@ -1,25 +1,27 @@
 -- A guest thread under way, as its run has it.
-use Rattle.std.specs.Prelude.{◌≡◌, ℕ, ◌+◌, ◌<◌, List, ◌++◌, length, Option, Some, None}
+use Rattle.std.specs.Prelude.{◌≡◌, ℕ, ◌+◌, ◌<◌, Bool, true, false, List, ◌++◌, length, Option, Some, None}
 use Rattle.llsc_base.specs.Images.{Program}
 use Rattle.a32_instr.specs.declared.outside.Ask.{Ask}
 use Rattle.a32_instr.specs.declared.outside.CallAsk.{CallAsk}
 use Rattle.a32_instr.specs.State.{asks, calls}
 use Rattle.a32_step.specs.Machine.{Machine, next_effect, after_next}
-use Rattle.guest_calls.specs.Calls.{writes_bytes}
-use Rattle.guest_calls.specs.Run.{Pair, byte_load, byte_loads, effect_of_call, Reaches, Ends, Asks}
+use Rattle.guest_calls.specs.Calls.{is_start_call, writes_bytes}
+use Rattle.guest_calls.specs.Run.{Pair, Point, first_point, byte_load, byte_loads, effect_of_call, ReachesBy, EndsFrom, AsksFrom}
+use Rattle.guest_thread.specs.declared.guests.Event.{Event}
+use Rattle.guest_thread.specs.declared.guests.Event.TheVariants as event
 use Rattle.guest_thread.specs.declared.guests.Printing.{Printing}
 use Rattle.guest_thread.specs.declared.guests.Turn.{Turn}
 use Rattle.guest_thread.specs.declared.guests.Turn.TheVariants as turn
 use Rattle.guest_thread.specs.ThreadState.{ThreadState}
 
 -- in the middle of a write, some of whose bytes were loaded
-pub record IsPrinting (program : Program) (budget : ℕ) (start : Machine) (pairs : List Pair) (standing : ThreadState) (printing : Printing) : Type 0 where
+pub record IsPrintingFrom (stocked : Bool) (program : Program) (budget : ℕ) (from : Point) (pairs : List Pair) (standing : ThreadState) (printing : Printing) : Type 0 where
   pub before : List Pair
   pub machine : Machine
   pub output : List ℕ
   pub call : CallAsk
   pub bytes : List ℕ
-  pub reached : Reaches program budget start before machine standing.steps output
+  pub reached : ReachesBy stocked program budget from before machine standing.steps output
   pub within : standing.steps < budget
   pub called : next_effect program machine ≡ calls call
   pub writes : effect_of_call program call (length output) ≡ writes_bytes printing.from printing.len
@@ -29,35 +31,65 @@ pub record IsPrinting (program : Program) (budget : ℕ) (start : Machine) (pair
   pub loaded : length bytes ≡ printing.loaded
   pub left : printing.loaded < printing.len
 
-abbrev pub HasComeBy : Program → ℕ → Machine → List Pair → ThreadState → Option Printing → Type 0
-HasComeBy program budget start pairs standing None = Reaches program budget start pairs standing.cpu standing.steps standing.output
-HasComeBy program budget start pairs standing (Some printing) = IsPrinting program budget start pairs standing printing
+abbrev pub HasComeBy : Bool → Program → ℕ → Point → List Pair → ThreadState → Option Printing → Type 0
+HasComeBy stocked program budget from pairs standing None = ReachesBy stocked program budget from pairs standing.cpu standing.steps standing.output
+HasComeBy stocked program budget from pairs standing (Some printing) = IsPrintingFrom stocked program budget from pairs standing printing
 
--- a thread has come so far, with these accesses and replies
+-- a thread has come so far from a point, with these accesses and replies; where it has a stock, by no call that starts a thread
+abbrev pub HasComeFrom : Bool → Program → ℕ → Point → List Pair → ThreadState → Type 0
+HasComeFrom stocked program budget from pairs standing = HasComeBy stocked program budget from pairs standing standing.printing
+
+-- from its start, where it has no stock
 abbrev pub HasCome : Program → ℕ → Machine → List Pair → ThreadState → Type 0
-HasCome program budget start pairs standing = HasComeBy program budget start pairs standing standing.printing
+HasCome program budget start = HasComeFrom false program budget (first_point start)
 
 -- in the middle of an instruction, which has asked for an access
-pub record IsAsking (program : Program) (budget : ℕ) (start : Machine) (pairs : List Pair) (ask : Ask) (standing : ThreadState) : Type 0 where
+pub record IsAskingFrom (stocked : Bool) (program : Program) (budget : ℕ) (from : Point) (pairs : List Pair) (ask : Ask) (standing : ThreadState) : Type 0 where
   pub machine : Machine
-  pub reached : Reaches program budget start pairs machine standing.steps standing.output
+  pub reached : ReachesBy stocked program budget from pairs machine standing.steps standing.output
   pub within : standing.steps < budget
   pub asked : next_effect program machine ≡ asks ask
   pub cpu : standing.cpu ≡ after_next program machine
 
-abbrev pub AwaitsBy : Program → ℕ → Machine → List Pair → Ask → ThreadState → Option Printing → Type 0
-AwaitsBy program budget start pairs ask standing None = IsAsking program budget start pairs ask standing
-AwaitsBy program budget start pairs ask standing (Some printing) =
-    IsPrinting program budget start pairs standing printing × (ask ≡ byte_load (printing.from + printing.loaded))
+abbrev pub AwaitsBy : Bool → Program → ℕ → Point → List Pair → Ask → ThreadState → Option Printing → Type 0
+AwaitsBy stocked program budget from pairs ask standing None = IsAskingFrom stocked program budget from pairs ask standing
+AwaitsBy stocked program budget from pairs ask standing (Some printing) =
+    IsPrintingFrom stocked program budget from pairs standing printing × (ask ≡ byte_load (printing.from + printing.loaded))
 
--- a thread has come so far and awaits the reply to this
+-- a thread has come so far from a point and awaits the reply to this
+abbrev pub AwaitsFrom : Bool → Program → ℕ → Point → List Pair → Ask → ThreadState → Type 0
+AwaitsFrom stocked program budget from pairs ask standing = AwaitsBy stocked program budget from pairs ask standing standing.printing
+
+-- from its start, where it has no stock
 abbrev pub Awaits : Program → ℕ → Machine → List Pair → Ask → ThreadState → Type 0
-Awaits program budget start pairs ask standing = AwaitsBy program budget start pairs ask standing standing.printing
+Awaits program budget start = AwaitsFrom false program budget (first_point start)
 
 -- What a thread's turn comes to: what it asks is what its run asks next, and it awaits the reply; or its run has ended,
 -- with its steps and its output.
+abbrev pub ComesToFrom : Bool → Program → ℕ → Point → List Pair → Turn → ThreadState → Type 0
+ComesToFrom stocked program budget from pairs (turn.Asks ask) standing =
+    AsksFrom stocked program budget from pairs ask × AwaitsFrom stocked program budget from pairs ask standing
+ComesToFrom stocked program budget from pairs (turn.Ended stop) standing =
+    EndsFrom stocked program budget from pairs stop standing.steps standing.output
+
+-- from its start, where it has no stock
 abbrev pub ComesTo : Program → ℕ → Machine → List Pair → Turn → ThreadState → Type 0
-ComesTo program budget start pairs (turn.Asks ask) standing =
-    Asks program budget start pairs ask × Awaits program budget start pairs ask standing
-ComesTo program budget start pairs (turn.Ended stop) standing =
-    Ends program budget start pairs stop standing.steps standing.output
+ComesTo program budget start = ComesToFrom false program budget (first_point start)
+
+-- a thread has come so far and has called for a thread to be started, in an instruction that isn't complete, since it awaits the answer
+pub record CallsToStart (stocked : Bool) (program : Program) (budget : ℕ) (from : Point) (pairs : List Pair) (call : CallAsk) (cpu : Machine) (steps : ℕ) (output : List ℕ) : Type 0 where
+  pub machine : Machine
+  pub reached : ReachesBy stocked program budget from pairs machine steps output
+  pub within : steps < budget
+  pub called : next_effect program machine ≡ calls call
+  pub starts : is_start_call call ≡ true
+  pub cpu_is : cpu ≡ after_next program machine
+
+-- What a thread's turn comes to where it may start threads: what a turn of another does; or it has called for a thread to be
+-- started; or its steps are the budget, and it stands where it has come to.
+abbrev pub ComesToEvent : Bool → Program → ℕ → Point → List Pair → Event → ThreadState → Type 0
+ComesToEvent stocked program budget from pairs (event.Turns turn) standing = ComesToFrom stocked program budget from pairs turn standing
+ComesToEvent stocked program budget from pairs event.Starts standing =
+    (call : CallAsk) × CallsToStart stocked program budget from pairs call standing.cpu standing.steps standing.output
+ComesToEvent stocked program budget from pairs event.Spent standing =
+    ReachesBy stocked program budget from pairs standing.cpu standing.steps standing.output × (standing.steps ≡ budget)

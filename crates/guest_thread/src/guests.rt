@@ -1,22 +1,22 @@
 //! A thread's turns.
-ghost use Rattle.std.specs.Prelude.{◌≡◌, ◌≤◌, ◌<◌, ◌+◌, ◌^◌, ℕ, List, [], None, ◌∷◌, ◌++◌, length, IfNone, IfOk, IfSome, IsTrue, MatchOption};
+ghost use Rattle.std.specs.Prelude.{◌≡◌, ◌≤◌, ◌<◌, ◌+◌, ◌^◌, ℕ, Bool, List, [], None, Some, ◌∷◌, ◌++◌, length, true, IfNone, IfOk, IfSome, IsTrue, MatchOption};
 ghost use Rattle.llsc_base.specs.Limits.{most_budget};
 ghost use Rattle.llsc_base.specs.Images.{Program};
 ghost use Rattle.a32_instr.specs.declared.outside.Ask.{Ask};
 ghost use Rattle.a32_instr.specs.declared.outside.CallAsk.{CallAsk};
 ghost use Rattle.a32_step.specs.Phase as phase;
 ghost use Rattle.a32_step.specs.Machine.{Machine, IsReady, IsCalling};
-ghost use Rattle.guest_calls.specs.Run.{Pair, byte_load, effect_of_call};
+ghost use Rattle.guest_calls.specs.Run.{Pair, Point, byte_load, effect_of_call};
 ghost use Rattle.guest_thread.specs.Ports.{IsAtRest};
 ghost use Rattle.guest_thread.specs.Progress.{HasKept, HasMoved, IsBounded};
-ghost use Rattle.guest_thread.specs.ThreadState.{HasLeft, IsReadyIn, IsWaitingIn, IsPendingAfter, MayGive};
+ghost use Rattle.guest_thread.specs.ThreadState.{EndsWithin, HasLeft, IsReadyIn, IsWaitingIn, IsPendingAfter, IsPendingAfterEvent, MayGive};
 ghost use Rattle.guest_thread.specs.Start.{first_state, thread_start};
 ghost use Rattle.guest_thread.specs.Turns.{AfterCall, IsAtTurn, IsOneStepOn, after_byte, turn_by};
-ghost use Rattle.guest_thread.specs.Under.{HasCome, Awaits, ComesTo};
+ghost use Rattle.guest_thread.specs.Under.{HasCome, HasComeFrom, Awaits, AwaitsFrom, ComesTo, ComesToEvent};
 
 use crate::starts::start_cpu;
 use a32_step::{Ask, CallAsk, Cpu, Stop, Wanted};
-use guest_calls::{CallStep, Output, guest_call};
+use guest_calls::{CallStep, Output, guest_call, is_start_call};
 use llsc_base::{Image, MachineSize, Place, Size};
 use std::alloc::{AllocError, Global};
 use std::marker::Model;
@@ -36,6 +36,17 @@ pub enum Turn {
     Asks(Ask),
     /// It has ended.
     Ended(Stop),
+}
+
+/// What a thread's turn comes to where the thread may start others.
+#[derive(Clone, Copy)]
+pub(crate) enum Event {
+    /// What a turn of any thread comes to.
+    Turns(Turn),
+    /// It calls for a thread to be started, and awaits the answer.
+    Starts,
+    /// Its steps are the budget.
+    Spent,
 }
 
 /// What a guest call comes to.
@@ -100,7 +111,7 @@ impl Guest {
         ensures comes { IfOk result (λ guest. (budget : ℕ) → HasCome image.now budget (thread_start image.now size.now size.now.threads t) [] guest) }
     {
         let output = Output::new(alloc)?;
-        Ok(Guest::new(start_cpu(image, size, t), output))
+        Ok(Guest::new(start_cpu(image, size, size.threads(), t), output))
     }
 
     /// A thread whose core is between two instructions, and that has written nothing.
@@ -115,6 +126,33 @@ impl Guest {
             output,
             printing: None,
         }
+    }
+
+    /// A thread whose core is between two instructions, and that has made so many steps and written this.
+    pub(crate) fn at(cpu: Cpu, output: Output, steps: u64) -> Guest
+        ensures { result ≡ record { cpu = cpu; steps = steps; output = output; printing = None } }
+    {
+        Guest {
+            cpu,
+            steps,
+            output,
+            printing: None,
+        }
+    }
+
+    /// Its core, what it wrote, and its steps.
+    pub(crate) fn into_parts(self) -> (Cpu, Output, u64)
+        ensures cpu { result.0 ≡ self.cpu }
+        ensures output { result.1 ≡ self.output }
+        ensures steps { result.2 ≡ self.steps }
+    {
+        let Guest {
+            cpu,
+            steps,
+            output,
+            printing: _,
+        } = self;
+        (cpu, output, steps)
     }
 
     /// How many steps the thread has made.
@@ -167,32 +205,33 @@ impl Guest {
         self.printing.is_none() && self.cpu.is_between()
     }
 
-    /// Goes on by one instruction, or up to the thread's next access or its end, as [`Guest::next`] does. `None` where the
-    /// instruction is complete.
+    /// Goes on by one instruction, or up to the thread's next access or its end, as [`Guest::next`] does; where `starts` holds, also up to
+    /// a call that starts a thread. `None` where the instruction is complete.
     #[inline(never)]
-    pub(crate) fn one_turn(&mut self, image: &Image, budget: u64) -> Option<Turn>
+    pub(crate) fn one_turn(&mut self, image: &Image, budget: u64, starts: bool) -> Option<Event>
         requires ready { IsReadyIn (length image.now.bytes) budget self.old }
         requires small { length image.now.bytes < 2 ^ 32 }
         requires budget { budget ≤ most_budget }
-        ensures comes { (start : Machine) (pairs : List Pair) → HasCome image.now budget start pairs self.old
-            → MatchOption result (HasCome image.now budget start pairs self.new) (λ turn. ComesTo image.now budget start pairs turn self.new) }
-        ensures pending { IfSome result (λ turn. IsPendingAfter (length image.now.bytes) budget turn self.new) }
+        ensures comes { (from : Point) (pairs : List Pair) → HasComeFrom starts image.now budget from pairs self.old
+            → MatchOption result (HasComeFrom starts image.now budget from pairs self.new) (λ event. ComesToEvent starts image.now budget from pairs event self.new) }
+        ensures pending { IfSome result (λ event. IsPendingAfterEvent (length image.now.bytes) budget event self.new) }
         ensures ready { IfNone result (IsReadyIn (length image.now.bytes) budget self.new) }
         ensures later { IfNone result ((self.old.steps < self.new.steps) × (self.new.output ≡ self.old.output)) }
         ensures kept { IsBounded self.old → HasKept self.old self.new }
+        ensures within { IfSome result (λ event. EndsWithin budget event self.new) }
+        ensures starts { result ≡ Some Event.Starts → starts ≡ true }
     {
         if let Some(printing) = self.printing {
-            return Some(Turn::Asks(byte_ask(printing)));
+            return Some(Event::Turns(Turn::Asks(byte_ask(printing))));
         }
         if self.steps >= budget {
-            return Some(Turn::Ended(Stop::Budget));
+            return Some(Event::Spent);
         }
-        self.turn(image)
+        self.turn_or_start(image, starts)
     }
 
-    /// One instruction goes on, or a guest call is made. `None` where it is complete.
+    /// One instruction goes on, or a guest call is made, of a thread that starts none. `None` where it is complete.
     #[inline(always)]
-    #[tactic(auto, using(crate::proofs::Kept::calling_keeps, crate::proofs::Kept::stopping_keeps))]
     fn turn(&mut self, image: &Image) -> Option<Turn>
         requires at_turn { IsAtTurn self.old }
         requires few { self.old.steps < most_budget }
@@ -205,17 +244,50 @@ impl Guest {
         ensures at_most { self.new.steps ≤ self.old.steps + 1 }
         ensures kept { IsBounded self.old → HasKept self.old self.new }
     {
+        let Some(event) = self.turn_or_start(image, false) else {
+            return None;
+        };
+        match event {
+            Event::Turns(turn) => Some(turn),
+            Event::Starts | Event::Spent => unreachable!(),
+        }
+    }
+
+    /// One instruction goes on, or a guest call is made, but where `starts` holds none that starts a thread. `None` where it is complete.
+    #[inline(always)]
+    #[tactic(auto, using(crate::proofs::Kept::calling_keeps, crate::proofs::Kept::stopping_keeps))]
+    fn turn_or_start(&mut self, image: &Image, starts: bool) -> Option<Event>
+        requires at_turn { IsAtTurn self.old }
+        requires few { self.old.steps < most_budget }
+        requires small { length image.now.bytes < 2 ^ 32 }
+        ensures goes_on { IfNone result (IsOneStepOn self.old self.new) }
+        ensures comes { (budget : ℕ) (from : Point) (pairs : List Pair) → HasComeFrom starts image.now budget from pairs self.old → self.old.steps < budget
+            → MatchOption result (HasComeFrom starts image.now budget from pairs self.new) (λ event. ComesToEvent starts image.now budget from pairs event self.new) }
+        ensures pending { IfSome result (λ event. (budget : ℕ) → self.old.steps < budget → IsPendingAfterEvent (length image.now.bytes) budget event self.new) }
+        ensures output { self.new.output ≡ self.old.output }
+        ensures at_most { self.new.steps ≤ self.old.steps + 1 }
+        ensures kept { IsBounded self.old → HasKept self.old self.new }
+        ensures within { IfSome result (λ event. (budget : ℕ) → self.old.steps < budget → EndsWithin budget event self.new) }
+        ensures starts { result ≡ Some Event.Starts → starts ≡ true }
+        ensures unspent { (result ≡ Some Event.Spent) → ⊥ }
+    {
         match self.cpu.next(image) {
-            Wanted::Access(ask) => Some(Turn::Asks(ask)),
-            Wanted::Call(_) => {
+            Wanted::Access(ask) => Some(Event::Turns(Turn::Asks(ask))),
+            Wanted::Call(call) => {
+                if starts && is_start_call(&call) {
+                    return Some(Event::Starts);
+                }
                 let called = self.call(image);
-                called.turn()
+                let Some(turn) = called.turn() else {
+                    return None;
+                };
+                Some(Event::Turns(turn))
             }
             Wanted::Done => {
                 self.steps += 1;
                 None
             }
-            Wanted::Stopped(stop) => Some(Turn::Ended(stop)),
+            Wanted::Stopped(stop) => Some(Event::Turns(Turn::Ended(stop))),
         }
     }
 
@@ -282,6 +354,8 @@ impl Guest {
         ensures ready { (mem budget : ℕ) → IsWaitingIn mem budget self.old → IsReadyIn mem budget self.new }
         ensures comes { (program : Program) (budget : ℕ) (start : Machine) (pairs : List Pair) (ask : Ask) →
             Awaits program budget start pairs ask self.old → HasCome program budget start (pairs ++ (ask, reply) ∷ []) self.new }
+        ensures on { (stocked : Bool) (program : Program) (budget : ℕ) (from : Point) (pairs : List Pair) (ask : Ask) →
+            AwaitsFrom stocked program budget from pairs ask self.old → HasComeFrom stocked program budget from (pairs ++ (ask, reply) ∷ []) self.new }
         ensures moved { IsBounded self.old → HasMoved self.old self.new }
     {
         match self.printing {

@@ -7,6 +7,7 @@ ghost use Rattle.history.specs.declared.entry.Entry.{Entry};
 ghost use Rattle.a32_instr.specs.declared.outside.Stop.{Stop};
 ghost use Rattle.a32_step.specs.Machine.{Machine};
 ghost use Rattle.guest_calls.specs.Run.{Pair, Ends, EndsOn};
+ghost use Rattle.guest_thread.specs.BegunOutcome.{IsOutcomeFrom};
 ghost use Rattle.guest_thread.specs.Ends.{AreEnds};
 ghost use Rattle.guest_thread.specs.Outcome.{IsOutcome};
 ghost use Rattle.guest_thread.specs.Start.{thread_start};
@@ -39,4 +40,10 @@ pub fn histories_end_threads_in_one_way()
 pub fn histories_have_one_outcome()
     ensures { (program : Program) (size : Numbers) (budget : ℕ) (history : List Entry) (ends others : List GuestEnd) →
         IsOutcome program size budget history ends → IsOutcome program size budget history others → ends ≡ others }
+{}
+
+/// Where none is spare, an outcome of threads that begin by themselves is one of threads that may start others.
+pub fn outcomes_without_a_spare()
+    ensures { (program : Program) (size : Numbers) (budget : ℕ) (history : List Entry) (ends : List GuestEnd) →
+        IsOutcome program size budget history ends → IsOutcomeFrom program size size.threads 0 budget history ends }
 {}

@@ -5,16 +5,20 @@
 //! what it asks, and how it ends, is the run of the thread (`guest_calls`, `specs/Run`); every reply takes it further,
 //! so that it comes to an end within its budget (`specs/Progress`). By [`Guest::run`] a [`a32_step::Port`] replies, up
 //! to the end. [`run_thread`] runs a thread, whose core begins by [`start_cpu`], on a memory that threads share, and
-//! gives back its pass with its end ([`Finished`]). A [`GuestEnd`] is how a thread ended. [`Counts`] are a thread's
+//! gives back its pass with its end ([`Finished`]); [`go_on`] runs one piece by piece, from a [`Part`] to the next or to its end
+//! ([`Paused`]), and up to each call that starts a thread. A [`GuestEnd`] is how a thread ended. [`Counts`] are a thread's
 //! accesses, and [`tried_by`] says which access a thread tries by what it asks. [`laws`] has that no thread ends by
 //! itself for what only memory can want, and that a history has one outcome; [`worked`] and [`worked_ends`] have small
 //! cases.
 #![tactic(auto)]
 
 mod counts;
+mod crews;
 mod ends;
+mod gathering;
 mod guests;
 pub mod laws;
+mod pieces;
 mod ports;
 mod running;
 mod sharing;
@@ -25,8 +29,11 @@ pub mod worked_ends;
 pub mod worked_stocks;
 
 pub use counts::{Counts, counts_of};
+pub use crews::{Crew, Job, job_of, prepare};
 pub use ends::GuestEnd;
+pub use gathering::{Ran, begin, gather, take_last};
 pub use guests::{Guest, Turn};
+pub use pieces::{Part, Paused, go_on};
 pub use running::{Finished, run_thread};
 pub use starts::start_cpu;
 pub use tries::tried_by;

@@ -1,23 +1,40 @@
 //! The run of a thread over a port, which replies to its accesses.
-ghost use Rattle.std.specs.Prelude.{◌≡◌, ◌<◌, ◌≤◌, ◌+◌, ◌*◌, ◌^◌, ◌++◌, [], ℕ, List, IfNone, IfSome, IsTrue, MatchOption, length};
+ghost use Rattle.std.specs.Prelude.{◌≡◌, ◌<◌, ◌≤◌, ◌+◌, ◌*◌, ◌^◌, ◌++◌, [], ℕ, Bool, List, Some, IfNone, IfSome, IsTrue, MatchOption, length, true};
 ghost use Rattle.llsc_base.specs.Images.{Program};
 ghost use Rattle.llsc_base.specs.Limits.{most_budget};
 ghost use Rattle.guest_calls.specs.Calls.{most_output};
 ghost use Rattle.a32_step.specs.Machine.{Machine};
 ghost use Rattle.a32_step.specs.Ports.{Leads};
-ghost use Rattle.guest_calls.specs.Run.{Pair};
-ghost use Rattle.guest_thread.specs.Ports.{EndsBy, IsRunning};
-ghost use Rattle.guest_thread.specs.Progress.{progress_of};
-ghost use Rattle.guest_thread.specs.Under.{HasCome};
+ghost use Rattle.guest_calls.specs.Run.{Pair, Point};
+ghost use Rattle.guest_thread.specs.Ports.{EndsBy, IsRunning, RestsBy, RestsWithin};
+ghost use Rattle.guest_thread.specs.Progress.{IsBounded, progress_of};
+ghost use Rattle.guest_thread.specs.Under.{HasCome, HasComeFrom};
 
-use crate::guests::{Guest, Turn};
+use crate::guests::{Event, Guest, Turn};
 use a32_step::{Ask, Code, Passage, Port, Stop};
 use llsc_base::Image;
 
+/// How a thread that may start others comes to rest.
+#[derive(Clone, Copy)]
+pub(crate) enum Rest {
+    /// It has ended.
+    Stopped(Stop),
+    /// It calls for a thread to be started, and awaits the answer.
+    Starts,
+    /// Its steps are the budget.
+    Spent,
+}
+
 impl Guest {
-    /// Up to the thread's next access, which is made and replied to, or to the end of an instruction, or its stop.
+    /// Up to the thread's next access, which is made and replied to, or to the end of an instruction, or its rest.
     #[inline(never)]
-    fn pass<P: Port>(&mut self, image: &Image, budget: u64, port: &mut P) -> Option<Stop>
+    fn pass<P: Port>(
+        &mut self,
+        image: &Image,
+        budget: u64,
+        port: &mut P,
+        starts: bool,
+    ) -> Option<Rest>
         requires running { IsRunning (length image.now.bytes) budget self.old }
         requires mem { P.mem port.old ≡ length image.now.bytes }
         requires counted { P.counted port.old ≤ progress_of self.old }
@@ -26,18 +43,26 @@ impl Guest {
         ensures goes_on { IfNone result (IsRunning (length image.now.bytes) budget self.new) }
         ensures later { IfNone result (progress_of self.old < progress_of self.new) }
         ensures mem { P.mem port.new ≡ P.mem port.old }
-        ensures counted { IfNone result (P.counted port.new ≤ progress_of self.new) }
-        ensures no_more { IfSome result (λ stop. P.counted port.new ≤ P.counted port.old) }
-        ensures comes { (start : Machine) (before : List Pair) → HasCome image.now budget start before self.old
-            → MatchOption result ((pairs : List Pair) × (Leads P.replies port.old pairs port.new × HasCome image.now budget start (before ++ pairs) self.new))
-            (λ stop. Leads P.replies port.old [] port.new × EndsBy (P.refuses port.new) image.now budget start before stop self.new.steps self.new.output) }
+        ensures counted { P.counted port.new ≤ progress_of self.new }
+        ensures no_more { IfSome result (λ _. P.counted port.new ≤ P.counted port.old) }
+        ensures bounded { IsBounded self.new }
+        ensures comes { (from : Point) (before : List Pair) → HasComeFrom starts image.now budget from before self.old
+            → MatchOption result ((pairs : List Pair) × (Leads P.replies port.old pairs port.new × HasComeFrom starts image.now budget from (before ++ pairs) self.new))
+            (λ rest. Leads P.replies port.old [] port.new × RestsBy starts (P.refuses port.new) image.now budget from before rest self.new) }
+        ensures within { IfSome result (λ rest. RestsWithin budget rest self.new) }
+        ensures starts { result ≡ Some Rest.Starts → starts ≡ true }
     {
-        let Some(turn) = self.one_turn(image, budget) else {
+        let Some(event) = self.one_turn(image, budget, starts) else {
             return None;
+        };
+        let turn = match event {
+            Event::Turns(turn) => turn,
+            Event::Starts => return Some(Rest::Starts),
+            Event::Spent => return Some(Rest::Spent),
         };
         let ask = match turn {
             Turn::Asks(ask) => ask,
-            Turn::Ended(stop) => return Some(stop),
+            Turn::Ended(stop) => return Some(Rest::Stopped(stop)),
         };
         if let Some(reply) = port.reply(ask) {
             self.give(reply);
@@ -45,7 +70,7 @@ impl Guest {
         }
         P::counts_one();
         match ask {
-            Ask::Store(place, _) => Some(Stop::TagLimit(place.addr)),
+            Ask::Store(place, _) => Some(Rest::Stopped(Stop::TagLimit(place.addr))),
             _ => unreachable!(),
         }
     }
@@ -63,8 +88,8 @@ impl Guest {
         ensures program { code.new.program ≡ code.old.program }
         ensures mem { P.mem port.new ≡ P.mem port.old }
         ensures counted { P.counted port.new ≤ progress_of self.new }
-        ensures comes { (start : Machine) (before : List Pair) → HasCome code.old.program budget start before self.old
-            → (pairs : List Pair) × (Leads P.replies port.old pairs port.new × HasCome code.old.program budget start (before ++ pairs) self.new) }
+        ensures comes { (stocked : Bool) (from : Point) (before : List Pair) → HasComeFrom stocked code.old.program budget from before self.old
+            → (pairs : List Pair) × (Leads P.replies port.old pairs port.new × HasComeFrom stocked code.old.program budget from (before ++ pairs) self.new) }
     {
         if !self.is_at_rest() {
             return;
@@ -101,11 +126,41 @@ impl Guest {
         ensures ends { (start : Machine) → HasCome code.old.program budget start [] self.old
             → (pairs : List Pair) × (Leads P.replies port.old pairs port.new × EndsBy (P.refuses port.new) code.old.program budget start pairs result self.new.steps self.new.output) }
     {
+        match self.run_on(code, budget, port, false) {
+            Rest::Stopped(stop) => stop,
+            Rest::Spent => Stop::Budget,
+            Rest::Starts => unreachable!(),
+        }
+    }
+
+    /// Goes on as [`Guest::run`] does; where `starts` holds, also up to a call that starts a thread.
+    pub(crate) fn run_on<P: Port>(
+        &mut self,
+        code: &mut Code,
+        budget: u64,
+        port: &mut P,
+        starts: bool,
+    ) -> Rest
+        requires running { IsRunning (length code.old.program.bytes) budget self.old }
+        requires mem { P.mem port.old ≡ length code.old.program.bytes }
+        requires counted { P.counted port.old ≤ progress_of self.old }
+        requires small { length code.old.program.bytes < 2 ^ 32 }
+        requires budget { budget ≤ most_budget }
+        ensures program { code.new.program ≡ code.old.program }
+        ensures mem { P.mem port.new ≡ P.mem port.old }
+        ensures counted { P.counted port.new ≤ progress_of self.new }
+        ensures few { P.counted port.new ≤ 17 * budget + most_output + 16 }
+        ensures bounded { IsBounded self.new }
+        ensures comes { (from : Point) (before : List Pair) → HasComeFrom starts code.old.program budget from before self.old
+            → (pairs : List Pair) × (Leads P.replies port.old pairs port.new × RestsBy starts (P.refuses port.new) code.old.program budget from (before ++ pairs) result self.new) }
+        ensures within { RestsWithin budget result self.new }
+        ensures starts { result ≡ Rest.Starts → starts ≡ true }
+    {
         let image = code.image();
         loop {
             self.carry_on(code, budget, port);
-            if let Some(stop) = self.pass(image, budget, port) {
-                return stop;
+            if let Some(rest) = self.pass(image, budget, port, starts) {
+                return rest;
             }
         }
     }

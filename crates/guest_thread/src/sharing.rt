@@ -53,6 +53,28 @@ impl<'a, M: SharedMemory, R: Wait> Sharing<'a, M, R> {
         }
     }
 
+    /// A thread's part behind so many accesses of each kind.
+    pub(crate) fn with(
+        rt: &'a R,
+        mem: &'a M,
+        pass: M::Pass,
+        thread: u32,
+        counts: Counts,
+    ) -> Sharing<'a, M, R>
+        requires memory { M.home pass ≡ M.id mem.now }
+        requires single { IsSingle thread (M.numbers pass) }
+        requires may_act { MayAct (M.origin mem.now).first thread (M.seen pass) }
+        ensures state { result ≡ record { memory = M.id mem.now; origin = M.origin mem.now; thread = thread; seen = M.seen pass; counts = counts } }
+    {
+        Sharing {
+            rt,
+            mem,
+            pass,
+            thread,
+            counts,
+        }
+    }
+
     /// How many accesses of each kind it made.
     pub(crate) fn counts(&self) -> Counts
         ensures { result ≡ self.now.counts }

@@ -1,4 +1,4 @@
-use Rattle.guest_machine.proofs.Crewed.{ended_more}
+use Rattle.guest_thread.proofs.Crewed.{ended_more}
 use Rattle.guest_machine.proofs.runs.+jobs.Goals as goal
 
 pub returns-clause-ended : goal.returns-clause-ended

@@ -2,14 +2,14 @@ use Rattle.std.proofs.Common.{◌∷◌, ◌≡◌, ◌<◌, ◌^◌, ℕ, true}
 use Rattle.a32_instr.specs.declared.outside.Stop.TheVariants.{TagLimit}
 use Rattle.guest_thread.specs.Counting.{accesses_counted, counts_in}
 use Rattle.guest_thread.specs.declared.ends.GuestEnd.{GuestEnd}
-use Rattle.guest_machine.specs.Crews.{threads_of}
-use Rattle.guest_machine.proofs.Crewed.{all_ends, all_taken, are_ends}
+use Rattle.guest_thread.specs.Crews.{threads_of}
+use Rattle.guest_thread.proofs.Crewed.{all_ends, all_taken, are_ends}
 use Rattle.guest_machine.proofs.runs.run_all.Goals as goal
 
 pub returns-clause-ends : goal.returns-clause-ends
 returns-clause-ends g c =
     are_ends c.args.image.now (g.M.SharedMemory.origin c.args.mem.now) c.args.budget (g.M.SharedMemory.seen c.run_jobs.result.pass) (threads_of (c.args.crew.first ∷ c.args.crew.jobs.items))
-    c.run_jobs.result.ends.items c.requires.crew.threads c.run_jobs.ensures.ended.ends
+    c.run_jobs.result.ends.items c.requires.crew.begin c.requires.crew.threads c.run_jobs.ensures.ended.ends
 
 pub returns-clause-spends : goal.returns-clause-spends
 returns-clause-spends g c =

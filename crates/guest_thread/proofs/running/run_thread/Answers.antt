@@ -23,7 +23,7 @@ returns-clause-end g c =
     let last = c.run-stop.new.port in
     let ran = c.run-stop.ensures.ends c.args.cpu (c.new-guest.ensures.comes c.requires.empty c.args.code.program c.args.budget) in
     let none = c.requires.none t c.thread-thread.ensures in
-    let shared = shared_from (g.M.SharedMemory.id mem) origin t seen c.new-sharing.result last ran.0 c.new-sharing.ensures.state none ran.1.0 in
+    let shared = shared_from (g.M.SharedMemory.id mem) origin t seen c.new-sharing.result last ran.0 c.new-sharing.ensures.state ran.1.0 in
     let end : GuestEnd = record {
       thread = t;
       stop = c.run-stop.result;
@@ -36,7 +36,7 @@ returns-clause-end g c =
     let ends = ends_as (RefusesAt last) c.args.code.program c.args.budget c.args.cpu ran.0 c.run-stop.result c.steps.result c.into_output.result c.run-stop.new.self
     c.steps.ensures c.into_output.ensures ran.1.1 in
     subst (λ s. IsEndOn c.args.code.program origin.size c.args.budget c.args.cpu s end) (sym c.into_pass.ensures.seen)
-    (end_on c.args.code.program c.args.budget c.args.cpu c.requires.between (at_start (g.M.SharedMemory.id mem) origin t seen) last ran.0 end shared refl c.counts-counts.ensures ends)
+    (end_on c.args.code.program c.args.budget c.args.cpu c.requires.between (at_start (g.M.SharedMemory.id mem) origin t seen) last ran.0 end shared none refl refl c.counts-counts.ensures ends)
 
 pub returns-clause-spends : goal.returns-clause-spends
 returns-clause-spends g c = λ addr is.
@@ -46,8 +46,7 @@ returns-clause-spends g c = λ addr is.
     let seen = g.M.SharedMemory.seen c.args.pass in
     let last = c.run-stop.new.port in
     let ran = c.run-stop.ensures.ends c.args.cpu (c.new-guest.ensures.comes c.requires.empty c.args.code.program c.args.budget) in
-    let none = c.requires.none t c.thread-thread.ensures in
-    let shared = shared_from (g.M.SharedMemory.id mem) origin t seen c.new-sharing.result last ran.0 c.new-sharing.ensures.state none ran.1.0 in
+    let shared = shared_from (g.M.SharedMemory.id mem) origin t seen c.new-sharing.result last ran.0 c.new-sharing.ensures.state ran.1.0 in
     spends_at c.args.code.program c.args.budget c.args.cpu c.requires.between (at_start (g.M.SharedMemory.id mem) origin t seen) last ran.0 c.run-stop.result
     c.run-stop.new.self.steps c.run-stop.new.self.output addr shared ran.1.1 is
 
@@ -59,8 +58,7 @@ returns-clause-single g c =
     let seen = g.M.SharedMemory.seen c.args.pass in
     let last = c.run-stop.new.port in
     let ran = c.run-stop.ensures.ends c.args.cpu (c.new-guest.ensures.comes c.requires.empty c.args.code.program c.args.budget) in
-    let none = c.requires.none t c.thread-thread.ensures in
-    let shared = shared_from (g.M.SharedMemory.id mem) origin t seen c.new-sharing.result last ran.0 c.new-sharing.ensures.state none ran.1.0 in
+    let shared = shared_from (g.M.SharedMemory.id mem) origin t seen c.new-sharing.result last ran.0 c.new-sharing.ensures.state ran.1.0 in
     subst (λ n. IsSingle n (g.M.SharedMemory.numbers c.into_pass.result)) shared.goes_on.thread c.into_pass.ensures.single
 
 pub returns-clause-begins : goal.returns-clause-begins
@@ -71,8 +69,7 @@ returns-clause-begins g c =
     let seen = g.M.SharedMemory.seen c.args.pass in
     let last = c.run-stop.new.port in
     let ran = c.run-stop.ensures.ends c.args.cpu (c.new-guest.ensures.comes c.requires.empty c.args.code.program c.args.budget) in
-    let none = c.requires.none t c.thread-thread.ensures in
-    let shared = shared_from (g.M.SharedMemory.id mem) origin t seen c.new-sharing.result last ran.0 c.new-sharing.ensures.state none ran.1.0 in
+    let shared = shared_from (g.M.SharedMemory.id mem) origin t seen c.new-sharing.result last ran.0 c.new-sharing.ensures.state ran.1.0 in
     subst (IsFront seen) (sym c.into_pass.ensures.seen) shared.goes_on.front
 
 pub returns-clause-memory : goal.returns-clause-memory
@@ -83,8 +80,7 @@ returns-clause-memory g c =
     let seen = g.M.SharedMemory.seen c.args.pass in
     let last = c.run-stop.new.port in
     let ran = c.run-stop.ensures.ends c.args.cpu (c.new-guest.ensures.comes c.requires.empty c.args.code.program c.args.budget) in
-    let none = c.requires.none t c.thread-thread.ensures in
-    let shared = shared_from (g.M.SharedMemory.id mem) origin t seen c.new-sharing.result last ran.0 c.new-sharing.ensures.state none ran.1.0 in
+    let shared = shared_from (g.M.SharedMemory.id mem) origin t seen c.new-sharing.result last ran.0 c.new-sharing.ensures.state ran.1.0 in
     c.into_pass.ensures.memory ∙ shared.goes_on.memory ∙ sym c.requires.memory
 
 pub returns-clause-few : goal.returns-clause-few

@@ -1,5 +1,5 @@
 -- Between two instructions, with all accesses behind it.
-use Rattle.std.proofs.Common.{◌≡◌, ◌≤◌, ◌-◌, length}
+use Rattle.std.proofs.Common.{◌≡◌, ◌≤◌, ◌-◌, Bool, length}
 use Rattle.guest_thread.specs.Ports.{IsAtRest, IsRunning}
 use Rattle.guest_thread.specs.Progress.{progress_of}
 use Rattle.guest_thread.proofs.Carried.{Ways}
@@ -13,7 +13,7 @@ invariant-loop-steps g l = record {
   mem : g.P.Port.mem l.port ≡ g.P.Port.mem l.fn.port;
   counted : g.P.Port.counted l.port ≤ progress_of (record { cpu = l.self-inside.cpu; steps = l.steps; output = l.self-inside.output; printing = l.self-inside.printing });
   later : progress_of l.fn.self ≤ progress_of (record { cpu = l.self-inside.cpu; steps = l.steps; output = l.self-inside.output; printing = l.self-inside.printing });
-  way : Ways g.P.Port.replies l.fn.code.program l.fn.budget l.fn.self l.fn.port (record { cpu = l.self-inside.cpu; steps = l.steps; output = l.self-inside.output; printing = l.self-inside.printing }) l.port;
+  way : (stocked : Bool) → Ways g.P.Port.replies stocked l.fn.code.program l.fn.budget l.fn.self l.fn.port (record { cpu = l.self-inside.cpu; steps = l.steps; output = l.self-inside.output; printing = l.self-inside.printing }) l.port;
 }
 
 abbrev pub decreases-loop-steps : goal.decreases-loop-steps

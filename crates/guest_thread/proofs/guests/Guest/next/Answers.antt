@@ -1,4 +1,5 @@
-use Rattle.std.proofs.Common.{sym, ap, ◌∙◌, subst, rules}
+use Rattle.std.proofs.Common.{sym, ap, ◌∙◌, subst, false, rules}
+use Rattle.guest_calls.specs.Run.{first_point}
 use Rattle.guest_thread.specs.declared.guests.Turn.TheVariants as turn
 use Rattle.guest_thread.specs.ThreadState.{ThreadState}
 use Rattle.guest_thread.specs.Under.{ComesTo}
@@ -9,7 +10,7 @@ use Rattle.guest_thread.proofs.guests.Guest.next.Goals as goal
 pub returns-in-Some-clause-comes : goal.returns-in-Some-clause-comes
 returns-in-Some-clause-comes c = λ start pairs come.
     subst (λ ask. ComesTo c.args.image.now c.args.budget start pairs (turn.Asks ask) c.args.self.now) (sym c.byte_ask.ensures)
-    (asking_byte c.args.image.now c.args.budget start pairs c.args.self.now c.in-Some.printing come (sym (ap (λ (s : ThreadState). s.printing) c.self.view_is) ∙ c.in-Some.is))
+    (asking_byte false c.args.image.now c.args.budget (first_point start) pairs c.args.self.now c.in-Some.printing come (sym (ap (λ (s : ThreadState). s.printing) c.self.view_is) ∙ c.in-Some.is))
 
 pub returns-in-Some-turn-clause-comes : goal.returns-in-Some-turn-clause-comes
 returns-in-Some-turn-clause-comes c = λ start pairs come.
@@ -27,4 +28,4 @@ loop-self-preserved c =
 
 pub returns-clause-comes : goal.returns-clause-comes
 returns-clause-comes c = λ start pairs come.
-    at_budget c.args.image.now c.args.budget start pairs c.loop-self.self (c.loop-self.invariant.way start pairs come) c.loop-self.invariant.at_turn.printing (search rules)
+    at_budget false c.args.image.now c.args.budget (first_point start) pairs c.loop-self.self (c.loop-self.invariant.way start pairs come) c.loop-self.invariant.at_turn.printing (search rules)

@@ -1,0 +1,5 @@
+use Rattle.guest_thread.proofs.Unstarted.{outcome_from}
+use Rattle.guest_thread.proofs.laws.outcomes_without_a_spare.Goals as goal
+
+pub returns : goal.returns
+returns c = outcome_from

@@ -1,0 +1,187 @@
+//! A thread that runs piece by piece on a memory that threads share.
+ghost use Rattle.std.specs.Prelude.{◌≡◌, ◌≤◌, ℕ, length};
+ghost use Rattle.llsc_base.specs.Limits.{most_budget};
+ghost use Rattle.history.specs.Started.{MayAct};
+ghost use Rattle.shared_memory.specs.Seen.{IsSingle};
+ghost use Rattle.a32_instr.specs.declared.outside.CallAsk.{CallAsk};
+ghost use Rattle.a32_step.specs.Machine.{between, IsCalling};
+ghost use Rattle.a32_step.specs.Phase.{Calling};
+ghost use Rattle.guest_thread.specs.Pieces.{CountFew, IsPiece, counts_by};
+
+use crate::counts::Counts;
+use crate::ends::GuestEnd;
+use crate::guests::Guest;
+use crate::ports::Rest;
+use crate::running::Finished;
+use crate::sharing::Sharing;
+use a32_step::{Code, Cpu, Stop};
+use guest_calls::Output;
+use shared_memory::SharedMemory;
+use std::sync::Wait;
+
+/// A thread that may go on: its core, its pass of the memory, and what it has done so far.
+#[derive(Drop)]
+pub struct Part<P> {
+    /// Its core, between two instructions, or awaiting the answer to a call.
+    pub cpu: Cpu,
+    /// Its pass, which holds its number alone.
+    pub pass: P,
+    /// What it wrote.
+    pub out: Output,
+    /// Its completed instructions.
+    pub steps: u64,
+    /// How many loads and load-exclusives it made.
+    pub reads: u64,
+    /// How many stores it made, and store-exclusives that stored.
+    pub writes: u64,
+    /// How many store-exclusives it made that failed.
+    pub fails: u64,
+}
+
+impl<P> Part<P> {
+    /// A thread that has made no step and no access.
+    pub fn new(cpu: Cpu, pass: P, out: Output) -> Part<P>
+        ensures { result ≡ record { cpu = cpu; pass = pass; out = out; steps = 0; reads = 0; writes = 0; fails = 0 } }
+    {
+        Part {
+            cpu,
+            pass,
+            out,
+            steps: 0,
+            reads: 0,
+            writes: 0,
+            fails: 0,
+        }
+    }
+
+    /// How many accesses of each kind it made.
+    fn counts(&self) -> Counts
+        ensures { result ≡ counts_by self.now }
+    {
+        Counts {
+            reads: self.reads,
+            writes: self.writes,
+            fails: self.fails,
+        }
+    }
+}
+
+/// Where a piece of a thread's run comes to.
+pub enum Paused<P> {
+    /// The thread has ended.
+    Ended(Finished<P>),
+    /// It calls for a thread to be started, at an address and with an argument. Whoever has started one, or hasn't, answers the
+    /// call by the core's `answer`, and adds one to the steps.
+    Start { part: Part<P>, entry: u32, arg: u32 },
+    /// It has made all steps that it was to make, and may go on.
+    Pause(Part<P>),
+}
+
+/// Goes on with a thread that may act on a memory that threads share, until it has made `upto` steps in all or has ended; and where
+/// `starts` holds, until it calls for a thread to be started: by SVC #0 with 0xF0001 in r7, an address in r0 and an argument in r1.
+/// The pass holds its number alone, its core is between two instructions, and memory has as many bytes as the code's image. The
+/// steps so far are at most `upto`, which is at most the budget, and that is at most 1,000,000,000,000. The accesses so far are at most
+/// 17 for each step and one for each byte written, as they are at first and in each part that is given back. No memory is taken from
+/// the allocator.
+///
+/// The thread has ended where an instruction stops it, by its exit call, at a store for which memory has no write left, or with as
+/// many steps as the budget. With `upto` steps, where that is less, it pauses. Where `starts` doesn't hold, a call that would start a
+/// thread is answered as one that doesn't exist.
+pub fn go_on<M: SharedMemory, R: Wait>(
+    rt: &R,
+    mem: &M,
+    code: &mut Code,
+    part: Part<M::Pass>,
+    upto: u64,
+    budget: u64,
+    starts: bool,
+) -> Paused<M::Pass>
+    requires memory { M.home part.pass ≡ M.id mem.now }
+    requires single { (t : ℕ) × IsSingle t (M.numbers part.pass) × (MayAct (M.origin mem.now).first t (M.seen part.pass)) }
+    requires whole { length code.old.program.bytes ≡ (M.origin mem.now).size.mem }
+    requires between { part.cpu ≡ between part.cpu.state }
+    requires few { CountFew (counts_by part) part.steps part.out }
+    requires upto { (part.steps ≤ upto) × (upto ≤ budget) }
+    requires budget { budget ≤ most_budget }
+    ensures program { code.new.program ≡ code.old.program }
+    ensures piece { (t : ℕ) → IsSingle t (M.numbers part.pass) → IsPiece M.home M.numbers M.seen (M.id mem.now) (M.origin mem.now) code.old.program starts upto budget t part result }
+{
+    let most = mem.size().mem();
+    prove!(most <= 16_777_216);
+    let left = part.out.room_left();
+    prove!(left <= 65_536);
+    let thread = mem.thread(&part.pass);
+    let counts = part.counts();
+    let Part {
+        cpu,
+        pass,
+        out,
+        steps,
+        reads: _,
+        writes: _,
+        fails: _,
+    } = part;
+    let mut sharing = Sharing::with(rt, mem, pass, thread, counts);
+    let mut guest = Guest::at(cpu, out, steps);
+    let rest = guest.run_on(code, upto, &mut sharing, starts);
+    let counts = sharing.counts();
+    let pass = sharing.into_pass();
+    match rest {
+        Rest::Starts => called(part_of(guest, pass, counts)),
+        Rest::Spent => {
+            if upto < budget {
+                return Paused::Pause(part_of(guest, pass, counts));
+            }
+            Paused::Ended(ended(thread, Stop::Budget, guest, pass, counts))
+        }
+        Rest::Stopped(stop) => Paused::Ended(ended(thread, stop, guest, pass, counts)),
+    }
+}
+
+/// A thread as it may go on.
+fn part_of<P>(guest: Guest, pass: P, counts: Counts) -> Part<P>
+    ensures { result ≡ record { cpu = guest.cpu; pass = pass; out = guest.output; steps = guest.steps; reads = counts.reads; writes = counts.writes; fails = counts.fails } }
+{
+    let (cpu, out, steps) = guest.into_parts();
+    Part {
+        cpu,
+        pass,
+        out,
+        steps,
+        reads: counts.reads,
+        writes: counts.writes,
+        fails: counts.fails,
+    }
+}
+
+/// A thread that has ended.
+fn ended<P>(thread: u32, stop: Stop, guest: Guest, pass: P, counts: Counts) -> Finished<P>
+    ensures pass { result.pass ≡ pass }
+    ensures end { result.end ≡ record { thread = thread; stop = stop; steps = guest.steps; reads = counts.reads; writes = counts.writes; fails = counts.fails; out = guest.output } }
+{
+    Finished {
+        pass,
+        end: GuestEnd {
+            thread,
+            stop,
+            steps: guest.steps(),
+            reads: counts.reads,
+            writes: counts.writes,
+            fails: counts.fails,
+            out: guest.into_output(),
+        },
+    }
+}
+
+/// A thread that calls for another to be started: at the address in r0, with the argument in r1.
+fn called<P>(part: Part<P>) -> Paused<P>
+    requires { IsCalling part.cpu.phase }
+    ensures { (call : CallAsk) × (part.cpu.phase ≡ Calling call) × (result ≡ Paused.Start part call.a call.b) }
+{
+    let call = part.cpu.asked_call();
+    Paused::Start {
+        part,
+        entry: call.a,
+        arg: call.b,
+    }
+}
