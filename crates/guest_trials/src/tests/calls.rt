@@ -1,4 +1,5 @@
 //! One call at a time, at the edges of each rule.
+use super::same;
 use a32_step::{CallAsk, Cpu, Wanted};
 use guest_calls::{CallStep, Output, guest_call};
 use llsc_base::{Image, MachineSize};
@@ -93,15 +94,11 @@ fn wants_bytes(ask: CallAsk, written: u32, mem: u32, from: u32, len: u32) -> Cas
 }
 
 /// Makes the call of each case.
-fn make(rt: &impl Abort, alloc: Global, cases: &[Case]) -> Result<(), Fail> {
+fn make<R: Abort>(rt: &R, alloc: Global, cases: &[Case]) -> Result<(), Fail> {
     for case in cases {
-        let (ask, want) = (case.ask, (case.step, case.r0));
-        let (number, imm, a, b, c) = (ask.number, ask.imm, ask.a, ask.b, ask.c);
-        assert_eq!(rt;
-            made(alloc, ask, case.written, case.mem)?,
-            want,
-            "call {number} of SVC #{imm} with {a}, {b} and {c}"
-        );
+        let ask = case.ask;
+        let made = made(alloc, ask, case.written, case.mem)?;
+        same(rt, (ask, made), (ask, (case.step, case.r0)));
     }
     Ok(())
 }

@@ -2,6 +2,7 @@
 ghost use Rattle.std.specs.Prelude.{◌≡◌, IfSome};
 
 use super::programs::image_of;
+use super::same;
 use a32_step::{Ask, Code, Port, Stop};
 use guest_thread::Guest;
 use llsc_base::MachineSize;
@@ -46,8 +47,6 @@ fn ended(alloc: Global) -> Result<(Stop, u64), Fail> {
 
 #[test]
 fn ends_where_a_store_is_refused(rt: HostRuntime) -> Result<(), Fail> {
-    let (stop, steps) = ended(rt.alloc())?;
-    assert_eq!(rt; stop, Stop::TagLimit(1));
-    assert_eq!(rt; steps, 1);
+    same(&rt, ended(rt.alloc())?, (Stop::TagLimit(1), 1));
     Ok(())
 }

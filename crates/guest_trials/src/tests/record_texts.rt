@@ -1,4 +1,5 @@
 //! Records that are read and printed again.
+use super::same;
 use run_record::{RecordFault, print_record, read_record};
 use std::alloc::Global;
 use std::test::Fail;
@@ -52,6 +53,6 @@ fn records_are_printed_as_they_were_read(rt: HostRuntime) -> Result<(), Fail> {
             "{text}"
         );
     }
-    assert_eq!(rt; RecordFault::Thread(2).name(), "Thread");
+    same(&rt, RecordFault::Thread(2).name(), "Thread");
     Ok(())
 }

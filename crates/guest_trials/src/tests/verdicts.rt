@@ -3,6 +3,7 @@ ghost use Rattle.std.specs.Prelude.{◌≡◌, IfOk};
 ghost use Rattle.run_record.specs.Limits.{IsRecord};
 
 use super::programs::{ADDS, SHARES, WRITES, image_of};
+use super::same;
 use llsc_base::MachineSize;
 use run_checker::{Reason, Verdict, check_record};
 use run_record::{RunRecord, read_record};
@@ -148,7 +149,7 @@ const PROGRAMS: &[(&[u32], &[&str], Option<(u32, Reason)>)] = &[
 #[test]
 fn judges_changes(rt: HostRuntime) -> Result<(), Fail> {
     for (lines, bad) in CHANGES {
-        assert_eq!(rt; verdict(rt.alloc(), ADDS, lines)?, named(*bad));
+        same(&rt, verdict(rt.alloc(), ADDS, lines)?, named(*bad));
     }
     Ok(())
 }
@@ -156,12 +157,12 @@ fn judges_changes(rt: HostRuntime) -> Result<(), Fail> {
 #[test]
 fn judges_programs(rt: HostRuntime) -> Result<(), Fail> {
     for (words, lines, bad) in PROGRAMS {
-        assert_eq!(rt; verdict(rt.alloc(), words, lines)?, named(*bad));
+        same(&rt, verdict(rt.alloc(), words, lines)?, named(*bad));
     }
     Ok(())
 }
 
 #[test]
 fn names_reasons(rt: HostRuntime) {
-    assert_eq!(rt; Reason::NoReservation.name(), "NoReservation");
+    same(&rt, Reason::NoReservation.name(), "NoReservation");
 }

@@ -1,0 +1,12 @@
+pub mod AllNumbers
+pub mod Answered
+pub mod Combined
+pub mod Gathered
+pub mod GoingOn
+pub mod Later
+pub mod Left
+pub mod LettingGo
+pub mod Living
+pub mod Outcome
+pub mod Pushed
+pub mod Started

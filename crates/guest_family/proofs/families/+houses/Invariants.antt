@@ -1,0 +1,12 @@
+-- One house fewer each time.
+use Rattle.std.proofs.Common.{◌+◌, ◌*◌, vec_len}
+use Rattle.guest_family.proofs.families.+houses.Given as goal
+
+abbrev pub decreases-run_both-join+arg2 : goal.decreases-run_both-join+arg2
+decreases-run_both-join+arg2 g l = 3 * vec_len l.others + 1
+
+abbrev pub decreases-run_both : goal.decreases-run_both
+decreases-run_both g l = 3 * vec_len l.others + 2
+
+abbrev pub decreases-run_houses : goal.decreases-run_houses
+decreases-run_houses g l = 3 * vec_len l.others

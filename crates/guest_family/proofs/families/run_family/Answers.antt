@@ -1,0 +1,52 @@
+use Rattle.std.proofs.Common.{◌≡◌, ◌+◌, ◌*◌, ◌<◌, ◌^◌, ◌∷◌, All, ℕ, true, ap, arith, subst, sym, vec_len}
+use Rattle.a32_instr.specs.declared.outside.Stop.TheVariants.{TagLimit}
+use Rattle.guest_thread.specs.BegunOutcome.{AreBegunEnds}
+use Rattle.guest_thread.specs.Counting.{accesses_counted, counts_in}
+use Rattle.guest_thread.specs.declared.ends.GuestEnd.{GuestEnd}
+use Rattle.guest_family.specs.Kin.{heads_of}
+use Rattle.guest_family.proofs.AllNumbers.{all_numbers}
+use Rattle.guest_family.proofs.Outcome.{all_hold, are_begun}
+use Rattle.guest_family.proofs.families.run_family.Goals as goal
+
+pub returns-clause-ends : goal.returns-clause-ends
+returns-clause-ends g c =
+    let origin = g.M.SharedMemory.origin c.args.mem.now in
+    let history = g.M.SharedMemory.seen c.run_houses-pass.result.pass in
+    let lived = c.run_houses-pass.ensures.lived in
+    subst (AreBegunEnds c.args.image.now origin.size origin.first origin.spare c.args.budget history) (sym c.all_ends.ensures.items)
+    (are_begun c.args.image.now origin c.args.budget history (heads_of (c.args.kin.first ∷ c.args.kin.others.items)) c.run_houses-pass.result.ends.items c.run_houses-pass.result.children.items
+    c.requires.kin.threads lived.heads lived.children)
+
+pub returns-clause-spends : goal.returns-clause-spends
+returns-clause-spends g c =
+    let origin = g.M.SharedMemory.origin c.args.mem.now in
+    let lived = c.run_houses-pass.ensures.lived in
+    subst (All (λ (end : GuestEnd). (addr : ℕ) → end.stop ≡ TagLimit addr → origin.spends ≡ true)) (sym c.all_ends.ensures.items)
+    (all_hold c.args.image.now origin c.args.budget (g.M.SharedMemory.seen c.run_houses-pass.result.pass) (λ (end : GuestEnd). (addr : ℕ) → end.stop ≡ TagLimit addr → origin.spends ≡ true)
+    (heads_of (c.args.kin.first ∷ c.args.kin.others.items)) c.run_houses-pass.result.ends.items c.run_houses-pass.result.children.items (λ t start end is. is.spends) lived.heads lived.children)
+
+pub returns-clause-few : goal.returns-clause-few
+returns-clause-few g c =
+    let origin = g.M.SharedMemory.origin c.args.mem.now in
+    let lived = c.run_houses-pass.ensures.lived in
+    subst (All (λ (end : GuestEnd). accesses_counted (counts_in end) < 2 ^ 45)) (sym c.all_ends.ensures.items)
+    (all_hold c.args.image.now origin c.args.budget (g.M.SharedMemory.seen c.run_houses-pass.result.pass) (λ (end : GuestEnd). accesses_counted (counts_in end) < 2 ^ 45)
+    (heads_of (c.args.kin.first ∷ c.args.kin.others.items)) c.run_houses-pass.result.ends.items c.run_houses-pass.result.children.items (λ t start end is. is.few) lived.heads lived.children)
+
+pub returns-clause-many : goal.returns-clause-many
+returns-clause-many g c =
+    let origin = g.M.SharedMemory.origin c.args.mem.now in
+    let heads = c.run_houses-pass.ensures.ends_len in
+    let children = c.run_houses-pass.ensures.children_len in
+    let many = c.requires.kin.many in
+    let times : (vec_len c.args.kin.others + 1) * origin.spare ≡ origin.first * origin.spare = ap (λ (n : ℕ). n * origin.spare) many in
+    let all = c.requires.kin.first.all in
+    let len = c.all_ends.ensures.len in
+    omega (arith, heads, children, many, times, all, len)
+
+pub returns-clause-numbers : goal.returns-clause-numbers
+returns-clause-numbers g c u below =
+    let origin = g.M.SharedMemory.origin c.args.mem.now in
+    let lived = c.run_houses-pass.ensures.lived in
+    all_numbers (g.M.SharedMemory.numbers c.run_houses-pass.result.pass) origin.first origin.spare origin.size.threads u (heads_of (c.args.kin.first ∷ c.args.kin.others.items)) c.requires.kin.threads
+    lived.own lived.taken c.requires.kin.first.all below
