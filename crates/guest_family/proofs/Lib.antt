@@ -10,3 +10,5 @@ pub mod Living
 pub mod Outcome
 pub mod Pushed
 pub mod Started
+pub mod OneRun
+pub mod OneFamily

@@ -4,6 +4,7 @@
 mod families;
 mod houses;
 mod kin;
+pub mod laws;
 mod running;
 
 pub use families::run_family;
