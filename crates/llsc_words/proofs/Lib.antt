@@ -1,3 +1,4 @@
 pub mod Stated
 pub mod Found
 pub mod OnLiterals
+pub mod Counted

@@ -48,9 +48,11 @@ asm_app = program_app (codes "asm")
 unfoldable pub dis_app : App
 dis_app = with_rule (program_app (codes "dis")) (option_rule (codes "mem"))
 
--- `run` has FILE, `--flat`, `--threads`, `--mem`, `--granule`, `--classes`, `--limit` and `--budget`
+-- `run` has FILE, `--flat`, `--threads`, `--mem`, `--granule`, `--classes`, `--limit`, `--budget` and `--spare`
 unfoldable pub run_app : App
-run_app = with_rule (with_rule (with_rule (machine_app (codes "run")) (option_rule (codes "classes"))) (option_rule (codes "limit"))) (option_rule (codes "budget"))
+run_app =
+    with_rule (with_rule (with_rule (with_rule (machine_app (codes "run")) (option_rule (codes "classes"))) (option_rule (codes "limit")))
+    (option_rule (codes "budget"))) (option_rule (codes "spare"))
 
 -- `trace` has FILE, `--flat`, `--threads`, `--mem`, `--granule`, `--seed` and `--budget`
 unfoldable pub trace_app : App

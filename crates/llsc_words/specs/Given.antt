@@ -12,6 +12,7 @@ pub record Given : Type 0 where
   pub number : Option Text
   pub flat : Bool
   pub threads : Option Text
+  pub spare : Option Text
   pub mem : Option Text
   pub granule : Option Text
   pub classes : Option Text
@@ -32,6 +33,7 @@ given_by rows = record {
   number = first_of (codes "SEED") rows;
   flat = is_true (first_of (codes "flat") rows);
   threads = first_of (codes "threads") rows;
+  spare = first_of (codes "spare") rows;
   mem = first_of (codes "mem") rows;
   granule = first_of (codes "granule") rows;
   classes = first_of (codes "classes") rows;
@@ -58,6 +60,7 @@ seen read = record {
   number = option_map (λ text. text.now) read.number;
   flat = read.flat;
   threads = option_map (λ text. text.now) read.threads;
+  spare = option_map (λ text. text.now) read.spare;
   mem = option_map (λ text. text.now) read.mem;
   granule = option_map (λ text. text.now) read.granule;
   classes = option_map (λ text. text.now) read.classes;

@@ -1,5 +1,5 @@
 -- What the words of a call ask for.
-use Rattle.std.specs.Prelude.{ℕ, ◌≤◌, ◌^◌, Bool, ◌&&◌, nat_le, List, [], ◌∷◌, Option, Some, None, if◌then◌else◌}
+use Rattle.std.specs.Prelude.{ℕ, ◌+◌, ◌*◌, ◌≤◌, ◌^◌, nat_lt, Bool, ◌&&◌, nat_le, List, [], ◌∷◌, Option, Some, None, if◌then◌else◌}
 use Rattle.std.specs.Option.{option_and_then}
 use Rattle.llsc_base.specs.Sizes.{Numbers, numbers}
 use Rattle.llsc_base.specs.Limits.{most_budget}
@@ -9,20 +9,22 @@ use Rattle.llsc_words.specs.declared.formats.Format.TheVariants.{Elf, Flat}
 use Rattle.llsc_words.specs.declared.requests.Request.{Request as Call}
 use Rattle.llsc_words.specs.declared.requests.Request.TheVariants as call
 use Rattle.llsc_words.specs.declared.requests.MachineNumbers.{MachineNumbers}
+use Rattle.llsc_words.specs.declared.requests.RunNumbers.{RunNumbers}
 use Rattle.llsc_words.specs.declared.names.CommandName.{CommandName}
 use Rattle.llsc_words.specs.declared.names.CommandName.TheVariants as name
 use Rattle.llsc_words.specs.Commands.{app_by}
 use Rattle.llsc_words.specs.Given.{Given, given_in}
 use Rattle.llsc_words.specs.Names.{command_named}
 
--- what a call asks for: to run the file of that name, of that format, as one thread, with so many bytes of memory and so
--- many steps; to run it as all threads of a machine, beside each other; to assemble the text of that name as a file of that
--- format; to show a file as text, in so many bytes of memory; to run a file as so many guest threads on one host thread, with
--- rows of a granule and in the order that a seed fixes, and to record that; to check such a record, the second file, against a
--- program; or to run the counter guest of a seed, as so many threads of so many rounds each, with so many steps for each
+-- what a call asks for: to run the file of that name, of that format, as one thread, with so many bytes of memory and so many
+-- steps; to run it as so many threads of a machine beside each other, each of which may start so many more; to assemble the
+-- text of that name as a file of that format; to show a file as text, in so many bytes of memory; to run a file as so many
+-- guest threads on one host thread, with rows of a granule and in the order that a seed fixes, and to record that; to check
+-- such a record, the second file, against a program; or to run the counter guest of a seed, as so many threads of so many
+-- rounds each, with so many steps for each
 pub data Request : Type 0 where
   Solo : (file : List ℕ) (format : Format) (mem budget : ℕ) → Request
-  Run : (file : List ℕ) (format : Format) (size : Numbers) (budget : ℕ) → Request
+  Run : (file : List ℕ) (format : Format) (first spare : ℕ) (size : Numbers) (budget : ℕ) → Request
   Assemble : (file : List ℕ) (format : Format) → Request
   Disassemble : (file : List ℕ) (format : Format) (mem : ℕ) → Request
   Trace : (file : List ℕ) (format : Format) (threads mem granule seed budget : ℕ) → Request
@@ -32,7 +34,7 @@ pub data Request : Type 0 where
 -- the names of a request's files, in the order in which they are read
 abbrev pub files_of : Request → List (List ℕ)
 files_of (Solo file format mem budget) = file ∷ []
-files_of (Run file format size budget) = file ∷ []
+files_of (Run file format first spare size budget) = file ∷ []
 files_of (Assemble file format) = file ∷ []
 files_of (Disassemble file format mem) = file ∷ []
 files_of (Trace file format threads mem granule seed budget) = file ∷ []
@@ -47,9 +49,12 @@ default_mem = 1048576
 abbrev pub default_budget : ℕ
 default_budget = 100000000
 
--- the threads, the granule, the classes and the writes of a class where none are given for a run
+-- the threads, how many each may start, the granule, the classes and the writes of a class where none are given for a run
 abbrev pub run_threads : ℕ
 run_threads = 2
+
+abbrev pub run_spare : ℕ
+run_spare = 0
 
 abbrev pub run_granule : ℕ
 run_granule = 0
@@ -114,14 +119,23 @@ solo_by _ _ _ _ = None
 abbrev pub solo_for : Given → Option Request
 solo_for given = solo_by given.file (format_of given) (number_or default_mem given.mem) (budget_or default_budget given.budget)
 
-abbrev pub run_by : Option (List ℕ) → Format → (threads mem granule classes limit budget : Option ℕ) → Option Request
-run_by (Some file) format (Some threads) (Some mem) (Some granule) (Some classes) (Some limit) (Some budget) =
-    Some (Run file format (record (numbers mem threads classes limit) { granule = granule }) budget)
-run_by _ _ _ _ _ _ _ _ = None
+-- the most threads of a machine
+abbrev pub most_threads : ℕ
+most_threads = 16
+
+-- how many threads a machine has of which so many begin by themselves, and each may start so many more; where one of these numbers
+-- is itself above those that a machine may have, it is that number, which is out of range as well
+abbrev pub all_threads : (first spare : ℕ) → ℕ
+all_threads first spare = if nat_lt most_threads first then first else if nat_lt most_threads spare then spare else first * (1 + spare)
+
+abbrev pub run_by : Option (List ℕ) → Format → (threads spare mem granule classes limit budget : Option ℕ) → Option Request
+run_by (Some file) format (Some threads) (Some spare) (Some mem) (Some granule) (Some classes) (Some limit) (Some budget) =
+    Some (Run file format threads spare (record (numbers mem (all_threads threads spare) classes limit) { granule = granule }) budget)
+run_by _ _ _ _ _ _ _ _ _ = None
 
 abbrev pub run_for : Given → Option Request
 run_for given =
-    run_by given.file (format_of given) (number_or run_threads given.threads) (number_or default_mem given.mem)
+    run_by given.file (format_of given) (number_or run_threads given.threads) (number_or run_spare given.spare) (number_or default_mem given.mem)
     (number_or run_granule given.granule) (number_or run_classes given.classes) (number_or run_limit given.limit)
     (budget_or default_budget given.budget)
 
@@ -187,10 +201,14 @@ request_of (word ∷ words) = option_and_then (λ command. request_in command wo
 abbrev pub machine_by : MachineNumbers → Numbers
 machine_by n = record (numbers n.mem n.threads n.classes n.limit) { granule = n.granule }
 
+-- the machine of a run, with all threads that it may have
+abbrev pub size_of_run : RunNumbers → Numbers
+size_of_run n = record (machine_by n.machine) { threads = all_threads n.machine.threads n.spare }
+
 -- what borrows from the words, as what it is
 abbrev pub asked : Call → Request
 asked (call.Solo file format mem budget) = Solo file.now format mem budget
-asked (call.Run file format n) = Run file.now format (machine_by n.machine) n.budget
+asked (call.Run file format n) = Run file.now format n.machine.threads n.spare (size_of_run n) n.budget
 asked (call.Assemble file format) = Assemble file.now format
 asked (call.Disassemble file format mem) = Disassemble file.now format mem
 asked (call.Trace file format numbers) = Trace file.now format numbers.threads numbers.mem numbers.granule numbers.seed numbers.budget

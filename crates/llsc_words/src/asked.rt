@@ -6,7 +6,7 @@ ghost use Rattle.llsc_words.specs.Request.{asked, assemble_for, check_for, disas
 
 use crate::defaults::{
     DEFAULT_BUDGET, DEFAULT_MEM, LOAD_ROUNDS, LOAD_THREADS, RUN_CLASSES, RUN_GRANULE, RUN_LIMIT,
-    RUN_THREADS, TRACE_BUDGET, TRACE_GRANULE, TRACE_SEED, TRACE_THREADS,
+    RUN_SPARE, RUN_THREADS, TRACE_BUDGET, TRACE_GRANULE, TRACE_SEED, TRACE_THREADS,
 };
 use crate::formats::Format;
 use crate::given::Given;
@@ -55,6 +55,7 @@ fn run<'a>(given: &Given<'a>) -> Option<Request<'a>>
                 classes: number_or(RUN_CLASSES, given.classes)?,
                 limit: number_or(RUN_LIMIT, given.limit)?,
             },
+            spare: number_or(RUN_SPARE, given.spare)?,
             budget: budget_or(DEFAULT_BUDGET, given.budget)?,
         },
     })

@@ -93,7 +93,8 @@ fn dis<'a>(alloc: Global) -> Result<Command<'a>, AllocError>
 fn run<'a>(alloc: Global) -> Result<Command<'a>, AllocError>
     ensures { IfOk result (λ command. app_of command ≡ run_app) }
 {
-    with_three_options(alloc, machine(alloc, "run")?, "classes", "limit", "budget")
+    let command = with_three_options(alloc, machine(alloc, "run")?, "classes", "limit", "budget")?;
+    with_option(alloc, command, "spare")
 }
 
 /// `trace`: records a run of all threads.

@@ -9,6 +9,9 @@ pub const DEFAULT_BUDGET: u64 = 100_000_000;
 /// The threads of a run.
 pub const RUN_THREADS: u64 = 2;
 
+/// How many threads each thread of a run may start.
+pub const RUN_SPARE: u64 = 0;
+
 /// The number of the granule of a run.
 pub const RUN_GRANULE: u64 = 0;
 

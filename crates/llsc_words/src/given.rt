@@ -20,8 +20,10 @@ pub struct Given<'a> {
     pub number: Option<&'a str>,
     /// `--flat`: the file is a flat image.
     pub flat: bool,
-    /// `--threads`: the guest threads.
+    /// `--threads`: the guest threads that begin by themselves.
     pub threads: Option<&'a str>,
+    /// `--spare`: how many threads each of these may start.
+    pub spare: Option<&'a str>,
     /// `--mem`: the bytes of memory.
     pub mem: Option<&'a str>,
     /// `--granule`: the number of the granule, by which rows have their width.
@@ -66,6 +68,7 @@ fn read<'a>(matches: &ArgMatches<'a>) -> Given<'a>
         number: value(matches, "SEED"),
         flat: has_flag(matches, "flat"),
         threads: value(matches, "threads"),
+        spare: value(matches, "spare"),
         mem: value(matches, "mem"),
         granule: value(matches, "granule"),
         classes: value(matches, "classes"),

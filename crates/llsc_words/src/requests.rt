@@ -1,5 +1,11 @@
 //! What a call may ask for.
+ghost use Rattle.std.specs.Prelude.{◌≡◌};
+ghost use Rattle.llsc_words.specs.Request.{all_threads, machine_by, size_of_run};
+
 use crate::formats::Format;
+
+/// The most threads of a machine.
+const MOST_THREADS: u64 = 16;
 
 /// The numbers that make a machine.
 #[derive(Clone, Copy)]
@@ -19,10 +25,38 @@ pub struct MachineNumbers {
 /// The numbers of a run.
 #[derive(Clone, Copy)]
 pub struct RunNumbers {
-    /// The machine.
+    /// The machine, with the threads that begin by themselves.
     pub machine: MachineNumbers,
+    /// How many threads each of these may start.
+    pub spare: u64,
     /// The most steps of a thread.
     pub budget: u64,
+}
+
+/// How many threads a machine has of which `first` begin by themselves, and each may start `spare` more. Where one of these is
+/// itself above the 16 that a machine may have, the answer is that number, so that nothing wraps.
+fn all_threads(first: u64, spare: u64) -> u64
+    ensures { result ≡ all_threads first spare }
+{
+    if first > MOST_THREADS {
+        return first;
+    }
+    if spare > MOST_THREADS {
+        return spare;
+    }
+    first * (1 + spare)
+}
+
+impl RunNumbers {
+    /// The machine, with all threads that it may have.
+    pub fn whole_machine(&self) -> MachineNumbers
+        ensures { machine_by result ≡ size_of_run self.now }
+    {
+        MachineNumbers {
+            threads: all_threads(self.machine.threads, self.spare),
+            ..self.machine
+        }
+    }
 }
 
 /// The numbers of a trace.
@@ -64,7 +98,8 @@ pub enum Request<'a> {
         mem: u64,
         budget: u64,
     },
-    /// To run the file of that name, of that format, as several threads beside each other, by these numbers.
+    /// To run the file of that name, of that format, as several threads beside each other, which may start more, by these
+    /// numbers.
     Run {
         file: &'a str,
         format: Format,

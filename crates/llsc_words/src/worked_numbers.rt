@@ -65,14 +65,18 @@ pub fn memories()
     ensures above { fault_in (codes "run p --mem 16781312") ≡ Some (Some SizeFault.Mem) }
 {}
 
-/// There are 1 to 16 threads; classes are a power of two, from 1 to 4096; a class takes 1 to 4,611,686,018,427,387,904 writes; a
-/// granule's number is 0 to 8.
+/// There are 1 to 16 threads, those counted that others may start; classes are a power of two, from 1 to 4096; a class takes 1
+/// to 4,611,686,018,427,387,904 writes; a granule's number is 0 to 8.
 #[tactic(auto, unfolding(crate::proofs::OnLiterals::words_on_literals))]
 pub fn machines()
     ensures no_thread { fault_in (codes "run p --threads 0") ≡ Some (Some SizeFault.Threads) }
     ensures one_thread { fault_in (codes "run p --threads 1") ≡ Some None }
     ensures most_threads { fault_in (codes "run p --threads 16") ≡ Some None }
     ensures too_many_threads { fault_in (codes "run p --threads 17") ≡ Some (Some SizeFault.Threads) }
+    ensures all_spare { fault_in (codes "run p --threads 4 --spare 3") ≡ Some None }
+    ensures one_too_many { fault_in (codes "run p --threads 4 --spare 4") ≡ Some (Some SizeFault.Threads) }
+    ensures none_to_start { fault_in (codes "run p --threads 0 --spare 18446744073709551615") ≡ Some (Some SizeFault.Threads) }
+    ensures product_past_64_bits { fault_in (codes "run p --threads 2 --spare 9223372036854775807") ≡ Some (Some SizeFault.Threads) }
     ensures no_class { fault_in (codes "run p --classes 0") ≡ Some (Some SizeFault.Classes) }
     ensures one_class { fault_in (codes "run p --classes 1") ≡ Some None }
     ensures no_power_of_two { fault_in (codes "run p --classes 4095") ≡ Some (Some SizeFault.Classes) }

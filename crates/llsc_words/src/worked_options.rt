@@ -7,7 +7,7 @@ ghost use Rattle.llsc_words.specs.Worked.{bare, joined_to, shortened, taken, tak
 pub fn options_with_a_value()
     ensures solo { taken (with_value (codes "1")) (codes "solo p") ≡ codes "mem" ∷ codes "budget" ∷ [] }
     ensures run { taken (with_value (codes "1")) (codes "run p")
-        ≡ codes "threads" ∷ codes "mem" ∷ codes "granule" ∷ codes "classes" ∷ codes "limit" ∷ codes "budget" ∷ [] }
+        ≡ codes "threads" ∷ codes "spare" ∷ codes "mem" ∷ codes "granule" ∷ codes "classes" ∷ codes "limit" ∷ codes "budget" ∷ [] }
     ensures assemble { taken (with_value (codes "1")) (codes "asm p") ≡ [] }
     ensures disassemble { taken (with_value (codes "1")) (codes "dis p") ≡ codes "mem" ∷ [] }
     ensures trace { taken (with_value (codes "1")) (codes "trace p")
@@ -21,7 +21,7 @@ pub fn options_with_a_value()
 pub fn options_with_a_value_joined_to_them()
     ensures solo { taken (joined_to (codes "1")) (codes "solo p") ≡ codes "mem" ∷ codes "budget" ∷ [] }
     ensures run { taken (joined_to (codes "1")) (codes "run p")
-        ≡ codes "threads" ∷ codes "mem" ∷ codes "granule" ∷ codes "classes" ∷ codes "limit" ∷ codes "budget" ∷ [] }
+        ≡ codes "threads" ∷ codes "spare" ∷ codes "mem" ∷ codes "granule" ∷ codes "classes" ∷ codes "limit" ∷ codes "budget" ∷ [] }
     ensures assemble { taken (joined_to (codes "1")) (codes "asm p") ≡ [] }
     ensures disassemble { taken (joined_to (codes "1")) (codes "dis p") ≡ codes "mem" ∷ [] }
     ensures trace { taken (joined_to (codes "1")) (codes "trace p")
