@@ -1,5 +1,6 @@
 -- What threads have done that ran beside each other.
-use Rattle.std.proofs.Common.{◌≡◌, ℕ, ◌*◌, ◌<◌, ◌≤◌, ◌^◌, All, List, length, slice_index, arith, sym, subst}
+use Rattle.std.proofs.Common.{◌≡◌, ℕ, ◌*◌, ◌<◌, ◌≤◌, ◌^◌, All, List, length, slice_index, arith, sym, subst, ◌+◌, ◌∙◌}
+use Rattle.std.proofs.Math.Nat.{mul-one}
 use Rattle.std.specs.List.{sum_by}
 use Rattle.std.proofs.lemmas.List.Elements.{All-weaker}
 use Rattle.std.proofs.lemmas.List.Sums.{sum_by-le}
@@ -11,10 +12,12 @@ use Rattle.history.specs.Monitor.{at_rest_by, monitor_after}
 use Rattle.history.specs.Parts.{accesses_of}
 use Rattle.history.specs.Started.{AreBorn}
 use Rattle.history.specs.declared.entry.Entry.{Entry}
+use Rattle.guest_thread.specs.BegunOutcome.{AreBegunEnds, IsOutcomeFrom}
 use Rattle.guest_thread.specs.Counting.{accesses_counted, counts_in}
 use Rattle.guest_thread.specs.Outcome.{AreEndsOn, IsOutcome}
 use Rattle.guest_thread.specs.declared.ends.GuestEnd.{GuestEnd}
-use Rattle.llsc_call.specs.Beside.{AreCells, Ran, left_by}
+use Rattle.guest_thread.proofs.Unstarted.{outcome_from}
+use Rattle.llsc_call.specs.Beside.{AreCells, Ran, RanFrom, left_by}
 use Rattle.llsc_call.specs.Versions.{KeepsVersions}
 use Rattle.llsc_report.specs.Report.{HasSums}
 
@@ -54,3 +57,29 @@ ran program size budget first spare bytes history seen ends cells same begins al
   sums = sums;
   left = cells_are;
 }
+
+-- and of one on which threads start others
+pub ran_from : (program : Program) (size : Numbers) (budget first spare : ℕ) (bytes : List ℕ) (history seen : List Entry) (ends : List GuestEnd) (cells : List ℕ)
+    → history ≡ seen → bytes ≡ program.bytes → IsLegal size bytes seen → IsComplete seen → AreBorn first spare seen → AreBegunEnds program size first spare budget seen ends
+    → KeepsVersions size seen → HasSums ends → AreCells size (left_by program size history) cells
+    → RanFrom program size first spare budget history ends cells
+ran_from program size budget first spare bytes history seen ends cells same begins legal complete born are versions sums cells_are = record {
+  outcome = subst (λ h. IsOutcomeFrom program size first spare budget h ends) (sym same)
+      (record { legal = subst (λ b. IsLegal size b seen) begins legal; complete = complete; born = born; ends = are });
+  versions = subst (λ h. KeepsVersions size h) (sym same) versions;
+  sums = sums;
+  left = cells_are;
+}
+
+-- where none may be started, all threads began by themselves
+pub unstarted : (program : Program) (size : Numbers) (budget first spare : ℕ) (history : List Entry) (ends : List GuestEnd) (cells : List ℕ)
+    → spare ≡ 0 → first * (1 + spare) ≡ size.threads → Ran program size budget history ends cells → RanFrom program size first spare budget history ends cells
+unstarted program size budget first spare history ends cells none all ran =
+    let threads : size.threads ≡ first = sym all ∙ (rw none (mul-one first)) in
+    record {
+      outcome = subst (λ n. IsOutcomeFrom program size first n budget history ends) (sym none)
+          (subst (λ n. IsOutcomeFrom program size n 0 budget history ends) threads (outcome_from program size budget history ends ran.outcome));
+      versions = ran.versions;
+      sums = ran.sums;
+      left = ran.left;
+    }

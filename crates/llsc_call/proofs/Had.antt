@@ -42,7 +42,7 @@ are_held (Some file) = refl
 -- what stands against a request by its first file
 abbrev stands : Request → List ℕ → Option (List ℕ)
 stands (Solo name format mem budget) file = program_refusal format (solo_size mem) file
-stands (Run name format size budget) file = program_refusal format size file
+stands (Run name format first spare size budget) file = program_refusal format size file
 stands (Assemble name format) file = text_refusal file
 stands (Disassemble name format mem) file = program_refusal format (solo_size mem) file
 stands (Trace name format threads mem granule seed budget) file = program_refusal format (machine_of threads mem granule) file
@@ -66,8 +66,8 @@ refused_first : (held : List ℕ → Option (List ℕ)) (asked : Request) (file 
     → (files : List (List ℕ)) × (AreFiles held (files_of asked) files × Answers asked files None 4 (refusal_text against))
 refused_first held (Solo name format mem budget) file against may is =
     (file ∷ [], ((may, tt), (refl, unless_refused (IsReported (image_of format file (solo_size mem)) (solo_size mem) budget) (program_refusal format (solo_size mem) file) against is)))
-refused_first held (Run name format size budget) file against may is =
-    (file ∷ [], ((may, tt), run_is_refused (program_refusal format size file) (ReportsRun None (image_of format file size) size budget) against is))
+refused_first held (Run name format first spare size budget) file against may is =
+    (file ∷ [], ((may, tt), run_is_refused (program_refusal format size file) (ReportsRun None (image_of format file size) size first spare budget) against is))
 refused_first held (Assemble name format) file against may is =
     (file ∷ [], ((may, tt), (refl, is_refused (text_refusal file) (text_answer format (unit_of file)) against is)))
 refused_first held (Disassemble name format mem) file against may is =
@@ -94,9 +94,9 @@ pub refused_barred : (held : List ℕ → Option (List ℕ)) (asked : Request) (
 refused_barred held (Solo name format mem budget) against is =
     let file = held_bytes (held name) in
     refused_first held (Solo name format mem budget) file against (are_held (held name)) (unsized format (solo_size mem) file against is)
-refused_barred held (Run name format size budget) against is =
+refused_barred held (Run name format first spare size budget) against is =
     let file = held_bytes (held name) in
-    refused_first held (Run name format size budget) file against (are_held (held name)) (unsized format size file against is)
+    refused_first held (Run name format first spare size budget) file against (are_held (held name)) (unsized format size file against is)
 refused_barred held (Disassemble name format mem) against is =
     let file = held_bytes (held name) in
     refused_first held (Disassemble name format mem) file against (are_held (held name)) (unsized format (solo_size mem) file against is)
@@ -150,8 +150,8 @@ first_unread host old new (Solo name format mem budget) f none read =
     let asked : Request = Solo name format mem budget in
     one_unread host old new asked name most_program f (refl, none)
     (λ may. refused_first (host.file old) asked may.0 (codes "FileTooLong") may.1.0 (long format (solo_size mem) may.0 none may.1.1)) read
-first_unread host old new (Run name format size budget) f none read =
-    let asked : Request = Run name format size budget in
+first_unread host old new (Run name format first spare size budget) f none read =
+    let asked : Request = Run name format first spare size budget in
     one_unread host old new asked name most_program f (refl, none)
     (λ may. refused_first (host.file old) asked may.0 (codes "FileTooLong") may.1.0 (long format size may.0 none may.1.1)) read
 first_unread host old new (Assemble name format) f none read =
@@ -186,7 +186,7 @@ record_long held name recorded format mem file may short too_long = (
 pub second_unread : {S : Type 0} (host : Ghosts S) (old mid new : S) (asked : Request) (file : Vec ℕ Global) (f : ReadFault)
     → ReadWanted host old mid (first_file asked) (Ok file) → ReadWanted host mid new (second_file asked) (Err f) → ReadFiles host old new asked (Err f)
 second_unread host old mid new (Solo name format mem budget) file f first second = absurd second
-second_unread host old mid new (Run name format size budget) file f first second = absurd second
+second_unread host old mid new (Run name format heads spare size budget) file f first second = absurd second
 second_unread host old mid new (Assemble name format) file f first second = absurd second
 second_unread host old mid new (Disassemble name format mem) file f first second = absurd second
 second_unread host old mid new (Trace name format threads mem granule seed budget) file f first second = absurd second
@@ -200,7 +200,7 @@ pub all_had : {S : Type 0} (host : Ghosts S) (old mid new : S) (asked : Request)
     → ReadWanted host old mid (first_file asked) (Ok files.first) → ReadWanted host mid new (second_file asked) (Ok files.second) → ReadFiles host old new asked (Ok files)
 all_had host old mid new (Solo name format mem budget) files first second =
     record { had = (reads_kept host old mid new first.had.0 second.0, ((first.had.1.1, tt), (first.had.1.0, tt))); writes = writes_kept host old mid new first.writes second.1 }
-all_had host old mid new (Run name format size budget) files first second =
+all_had host old mid new (Run name format heads spare size budget) files first second =
     record { had = (reads_kept host old mid new first.had.0 second.0, ((first.had.1.1, tt), (first.had.1.0, tt))); writes = writes_kept host old mid new first.writes second.1 }
 all_had host old mid new (Assemble name format) files first second =
     record { had = (reads_kept host old mid new first.had.0 second.0, ((first.had.1.1, tt), (first.had.1.0, tt))); writes = writes_kept host old mid new first.writes second.1 }

@@ -10,4 +10,5 @@ pub mod Had
 pub mod Said
 pub mod OneAnswer
 pub mod GoodTraces
+pub mod Exclusives
 pub mod TracesAlone

@@ -92,10 +92,11 @@ read_one format mem file (Ok run) =
     unless_one (IsJudged (image_of format file size) size run) (program_refusal format size file) (judged_one (image_of format file size) size run)
 
 -- a run, by its history
-run_one : (program : Program) (size : Numbers) (budget : ℕ) (story : Option (List Entry)) → AreOne (ReportsRun story program size budget)
-run_one program size budget None status other text more a b = absurd a
-run_one program size budget (Some history) status other text more a b =
-    let ends : a.0 ≡ b.0 = one_list_on program size budget history a.0 b.0 a.1.0.ends b.1.0.ends in
+run_one : (program : Program) (size : Numbers) (first spare budget : ℕ) (story : Option (List Entry)) → AreOne (ReportsRun story program size first spare budget)
+run_one program size first spare budget None status other text more a b = absurd a
+run_one program size first spare budget (Some history) status other text more a b =
+    -- Rattle.guest_family.proofs.OneFamily.one_outcome_from program size first spare budget history a.0 b.0 a.1.0 b.1.0
+    let ends : a.0 ≡ b.0 = ? in
     (a.1.1.1.0 ∙ ap status_of_all ends ∙ sym b.1.1.1.0, a.1.1.1.1 ∙ ap (report_of budget) ends ∙ sym b.1.1.1.1)
 
 -- a load, by its history
@@ -121,8 +122,8 @@ pub answers_one : (asked : Request) (files : List (List ℕ)) (story : Option (L
 answers_one (Solo name format mem budget) (file ∷ []) story =
     let size = solo_size mem in
     untold_one (unless_one (IsReported (image_of format file size) size budget) (program_refusal format size file) (report_one (image_of format file size) size budget))
-answers_one (Run name format size budget) (file ∷ []) story =
-    unless_run_one (program_refusal format size file) story (ReportsRun story (image_of format file size) size budget) (run_one (image_of format file size) size budget story)
+answers_one (Run name format first spare size budget) (file ∷ []) story =
+    unless_run_one (program_refusal format size file) story (ReportsRun story (image_of format file size) size first spare budget) (run_one (image_of format file size) size first spare budget story)
 answers_one (Assemble name format) (file ∷ []) story = untold_one (is_one (asm_answer format file))
 answers_one (Disassemble name format mem) (file ∷ []) story = untold_one (is_one (dis_answer format mem file))
 answers_one (Trace name format threads mem granule seed budget) (file ∷ []) story =
@@ -135,8 +136,8 @@ answers_one (Load seed threads rounds budget) [] story =
 answers_one (Load seed threads rounds budget) (first ∷ rest) story = λ status other text more a b. absurd a
 answers_one (Solo name format mem budget) [] story = λ status other text more a b. absurd a
 answers_one (Solo name format mem budget) (first ∷ second ∷ rest) story = λ status other text more a b. absurd a
-answers_one (Run name format size budget) [] story = λ status other text more a b. absurd a
-answers_one (Run name format size budget) (first ∷ second ∷ rest) story = λ status other text more a b. absurd a
+answers_one (Run name format first spare size budget) [] story = λ status other text more a b. absurd a
+answers_one (Run name format first spare size budget) (one ∷ two ∷ rest) story = λ status other text more a b. absurd a
 answers_one (Assemble name format) [] story = λ status other text more a b. absurd a
 answers_one (Assemble name format) (first ∷ second ∷ rest) story = λ status other text more a b. absurd a
 answers_one (Disassemble name format mem) [] story = λ status other text more a b. absurd a

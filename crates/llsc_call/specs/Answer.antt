@@ -35,7 +35,7 @@ AnswersSolo format mem budget file status text =
 -- files, in the order of their names
 abbrev pub Answers : Request → List (List ℕ) → Option (List Entry) → ℕ → List ℕ → Type 0
 Answers (Solo name format mem budget) (file ∷ []) story status text = (story ≡ None) × AnswersSolo format mem budget file status text
-Answers (Run name format size budget) (file ∷ []) story status text = AnswersRun format size budget file story status text
+Answers (Run name format first spare size budget) (file ∷ []) story status text = AnswersRun format first spare size budget file story status text
 Answers (Assemble name format) (file ∷ []) story status text = (story ≡ None) × AnswersAsm format file status text
 Answers (Disassemble name format mem) (file ∷ []) story status text = (story ≡ None) × AnswersDis format mem file status text
 Answers (Trace name format threads mem granule seed budget) (file ∷ []) story status text = (story ≡ None) × AnswersTrace format threads mem granule seed budget file status text
@@ -62,7 +62,7 @@ IsNoneOf names name = All (λ other. name ≢ other) names
 -- and for the second file that the first is too long.
 abbrev pub IsDue : (List ℕ → Option (List ℕ)) → Request → List ℕ → Type 0
 IsDue held (Solo file format mem budget) name = (name ≡ file) × (size_refusal (solo_size mem) ≡ None)
-IsDue held (Run file format size budget) name = (name ≡ file) × (size_refusal size ≡ None)
+IsDue held (Run file format first spare size budget) name = (name ≡ file) × (size_refusal size ≡ None)
 IsDue held (Assemble file format) name = name ≡ file
 IsDue held (Disassemble file format mem) name = (name ≡ file) × (size_refusal (solo_size mem) ≡ None)
 IsDue held (Trace file format threads mem granule seed budget) name = (name ≡ file) × (size_refusal (machine_of threads mem granule) ≡ None)

@@ -6,6 +6,7 @@ use Rattle.row_bytes.specs.Cell.{cell_at}
 use Rattle.history.specs.Monitor.{at_rest_by, monitor_after}
 use Rattle.history.specs.Parts.{accesses_of}
 use Rattle.history.specs.declared.entry.Entry.{Entry}
+use Rattle.guest_thread.specs.BegunOutcome.{IsOutcomeFrom}
 use Rattle.guest_thread.specs.Outcome.{IsOutcome}
 use Rattle.guest_thread.specs.declared.ends.GuestEnd.{GuestEnd}
 use Rattle.llsc_report.specs.Report.{HasSums}
@@ -23,6 +24,14 @@ pub record AreCells (size : Numbers) (memory cells : List ℕ) : Type 0 where
 -- the threads ended so by a history of memory that is kept by versions, and it left these cells
 pub record Ran (program : Program) (size : Numbers) (budget : ℕ) (history : List Entry) (ends : List GuestEnd) (cells : List ℕ) : Type 0 where
   pub outcome : IsOutcome program size budget history ends
+  pub versions : KeepsVersions size history
+  pub sums : HasSums ends
+  pub left : AreCells size (left_by program size history) cells
+
+-- so many threads began by themselves, each of which could start so many more; all that have begun ended so, by a history of memory
+-- that is kept by versions, and it left these cells
+pub record RanFrom (program : Program) (size : Numbers) (first spare budget : ℕ) (history : List Entry) (ends : List GuestEnd) (cells : List ℕ) : Type 0 where
+  pub outcome : IsOutcomeFrom program size first spare budget history ends
   pub versions : KeepsVersions size history
   pub sums : HasSums ends
   pub left : AreCells size (left_by program size history) cells

@@ -6,7 +6,7 @@ use Rattle.llsc_base.specs.Sizes.{Numbers}
 use Rattle.history.specs.declared.entry.Entry.{Entry}
 use Rattle.version_memory.specs.declared.passes.VersionStory.{VersionStory}
 use Rattle.version_memory.specs.Memory.{story_history}
-use Rattle.guest_thread.specs.Outcome.{IsOutcome}
+use Rattle.guest_thread.specs.BegunOutcome.{IsOutcomeFrom}
 use Rattle.guest_thread.specs.declared.ends.GuestEnd.{GuestEnd}
 use Rattle.llsc_words.specs.declared.formats.Format.{Format}
 use Rattle.llsc_files.specs.Programs.{image_of, program_refusal}
@@ -19,23 +19,25 @@ use Rattle.llsc_call.specs.Versions.{KeepsVersions}
 abbrev pub told : Option VersionStory → Option (List Entry)
 told story = option_map story_history story
 
--- the report of the threads' ends in a history, which is legal, complete, their own and of memory kept by versions, and the
--- status by their stops
-abbrev pub IsReportOf : List Entry → Program → Numbers → ℕ → ℕ → List ℕ → Type 0
-IsReportOf history program size budget status text =
-    (ends : List GuestEnd) × (IsOutcome program size budget history ends × (KeepsVersions size history
+-- the report of the ends of all threads that have begun in a history, which is legal, complete, their own and of memory kept by
+-- versions, and the status by their stops: so many threads begin by themselves, and each of these may start so many more
+abbrev pub IsReportOf : List Entry → Program → Numbers → (first spare budget : ℕ) → ℕ → List ℕ → Type 0
+IsReportOf history program size first spare budget status text =
+    (ends : List GuestEnd) × (IsOutcomeFrom program size first spare budget history ends × (KeepsVersions size history
     × ((status ≡ status_of_all ends) × (text ≡ report_of budget ends))))
 
 -- threads that ran have a history, and are reported by it
-abbrev pub ReportsRun : Option (List Entry) → Program → Numbers → ℕ → ℕ → List ℕ → Type 0
-ReportsRun None program size budget status text = ⊥
-ReportsRun (Some history) program size budget status text = IsReportOf history program size budget status text
+abbrev pub ReportsRun : Option (List Entry) → Program → Numbers → (first spare budget : ℕ) → ℕ → List ℕ → Type 0
+ReportsRun None program size first spare budget status text = ⊥
+ReportsRun (Some history) program size first spare budget status text = IsReportOf history program size first spare budget status text
 
 -- status 4 and the refusal by what stands against a run, where no thread ran, or one of the answers where nothing does
 abbrev pub UnlessRun : Option (List ℕ) → Option (List Entry) → (ℕ → List ℕ → Type 0) → ℕ → List ℕ → Type 0
 UnlessRun (Some name) story answers status text = (story ≡ None) × ((status ≡ 4) × (text ≡ refusal_text name))
 UnlessRun None story answers status text = answers status text
 
--- the history, the status and the text for a format, a machine of these numbers, a budget and the bytes of the file
-abbrev pub AnswersRun : Format → Numbers → ℕ → List ℕ → Option (List Entry) → ℕ → List ℕ → Type 0
-AnswersRun format size budget file story = UnlessRun (program_refusal format size file) story (ReportsRun story (image_of format file size) size budget)
+-- the history, the status and the text for a format, so many threads that begin by themselves and that each of them may start, a
+-- machine of these numbers, a budget and the bytes of the file
+abbrev pub AnswersRun : Format → (first spare : ℕ) → Numbers → ℕ → List ℕ → Option (List Entry) → ℕ → List ℕ → Type 0
+AnswersRun format first spare size budget file story =
+    UnlessRun (program_refusal format size file) story (ReportsRun story (image_of format file size) size first spare budget)

@@ -1,13 +1,14 @@
 //! Threads that run beside each other, on a memory of their own.
-ghost use Rattle.std.specs.Prelude.{◌≡◌, ◌≤◌, ℕ, [], false, length, nat_lt, true, IfOk};
+ghost use Rattle.std.specs.Prelude.{◌≡◌, ◌≤◌, ◌+◌, ◌*◌, ℕ, [], false, length, nat_lt, true, IfOk};
 ghost use Rattle.llsc_base.specs.Limits.{most_budget};
 ghost use Rattle.version_memory.specs.Memory.{story_history};
-ghost use Rattle.llsc_call.specs.Beside.{Ran as HasRun};
+ghost use Rattle.llsc_call.specs.Beside.{Ran as HasRun, RanFrom};
 
-use guest_machine::{Ran, prepare, run_all};
-use guest_thread::GuestEnd;
+use guest_family::{prepare_family, run_family};
+use guest_machine::{prepare, run_all};
+use guest_thread::{GuestEnd, Ran};
 use llsc_base::{Image, MachineSize};
-use shared_memory::{Rows, SharedMemory};
+use shared_memory::{Rows, SharedMemory, StartMemory};
 use std::alloc::{AllocError, Global};
 use std::sync::Wait;
 use std::thread::Threads;
@@ -16,7 +17,7 @@ use version_memory::{VersionMemory, VersionStory};
 /// What threads have done that ran beside each other, once their memory is closed.
 #[derive(Drop)]
 pub struct Finished<S> {
-    /// How each thread ended, in order of number.
+    /// How each thread ended that has begun, in order of number.
     pub ends: Vec<GuestEnd>,
     /// The cells of memory as it was left.
     pub rows: Rows,
@@ -73,4 +74,58 @@ pub fn run_beside<R: Threads + Wait + Sync>(
 {
     let (memory, pass) = VersionMemory::new(alloc, image, size)?;
     run_over(rt, alloc, memory, pass, image, budget)
+}
+
+/// Runs an image's threads, and those that they start, on a memory that counts the writes of a class, and on which a
+/// store-exclusive loses to nothing but writes, with the pass of all of them, and closes it.
+fn family_over<M: StartMemory, R: Threads + Wait + Sync>(
+    rt: &R,
+    alloc: Global,
+    memory: M,
+    pass: M::Pass,
+    image: &Image,
+    budget: u64,
+) -> Result<Finished<M::Story>, AllocError>
+    requires made { M.home pass ≡ M.id memory }
+    requires all { (t : ℕ) → M.numbers pass t ≡ nat_lt t (M.origin memory).size.threads }
+    requires none { M.seen pass ≡ [] }
+    requires bytes { (M.origin memory).bytes ≡ image.now.bytes }
+    requires spends { (M.origin memory).spends ≡ true }
+    requires steady { (M.origin memory).steady ≡ true }
+    requires whole { length image.now.bytes ≡ (M.origin memory).size.mem }
+    requires budget { budget ≤ most_budget }
+    ensures { IfOk result (λ done. RanFrom image.now (M.origin memory).size (M.origin memory).first (M.origin memory).spare budget (M.history done.story) done.ends.items done.rows) }
+{
+    let kin = prepare_family(alloc, &memory, image, pass)?;
+    let threads = memory.size().threads();
+    prove!(threads <= 16);
+    let Ran { pass, ends } = run_family(rt, &memory, image, kin, budget);
+    let (rows, story) = memory.close(pass);
+    Ok(Finished { ends, rows, story })
+}
+
+/// Runs an image's threads beside each other on a machine, each up to its stop: so many begin by themselves, and each of these may
+/// start so many more, which are all of the machine's together. All memory that this takes is taken before the first of them
+/// begins.
+///
+/// # Errors
+///
+/// `AllocError` is want of memory.
+pub fn run_family_beside<R: Threads + Wait + Sync>(
+    rt: &R,
+    alloc: Global,
+    size: &MachineSize,
+    image: &Image,
+    first: u32,
+    spare: u32,
+    budget: u64,
+) -> Result<Finished<VersionStory>, AllocError>
+    requires whole { length image.now.bytes ≡ size.now.mem }
+    requires some { 1 ≤ first }
+    requires all { first * (1 + spare) ≡ size.now.threads }
+    requires budget { budget ≤ most_budget }
+    ensures { IfOk result (λ done. RanFrom image.now size.now first spare budget (story_history done.story) done.ends.items done.rows) }
+{
+    let (memory, pass) = VersionMemory::with_spare(alloc, image, size, first, spare)?;
+    family_over(rt, alloc, memory, pass, image, budget)
 }

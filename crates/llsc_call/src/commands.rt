@@ -31,7 +31,7 @@ fn machine_named(request: Request<'_>) -> Option<MachineNumbers>
         Request::Solo { mem, .. } | Request::Disassemble { mem, .. } => {
             Some(numbers_of(1, mem, LEAST_GRANULE))
         }
-        Request::Run { numbers, .. } => Some(numbers.machine),
+        Request::Run { numbers, .. } => Some(numbers.whole_machine()),
         Request::Trace { numbers, .. } => {
             Some(numbers_of(numbers.threads, numbers.mem, numbers.granule))
         }

@@ -6,6 +6,7 @@ ghost use Rattle.history.specs.Accesses.{history_of};
 ghost use Rattle.history.specs.declared.entry.Access.{Access};
 ghost use Rattle.history.specs.declared.entry.Entry.{Entry};
 ghost use Rattle.guest_thread.specs.End.{IsEndIn};
+ghost use Rattle.guest_thread.specs.BegunOutcome.{IsOutcomeFrom};
 ghost use Rattle.guest_thread.specs.Outcome.{IsOutcome};
 ghost use Rattle.guest_thread.specs.Start.{thread_start};
 ghost use Rattle.guest_thread.specs.declared.ends.GuestEnd.{GuestEnd};
@@ -34,15 +35,15 @@ pub fn answers_are_one()
         Answers asked files story status text → Answers asked files story other more → (status ≡ other) × (text ≡ more) }
 {}
 
-/// What a run prints, where its status is 0 or 1, is the report of an outcome of its threads: of one history, legal and complete,
-/// from the program's memory on, that goes with the answer. In it no class of rows has had more writes than the machine lets it; and
+/// What a run prints, where its status is 0 or 1, is the report of an outcome of its threads, those that begin by themselves and
+/// those that they start: of one history, legal and complete, from the program's memory on, that goes with the answer. In it no class of rows has had more writes than the machine lets it; and
 /// loads, load-exclusives, failed store-exclusives and CLREX of others end no reservation: a store-exclusive has lost only where a
 /// write of another thread in the class of its row had begun since its load-exclusive.
 pub fn runs_have_one_history()
-    ensures { (format : Format) (size : Numbers) (budget : ℕ) (file : List ℕ) (story : Option (List Entry)) (status : ℕ) (text : List ℕ) →
-        AnswersRun format size budget file story status text → (status ≡ 0) ⊎ (status ≡ 1) →
+    ensures { (format : Format) (first spare : ℕ) (size : Numbers) (budget : ℕ) (file : List ℕ) (story : Option (List Entry)) (status : ℕ) (text : List ℕ) →
+        AnswersRun format first spare size budget file story status text → (status ≡ 0) ⊎ (status ≡ 1) →
         (history : List Entry) × (ends : List GuestEnd)
-        × ((story ≡ Some history) × (IsOutcome (image_of format file size) size budget history ends
+        × ((story ≡ Some history) × (IsOutcomeFrom (image_of format file size) size first spare budget history ends
         × (KeepsVersions size history × (text ≡ report_of budget ends)))) }
 {}
 
@@ -73,8 +74,10 @@ pub fn loads_count_every_round()
 /// In the one history of a run or of a load each store-exclusive that succeeded was undisturbed: the last load-exclusive of its
 /// thread read the same row, and nobody has written in that row since, whatever the value. And each that failed has its cause.
 pub fn store_exclusives_are_exact()
-    ensures { (program : Program) (size : Numbers) (budget : ℕ) (history : List Entry) (ends : List GuestEnd) →
+    ensures of_all { (program : Program) (size : Numbers) (budget : ℕ) (history : List Entry) (ends : List GuestEnd) →
         IsOutcome program size budget history ends → AreStoresExact size program.bytes history }
+    ensures of_begun { (program : Program) (size : Numbers) (first spare budget : ℕ) (history : List Entry) (ends : List GuestEnd) →
+        IsOutcomeFrom program size first spare budget history ends → AreStoresExact size program.bytes history }
 {}
 
 /// The record of a trace is good.

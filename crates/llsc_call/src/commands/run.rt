@@ -1,34 +1,67 @@
 //! `run`: all threads of a program, beside each other.
-ghost use Rattle.std.specs.Prelude.{◌≡◌, ◌≤◌, None, length};
+ghost use Rattle.std.specs.Prelude.{◌≡◌, ◌≤◌, ◌+◌, ◌*◌, None, length, IfOk};
 ghost use Rattle.llsc_base.specs.Limits.{most_budget};
-ghost use Rattle.llsc_words.specs.Request.{machine_by};
+ghost use Rattle.version_memory.specs.Memory.{story_history};
+ghost use Rattle.llsc_words.specs.Request.{size_of_run};
 ghost use Rattle.llsc_files.specs.Refusals.{most_program, too_long};
+ghost use Rattle.llsc_call.specs.Beside.{RanFrom};
 ghost use Rattle.llsc_call.specs.Run.{AnswersRun, ReportsRun};
 ghost use Rattle.llsc_call.specs.Outcome.{GivesBy};
 
 use crate::answer::Answer;
-use crate::beside::run_beside;
+use crate::beside::{Finished, run_beside, run_family_beside};
 use crate::outcome::Outcome;
 use llsc_base::{Image, MachineSize};
 use llsc_files::load;
 use llsc_words::{Format, RunNumbers};
-use std::alloc::Global;
+use std::alloc::{AllocError, Global};
 use std::sync::Wait;
 use std::thread::Threads;
+use version_memory::VersionStory;
 
-/// Runs an image's threads on a memory of its own.
+/// Runs an image's threads on a memory of its own: the first, and those that they start where they may.
+///
+/// # Errors
+///
+/// `AllocError` is want of memory.
+fn run_threads<R: Threads + Wait + Sync>(
+    rt: &R,
+    alloc: Global,
+    size: &MachineSize,
+    image: &Image,
+    first: u32,
+    spare: u32,
+    budget: u64,
+) -> Result<Finished<VersionStory>, AllocError>
+    requires whole { length image.now.bytes ≡ size.now.mem }
+    requires some { 1 ≤ first }
+    requires all { first * (1 + spare) ≡ size.now.threads }
+    requires budget { budget ≤ most_budget }
+    ensures { IfOk result (λ done. RanFrom image.now size.now first spare budget (story_history done.story) done.ends.items done.rows) }
+{
+    if spare == 0 {
+        return run_beside(rt, alloc, size, image, budget);
+    }
+    run_family_beside(rt, alloc, size, image, first, spare, budget)
+}
+
+/// Runs an image's threads, and those that they start.
 fn run<R: Threads + Wait + Sync>(
     rt: &R,
     alloc: Global,
     size: &MachineSize,
     image: &Image,
+    first: u32,
+    spare: u32,
     budget: u64,
 ) -> Answer
     requires whole { length image.now.bytes ≡ size.now.mem }
+    requires some { 1 ≤ first }
+    requires all { first * (1 + spare) ≡ size.now.threads }
     requires budget { budget ≤ most_budget }
-    ensures { GivesBy (λ story. ReportsRun story image.now size.now budget) result.outcome result.story }
+    ensures { GivesBy (λ story. ReportsRun story image.now size.now first spare budget) result.outcome result.story }
 {
-    let Ok(done) = run_beside(rt, alloc, size, image, budget) else {
+    let Ok(done) = run_threads(rt, alloc, size, image, first, spare, budget) else {
         return Answer::from(Outcome::NoMemory);
     };
     Answer {
@@ -40,7 +73,7 @@ fn run<R: Threads + Wait + Sync>(
     }
 }
 
-/// Runs a file as all threads of a machine of these numbers.
+/// Runs a file as the threads of a machine of these numbers, and those that they start.
 pub fn answer<R: Threads + Wait + Sync>(
     rt: &R,
     alloc: Global,
@@ -50,10 +83,14 @@ pub fn answer<R: Threads + Wait + Sync>(
 ) -> Answer
     requires budget { numbers.budget ≤ most_budget }
     requires short { too_long most_program file.items ≡ None }
-    ensures { GivesBy (AnswersRun format (machine_by numbers.machine) numbers.budget file.items) result.outcome result.story }
+    ensures { GivesBy (AnswersRun format numbers.machine.threads numbers.spare (size_of_run numbers) numbers.budget file.items) result.outcome result.story }
 {
-    match load(alloc, numbers.machine, format, file) {
-        Ok(loaded) => run(rt, alloc, &loaded.size, &loaded.image, numbers.budget),
+    match load(alloc, numbers.whole_machine(), format, file) {
+        Ok(loaded) => {
+            let first = numbers.machine.threads as u32;
+            let spare = numbers.spare as u32;
+            run(rt, alloc, &loaded.size, &loaded.image, first, spare, numbers.budget)
+        }
         Err(refusal) => Answer::from(Outcome::from(refusal)),
     }
 }

@@ -11,5 +11,5 @@ returns g c =
     inr (record {
       sayable = ran.sums;
       done = all_done done.ends.items;
-      is = reported c.args.image.now c.args.size.now c.args.budget (story_history done.story) done.ends.items done.rows ran;
+      is = reported c.args.image.now c.args.size.now c.args.first c.args.spare c.args.budget (story_history done.story) done.ends.items done.rows ran;
     })
