@@ -129,7 +129,7 @@ module _ (first spare : ℕ) where
         let mine = subst (λ t. IsStockRun (stock_of first spare t) program budget is.start (pairs_of t history) (starts_in t history) one.stop one.steps one.out) thread is.ends.ends in
         let run = subst (λ s. IsStockRun (stock_of first spare two.thread) program budget s (pairs_of two.thread history) (starts_in two.thread history) one.stop one.steps one.out) start mine in
         let same = one_stock_run (stock_of first spare two.thread) program budget is_too.start (pairs_of two.thread history) (starts_in two.thread history)
-            (starts_in two.thread history) one.stop two.stop one.steps two.steps one.out two.out run is_too.ends.ends in
+        (starts_in two.thread history) one.stop two.stop one.steps two.steps one.out two.out run is_too.ends.ends in
         let counts = is.ends.counts in
         let counts_too = is_too.ends.counts in
         same_end one two thread same.1 same.2

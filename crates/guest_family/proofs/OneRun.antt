@@ -194,7 +194,7 @@ module _ (stock : Option Stock) (replies : Replies) (program : Program) (budget 
         let all = subst (AreDecided replies) (sym parts) decided in
         let plain = not_start call (length output) (writes_bytes addr (length bytes)) known (λ same. cc) in
         subst (λ (ps : List Pair). Leads (spot_at before starts from)
-            (spot_at ps starts (record { machine = returned (after_next program machine) (length bytes); steps = steps + 1; output = output ++ bytes }))) parts
+        (spot_at ps starts (record { machine = returned (after_next program machine) (length bytes); steps = steps + 1; output = output ++ bytes }))) parts
         (leads_once (spot_at before starts from) here _ (calls call) (came pairs machine steps output reached (decided_front replies (before ++ pairs) (byte_loads addr bytes) all)) less is
         (called_plainly here call stock (is_start_call call) (never stock (is_start_call call) plain) ∙ ap (answered here) known
         ∙ ap (printed here addr (length bytes)) (bytes_found (before ++ pairs) addr bytes all)))

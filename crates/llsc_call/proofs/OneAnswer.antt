@@ -7,6 +7,7 @@ use Rattle.guest_thread.specs.Ends.{AreEnds}
 use Rattle.guest_thread.specs.Start.{thread_start}
 use Rattle.history.specs.declared.entry.Entry.{Entry}
 use Rattle.guest_thread.proofs.OneOutcome.{one_list, one_list_on}
+use Rattle.guest_family.proofs.OneFamily.{one_outcome_from}
 use Rattle.guest_machine.specs.Traces.{IsTraceRecord}
 use Rattle.guest_machine.proofs.OneEnd.{one_end_alone}
 use Rattle.guest_machine.proofs.OneTrace.{one_trace, not_too_long}
@@ -95,8 +96,7 @@ read_one format mem file (Ok run) =
 run_one : (program : Program) (size : Numbers) (first spare budget : ℕ) (story : Option (List Entry)) → AreOne (ReportsRun story program size first spare budget)
 run_one program size first spare budget None status other text more a b = absurd a
 run_one program size first spare budget (Some history) status other text more a b =
-    -- Rattle.guest_family.proofs.OneFamily.one_outcome_from program size first spare budget history a.0 b.0 a.1.0 b.1.0
-    let ends : a.0 ≡ b.0 = ? in
+    let ends : a.0 ≡ b.0 = one_outcome_from program size first spare budget history a.0 b.0 a.1.0 b.1.0 in
     (a.1.1.1.0 ∙ ap status_of_all ends ∙ sym b.1.1.1.0, a.1.1.1.1 ∙ ap (report_of budget) ends ∙ sym b.1.1.1.1)
 
 -- a load, by its history

@@ -36,9 +36,10 @@ pub fn answers_are_one()
 {}
 
 /// What a run prints, where its status is 0 or 1, is the report of an outcome of its threads, those that begin by themselves and
-/// those that they start: of one history, legal and complete, from the program's memory on, that goes with the answer. In it no class of rows has had more writes than the machine lets it; and
-/// loads, load-exclusives, failed store-exclusives and CLREX of others end no reservation: a store-exclusive has lost only where a
-/// write of another thread in the class of its row had begun since its load-exclusive.
+/// those that they start: of one history, legal and complete, from the program's memory on, that goes with the answer. In it no
+/// class of rows has had more writes than the machine lets it; and loads, load-exclusives, failed store-exclusives and CLREX of
+/// others end no reservation: a store-exclusive has lost only where a write of another thread in the class of its row had begun
+/// since its load-exclusive.
 pub fn runs_have_one_history()
     ensures { (format : Format) (first spare : ℕ) (size : Numbers) (budget : ℕ) (file : List ℕ) (story : Option (List Entry)) (status : ℕ) (text : List ℕ) →
         AnswersRun format first spare size budget file story status text → (status ≡ 0) ⊎ (status ≡ 1) →

@@ -89,7 +89,15 @@ pub fn answer<R: Threads + Wait + Sync>(
         Ok(loaded) => {
             let first = numbers.machine.threads as u32;
             let spare = numbers.spare as u32;
-            run(rt, alloc, &loaded.size, &loaded.image, first, spare, numbers.budget)
+            run(
+                rt,
+                alloc,
+                &loaded.size,
+                &loaded.image,
+                first,
+                spare,
+                numbers.budget,
+            )
         }
         Err(refusal) => Answer::from(Outcome::from(refusal)),
     }

@@ -1,4 +1,4 @@
-use Rattle.std.proofs.Common.{◌≡◌, ◌≤◌, length, rules, arith}
+use Rattle.std.proofs.Common.{◌≤◌, rules, arith}
 use Rattle.llsc_call.proofs.Finished.{closed_cells, ran_from, sums}
 use Rattle.llsc_call.proofs.beside.family_over.Goals as goal
 
