@@ -3,6 +3,7 @@ pub mod Outcomes
 pub mod CheckAnswers
 pub mod Finished
 pub mod RunAnswers
+pub mod RunMachine
 pub mod Left
 pub mod LoadAnswers
 pub mod Asked

@@ -1,10 +1,10 @@
 //! The commands: what each answers to the bytes of its files, without a host.
 ghost use Rattle.std.specs.Prelude.{◌≡◌, None, IfErr, OnOk};
-ghost use Rattle.std.specs.Option.{option_map};
+ghost use Rattle.std.specs.Option.{option_and_then, option_map};
 ghost use Rattle.llsc_words.specs.Request.{asked, machine_by, HasBudget};
-ghost use Rattle.llsc_files.specs.Refusals.{IsRefusal};
+ghost use Rattle.llsc_files.specs.Refusals.{size_refusal, IsRefusal};
 ghost use Rattle.llsc_call.specs.Answer.{Answers};
-ghost use Rattle.llsc_call.specs.Files.{barred, files_by, machine_wanted, AreShort};
+ghost use Rattle.llsc_call.specs.Files.{barred, files_by, AreShort};
 ghost use Rattle.llsc_call.specs.Outcome.{GivesBy};
 
 mod asm;
@@ -23,9 +23,10 @@ use std::alloc::Global;
 use std::sync::Wait;
 use std::thread::Threads;
 
-/// The numbers of the machine that a request names; one for a text or a record names none.
+/// The numbers of the machine that a request names, or of one that is refused as that is; a request for a text or a record names
+/// none.
 fn machine_named(request: Request<'_>) -> Option<MachineNumbers>
-    ensures { option_map machine_by result ≡ machine_wanted (asked request.entry) }
+    ensures { option_and_then size_refusal (option_map machine_by result) ≡ barred (asked request.entry) }
 {
     match request {
         Request::Solo { mem, .. } | Request::Disassemble { mem, .. } => {

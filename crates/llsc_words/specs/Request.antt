@@ -1,5 +1,5 @@
 -- What the words of a call ask for.
-use Rattle.std.specs.Prelude.{ℕ, ◌+◌, ◌*◌, ◌≤◌, ◌^◌, nat_lt, Bool, ◌&&◌, nat_le, List, [], ◌∷◌, Option, Some, None, if◌then◌else◌}
+use Rattle.std.specs.Prelude.{ℕ, ◌+◌, ◌*◌, ◌≤◌, ◌^◌, Bool, ◌&&◌, nat_le, List, [], ◌∷◌, Option, Some, None, if◌then◌else◌}
 use Rattle.std.specs.Option.{option_and_then}
 use Rattle.llsc_base.specs.Sizes.{Numbers, numbers}
 use Rattle.llsc_base.specs.Limits.{most_budget}
@@ -119,18 +119,10 @@ solo_by _ _ _ _ = None
 abbrev pub solo_for : Given → Option Request
 solo_for given = solo_by given.file (format_of given) (number_or default_mem given.mem) (budget_or default_budget given.budget)
 
--- the most threads of a machine
-abbrev pub most_threads : ℕ
-most_threads = 16
-
--- how many threads a machine has of which so many begin by themselves, and each may start so many more; where one of these numbers
--- is itself above those that a machine may have, it is that number, which is out of range as well
-abbrev pub all_threads : (first spare : ℕ) → ℕ
-all_threads first spare = if nat_lt most_threads first then first else if nat_lt most_threads spare then spare else first * (1 + spare)
-
+-- the threads of a run's machine are those that begin by themselves and those that each of them may start, whatever number that is
 abbrev pub run_by : Option (List ℕ) → Format → (threads spare mem granule classes limit budget : Option ℕ) → Option Request
 run_by (Some file) format (Some threads) (Some spare) (Some mem) (Some granule) (Some classes) (Some limit) (Some budget) =
-    Some (Run file format threads spare (record (numbers mem (all_threads threads spare) classes limit) { granule = granule }) budget)
+    Some (Run file format threads spare (record (numbers mem (threads * (1 + spare)) classes limit) { granule = granule }) budget)
 run_by _ _ _ _ _ _ _ _ _ = None
 
 abbrev pub run_for : Given → Option Request
@@ -203,7 +195,7 @@ machine_by n = record (numbers n.mem n.threads n.classes n.limit) { granule = n.
 
 -- the machine of a run, with all threads that it may have
 abbrev pub size_of_run : RunNumbers → Numbers
-size_of_run n = record (machine_by n.machine) { threads = all_threads n.machine.threads n.spare }
+size_of_run n = record (machine_by n.machine) { threads = n.machine.threads * (1 + n.spare) }
 
 -- what borrows from the words, as what it is
 abbrev pub asked : Call → Request

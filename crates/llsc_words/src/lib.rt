@@ -2,7 +2,7 @@
 //!
 //! The first word is a command; what stands behind it is read as `specs/Commands.antt` says which options and files each command
 //! takes. `specs/Request.antt` says what words ask for; [`worked`], [`worked_numbers`], [`worked_options`] and [`worked_refusals`]
-//! have small cases, by the words of `specs/Worked.antt`; [`laws`] has how a machine's threads are counted.
+//! have small cases, by the words of `specs/Worked.antt`.
 #![tactic(auto)]
 
 mod arguments;
@@ -11,7 +11,6 @@ mod commands;
 mod defaults;
 mod formats;
 mod given;
-pub mod laws;
 mod names;
 mod numbers;
 mod requests;

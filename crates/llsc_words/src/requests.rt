@@ -1,11 +1,9 @@
 //! What a call may ask for.
-ghost use Rattle.std.specs.Prelude.{◌≡◌};
-ghost use Rattle.llsc_words.specs.Request.{all_threads, machine_by, size_of_run};
+ghost use Rattle.std.specs.Prelude.{◌≡◌, ◌+◌, ◌-◌, ◌*◌, ◌^◌, min, None};
+ghost use Rattle.llsc_base.specs.Sizes.{size_fault};
+ghost use Rattle.llsc_words.specs.Request.{machine_by, size_of_run};
 
 use crate::formats::Format;
-
-/// The most threads of a machine.
-const MOST_THREADS: u64 = 16;
 
 /// The numbers that make a machine.
 #[derive(Clone, Copy)]
@@ -33,24 +31,21 @@ pub struct RunNumbers {
     pub budget: u64,
 }
 
-/// How many threads a machine has of which `first` begin by themselves, and each may start `spare` more. Where one of these is
-/// itself above the 16 that a machine may have, the answer is that number, so that nothing wraps.
+/// How many threads there are where `first` begin by themselves and each of them may start `spare` more; where 64 bits don't hold
+/// that number, the greatest that they hold.
+#[tactic(auto, using(crate::proofs::Counted::saturated))]
 fn all_threads(first: u64, spare: u64) -> u64
-    ensures { result ≡ all_threads first spare }
+    ensures { result ≡ min (first * (1 + spare)) (2 ^ 64 - 1) }
 {
-    if first > MOST_THREADS {
-        return first;
-    }
-    if spare > MOST_THREADS {
-        return spare;
-    }
-    first * (1 + spare)
+    first.saturating_mul(spare.saturating_add(1))
 }
 
 impl RunNumbers {
-    /// The machine, with all threads that it may have.
+    /// The machine, with all threads that it may have. Where 64 bits don't hold how many these are, it has the greatest number that
+    /// they hold, and is refused as the machine of all threads is.
     pub fn whole_machine(&self) -> MachineNumbers
-        ensures { machine_by result ≡ size_of_run self.now }
+        ensures fault { size_fault (machine_by result) ≡ size_fault (size_of_run self.now) }
+        ensures machine { size_fault (size_of_run self.now) ≡ None → machine_by result ≡ size_of_run self.now }
     {
         MachineNumbers {
             threads: all_threads(self.machine.threads, self.spare),

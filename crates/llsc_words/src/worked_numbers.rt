@@ -77,6 +77,7 @@ pub fn machines()
     ensures one_too_many { fault_in (codes "run p --threads 4 --spare 4") ≡ Some (Some SizeFault.Threads) }
     ensures none_to_start { fault_in (codes "run p --threads 0 --spare 18446744073709551615") ≡ Some (Some SizeFault.Threads) }
     ensures product_past_64_bits { fault_in (codes "run p --threads 2 --spare 9223372036854775807") ≡ Some (Some SizeFault.Threads) }
+    ensures product_that_would_wrap_to_one { fault_in (codes "run p --threads 3 --spare 12297829382473034410") ≡ Some (Some SizeFault.Threads) }
     ensures no_class { fault_in (codes "run p --classes 0") ≡ Some (Some SizeFault.Classes) }
     ensures one_class { fault_in (codes "run p --classes 1") ≡ Some None }
     ensures no_power_of_two { fault_in (codes "run p --classes 4095") ≡ Some (Some SizeFault.Classes) }

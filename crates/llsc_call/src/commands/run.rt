@@ -1,9 +1,10 @@
 //! `run`: all threads of a program, beside each other.
-ghost use Rattle.std.specs.Prelude.{◌≡◌, ◌≤◌, ◌+◌, ◌*◌, None, length, IfOk};
+ghost use Rattle.std.specs.Prelude.{◌≡◌, ◌≤◌, ◌+◌, ◌*◌, None, length, IfErr, IfOk, OnOk};
 ghost use Rattle.llsc_base.specs.Limits.{most_budget};
 ghost use Rattle.version_memory.specs.Memory.{story_history};
 ghost use Rattle.llsc_words.specs.Request.{size_of_run};
-ghost use Rattle.llsc_files.specs.Refusals.{most_program, too_long};
+ghost use Rattle.llsc_files.specs.Programs.{program_refusal, IsLoaded};
+ghost use Rattle.llsc_files.specs.Refusals.{most_program, too_long, IsRefusal};
 ghost use Rattle.llsc_call.specs.Beside.{RanFrom};
 ghost use Rattle.llsc_call.specs.Run.{AnswersRun, ReportsRun};
 ghost use Rattle.llsc_call.specs.Outcome.{GivesBy};
@@ -12,7 +13,7 @@ use crate::answer::Answer;
 use crate::beside::{Finished, run_beside, run_family_beside};
 use crate::outcome::Outcome;
 use llsc_base::{Image, MachineSize};
-use llsc_files::load;
+use llsc_files::{Loaded, Refusal, load};
 use llsc_words::{Format, RunNumbers};
 use std::alloc::{AllocError, Global};
 use std::sync::Wait;
@@ -73,6 +74,25 @@ fn run<R: Threads + Wait + Sync>(
     }
 }
 
+/// The machine of a run, and the image of a program's file on it.
+///
+/// # Errors
+///
+/// The refusal by what stands against the file, first.
+fn load_run(
+    alloc: Global,
+    format: Format,
+    numbers: RunNumbers,
+    file: Vec<u8>,
+) -> Result<Loaded, Refusal>
+    requires short { too_long most_program file.items ≡ None }
+    ensures loaded { IfOk result (IsLoaded format (size_of_run numbers) file.items) }
+    ensures few { OnOk result ((1 ≤ numbers.machine.threads) × (numbers.machine.threads ≤ 16) × (numbers.spare ≤ 16)) }
+    ensures refused { IfErr result (IsRefusal (program_refusal format (size_of_run numbers) file.items)) }
+{
+    load(alloc, numbers.whole_machine(), format, file)
+}
+
 /// Runs a file as the threads of a machine of these numbers, and those that they start.
 pub fn answer<R: Threads + Wait + Sync>(
     rt: &R,
@@ -85,7 +105,7 @@ pub fn answer<R: Threads + Wait + Sync>(
     requires short { too_long most_program file.items ≡ None }
     ensures { GivesBy (AnswersRun format numbers.machine.threads numbers.spare (size_of_run numbers) numbers.budget file.items) result.outcome result.story }
 {
-    match load(alloc, numbers.whole_machine(), format, file) {
+    match load_run(alloc, format, numbers, file) {
         Ok(loaded) => {
             let first = numbers.machine.threads as u32;
             let spare = numbers.spare as u32;
