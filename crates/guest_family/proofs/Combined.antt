@@ -13,9 +13,9 @@ use Rattle.guest_thread.specs.Crews.{AreTaken}
 use Rattle.guest_thread.specs.Start.{thread_start}
 use Rattle.guest_thread.specs.declared.gathering.Ran.{Ran}
 use Rattle.guest_thread.specs.declared.running.Finished.{Finished}
-use Rattle.guest_family.specs.Lived.{AreChildren, HasLived, numbers_of}
+use Rattle.guest_family.specs.EndedStarters.{AreChildren, HasEndedWithAll, numbers_of}
 use Rattle.guest_family.specs.UnderWay.{IsEndFrom}
-use Rattle.guest_family.specs.declared.houses.Lived.{Lived}
+use Rattle.guest_family.specs.declared.starters.StarterEnd.{StarterEnd}
 use Rattle.guest_family.proofs.Later.{children_later, end_later, same_starts}
 
 or_left : (a b : Bool) → a ≡ true → (a || b) ≡ true
@@ -41,31 +41,31 @@ taken_by old new (t ∷ ts) keeps taken =
 
 module _ {P : Type 0} (home : P → TableId) (numbers : P → ℕ → Bool) (seen : P → List Entry) (mem : TableId) (origin : Origin) (program : Program) (budget t : ℕ) where
   -- what is left of a thread, and one that it has started
-  pub lived_more : (before : List Started) (one : Started) (rest : List ℕ) (lived : Lived P) (done : Finished P) (new : Ran P)
-      → HasLived home numbers seen mem origin program budget t (before ++ one ∷ []) rest lived
+  pub ended_more : (before : List Started) (one : Started) (rest : List ℕ) (ended : StarterEnd P) (done : Finished P) (new : Ran P)
+      → HasEndedWithAll home numbers seen mem origin program budget t (before ++ one ∷ []) rest ended
       → IsEndFrom program origin budget one.child (child_start origin.size one.child one.entry one.arg) (seen done.pass) done.end
       → IsOneOf one.child (numbers done.pass)
-      → home new.pass ≡ mem → numbers new.pass ≡ joint (numbers lived.ran.pass) (numbers done.pass)
-      → IsFront (seen lived.ran.pass) (seen new.pass) × IsFront (seen done.pass) (seen new.pass)
-      → SaysAllOf (numbers lived.ran.pass) (seen lived.ran.pass) (seen new.pass) → SaysAllOf (numbers done.pass) (seen done.pass) (seen new.pass)
-      → new.ends.items ≡ lived.ran.ends.items ++ done.end ∷ []
-      → HasLived home numbers seen mem origin program budget t before (one.child ∷ rest) (record { ran = new; end = lived.end })
-  lived_more before one rest lived done new is child taken memory joined fronts mine yours ends =
-      let keeps : (u : ℕ) → IsOneOf u (numbers lived.ran.pass) → IsOneOf u (numbers new.pass) =
-      λ u had. joint_left (numbers lived.ran.pass) (numbers done.pass) (numbers new.pass) u joined had in
-      let here : IsOneOf one.child (numbers new.pass) = joint_right (numbers lived.ran.pass) (numbers done.pass) (numbers new.pass) one.child joined taken in
-      let others : AreChildren program origin budget (seen new.pass) is.more (reverse lived.ran.ends.items) =
-      children_later program origin budget (seen lived.ran.pass) (seen new.pass) (numbers lived.ran.pass) is.more (reverse lived.ran.ends.items) fronts.0 mine is.among is.children in
-      let all : reverse new.ends.items ≡ done.end ∷ reverse lived.ran.ends.items =
-      ap reverse ends ∙ reverse-append lived.ran.ends.items (done.end ∷ []) in
+      → home new.pass ≡ mem → numbers new.pass ≡ joint (numbers ended.ran.pass) (numbers done.pass)
+      → IsFront (seen ended.ran.pass) (seen new.pass) × IsFront (seen done.pass) (seen new.pass)
+      → SaysAllOf (numbers ended.ran.pass) (seen ended.ran.pass) (seen new.pass) → SaysAllOf (numbers done.pass) (seen done.pass) (seen new.pass)
+      → new.ends.items ≡ ended.ran.ends.items ++ done.end ∷ []
+      → HasEndedWithAll home numbers seen mem origin program budget t before (one.child ∷ rest) (record { ran = new; end = ended.end })
+  ended_more before one rest ended done new is child taken memory joined fronts mine yours ends =
+      let keeps : (u : ℕ) → IsOneOf u (numbers ended.ran.pass) → IsOneOf u (numbers new.pass) =
+      λ u had. joint_left (numbers ended.ran.pass) (numbers done.pass) (numbers new.pass) u joined had in
+      let here : IsOneOf one.child (numbers new.pass) = joint_right (numbers ended.ran.pass) (numbers done.pass) (numbers new.pass) one.child joined taken in
+      let others : AreChildren program origin budget (seen new.pass) is.more (reverse ended.ran.ends.items) =
+      children_later program origin budget (seen ended.ran.pass) (seen new.pass) (numbers ended.ran.pass) is.more (reverse ended.ran.ends.items) fronts.0 mine is.among is.children in
+      let all : reverse new.ends.items ≡ done.end ∷ reverse ended.ran.ends.items =
+      ap reverse ends ∙ reverse-append ended.ran.ends.items (done.end ∷ []) in
       record {
         memory = memory;
         own = keeps t is.own;
-        taken = All-cons (λ u. IsOneOf u (numbers new.pass)) one.child rest here (taken_by (numbers lived.ran.pass) (numbers new.pass) rest keeps is.taken);
+        taken = All-cons (λ u. IsOneOf u (numbers new.pass)) one.child rest here (taken_by (numbers ended.ran.pass) (numbers new.pass) rest keeps is.taken);
         more = one ∷ is.more;
-        starts = same_starts t (seen lived.ran.pass) (seen new.pass) (mine t is.own) ∙ is.starts ∙ append_assoc before (one ∷ []) is.more;
-        head = end_later program origin budget t (thread_start program origin.size origin.first t) (seen lived.ran.pass) (seen new.pass) lived.end fronts.0 (mine t is.own) is.head;
+        starts = same_starts t (seen ended.ran.pass) (seen new.pass) (mine t is.own) ∙ is.starts ∙ append_assoc before (one ∷ []) is.more;
+        head = end_later program origin budget t (thread_start program origin.size origin.first t) (seen ended.ran.pass) (seen new.pass) ended.end fronts.0 (mine t is.own) is.head;
         children = subst (AreChildren program origin budget (seen new.pass) (one ∷ is.more)) (sym all)
             (end_later program origin budget one.child (child_start origin.size one.child one.entry one.arg) (seen done.pass) (seen new.pass) done.end fronts.1 (yours one.child taken) child, others);
-        among = All-cons (λ u. IsOneOf u (numbers new.pass)) one.child (numbers_of is.more) here (taken_by (numbers lived.ran.pass) (numbers new.pass) (numbers_of is.more) keeps is.among);
+        among = All-cons (λ u. IsOneOf u (numbers new.pass)) one.child (numbers_of is.more) here (taken_by (numbers ended.ran.pass) (numbers new.pass) (numbers_of is.more) keeps is.among);
       }

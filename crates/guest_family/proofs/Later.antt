@@ -18,7 +18,7 @@ use Rattle.guest_thread.specs.Start.{thread_start}
 use Rattle.guest_thread.specs.StockRun.{IsStockRun}
 use Rattle.guest_thread.specs.declared.ends.GuestEnd.{GuestEnd}
 use Rattle.guest_thread.proofs.Crewed.{spent_later}
-use Rattle.guest_family.specs.Lived.{AreChildren, AreHeads, numbers_of}
+use Rattle.guest_family.specs.EndedStarters.{AreChildren, AreHeads, numbers_of}
 use Rattle.guest_family.specs.UnderWay.{IsEndFrom}
 
 pub same_starts : (t : ℕ) (old new : List Entry) → entries_of t new ≡ entries_of t old → starts_in t new ≡ starts_in t old

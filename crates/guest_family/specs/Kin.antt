@@ -9,16 +9,16 @@ use Rattle.history.specs.declared.entry.Entry.{Entry}
 use Rattle.shared_memory.specs.Origin.{Origin}
 use Rattle.shared_memory.specs.Seen.{IsSingle}
 use Rattle.guest_thread.specs.Crews.{IsFresh}
-use Rattle.guest_family.specs.declared.kin.House.{House}
 use Rattle.guest_family.specs.declared.kin.Kin.{Kin}
 use Rattle.guest_family.specs.declared.kin.Spare.{Spare}
+use Rattle.guest_family.specs.declared.kin.Starter.{Starter}
 
 -- whose they are
 abbrev pub spares_of : {P : Type 0} → List (Spare P) → List ℕ
 spares_of spares = map (λ spare. spare.thread) spares
 
-abbrev pub heads_of : {P : Type 0} → List (House P) → List ℕ
-heads_of houses = map (λ house. house.job.thread) houses
+abbrev pub heads_of : {P : Type 0} → List (Starter P) → List ℕ
+heads_of starters = map (λ starter. starter.job.thread) starters
 
 -- the numbers of the threads that a thread may start, in order
 abbrev pub own_numbers : (first spare thread : ℕ) → List ℕ
@@ -40,24 +40,24 @@ module _ {P : Type 0} (home : P → TableId) (numbers : P → ℕ → Bool) (see
 
   -- a thread that begins by itself is at its start, with all threads that it may start, in order of number, and with room for the
   -- ends of all of them
-  pub record IsHouse (mem : TableId) (origin : Origin) (program : Program) (house : House P) : Type 0 where
-    pub job : IsFresh home numbers seen mem origin program house.job
-    pub spares : AreSpares mem program house.spares.items
-    pub threads : spares_of house.spares.items ≡ own_numbers origin.first origin.spare house.job.thread
-    pub empty : (house.ends.items ≡ []) × (vec_len house.ends ≡ 0)
-    pub room : vec_len house.spares ≤ vec_capacity house.ends
-    pub many : vec_len house.spares ≡ origin.spare
+  pub record IsStarter (mem : TableId) (origin : Origin) (program : Program) (starter : Starter P) : Type 0 where
+    pub job : IsFresh home numbers seen mem origin program starter.job
+    pub spares : AreSpares mem program starter.spares.items
+    pub threads : spares_of starter.spares.items ≡ own_numbers origin.first origin.spare starter.job.thread
+    pub empty : (starter.ends.items ≡ []) × (vec_len starter.ends ≡ 0)
+    pub room : vec_len starter.spares ≤ vec_capacity starter.ends
+    pub many : vec_len starter.spares ≡ origin.spare
     pub all : origin.first * (1 + origin.spare) ≡ origin.size.threads
 
   -- each of them is
-  abbrev pub AreHouses : TableId → Origin → Program → List (House P) → Type 0
-  AreHouses mem origin program [] = Unit {0}
-  AreHouses mem origin program (house ∷ houses) = IsHouse mem origin program house × AreHouses mem origin program houses
+  abbrev pub AreStarters : TableId → Origin → Program → List (Starter P) → Type 0
+  AreStarters mem origin program [] = Unit {0}
+  AreStarters mem origin program (starter ∷ starters) = IsStarter mem origin program starter × AreStarters mem origin program starters
 
   -- those of all first threads of the memory, in order of number, with room for all ends
   pub record IsReady (mem : TableId) (origin : Origin) (program : Program) (kin : Kin P) : Type 0 where
-    pub first : IsHouse mem origin program kin.first
-    pub others : AreHouses mem origin program kin.others.items
+    pub first : IsStarter mem origin program kin.first
+    pub others : AreStarters mem origin program kin.others.items
     pub threads : heads_of (kin.first ∷ kin.others.items) ≡ range_with_len 0 origin.first
     pub ends_empty : (kin.ends.items ≡ []) × (vec_len kin.ends ≡ 0)
     pub children_empty : (kin.children.items ≡ []) × (vec_len kin.children ≡ 0)

@@ -1,5 +1,5 @@
+pub mod EndedStarters
 pub mod Kin
 pub mod Left
-pub mod Lived
 pub mod Next
 pub mod UnderWay

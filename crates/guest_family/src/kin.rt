@@ -3,7 +3,7 @@ ghost use Rattle.std.specs.Prelude.{◌≡◌, ◌≤◌, ◌+◌, ◌*◌, ℕ,
 ghost use Rattle.std.specs.List.{range_with_len};
 ghost use Rattle.history.specs.Parts.{entries_of};
 ghost use Rattle.shared_memory.specs.Seen.{IsSingle};
-ghost use Rattle.guest_family.specs.Kin.{AreHouses, AreSpares, IsReady, heads_of, spares_of};
+ghost use Rattle.guest_family.specs.Kin.{AreSpares, AreStarters, IsReady, heads_of, spares_of};
 ghost use Rattle.guest_family.specs.Left.{AreLeft};
 
 use a32_step::Code;
@@ -24,7 +24,7 @@ pub struct Spare<'i, P> {
 
 /// A thread that begins by itself, with the threads that it may start in order of number, and room for the ends of all of them.
 #[derive(Drop)]
-pub struct House<'i, P> {
+pub struct Starter<'i, P> {
     pub job: Job<'i, P>,
     pub spares: Vec<Spare<'i, P>>,
     pub ends: Vec<GuestEnd>,
@@ -33,8 +33,8 @@ pub struct House<'i, P> {
 /// All threads of a memory, each of the first with those that it may start, with room for their ends.
 #[derive(Drop)]
 pub struct Kin<'i, P> {
-    pub(crate) first: House<'i, P>,
-    pub(crate) others: Vec<House<'i, P>>,
+    pub(crate) first: Starter<'i, P>,
+    pub(crate) others: Vec<Starter<'i, P>>,
     pub(crate) ends: Vec<GuestEnd>,
     pub(crate) children: Vec<GuestEnd>,
 }
@@ -77,49 +77,49 @@ fn spares_from<'i, M: StartMemory>(
 }
 
 /// A thread that begins by itself, with those that it may start, and room for their ends.
-fn house_of<'i, P: Drop>(
+fn starter_of<'i, P: Drop>(
     alloc: Global,
     job: Job<'i, P>,
     spares: Vec<Spare<'i, P>>,
-) -> Result<House<'i, P>, AllocError>
-    ensures job { IfOk result (λ house. house.job ≡ job.entry) }
-    ensures spares { IfOk result (λ house. house.spares ≡ spares.entry) }
-    ensures empty { IfOk result (λ house. (house.ends.items ≡ []) × (vec_len house.ends ≡ 0)) }
-    ensures room { IfOk result (λ house. vec_len spares.entry ≤ vec_capacity house.ends) }
+) -> Result<Starter<'i, P>, AllocError>
+    ensures job { IfOk result (λ starter. starter.job ≡ job.entry) }
+    ensures spares { IfOk result (λ starter. starter.spares ≡ spares.entry) }
+    ensures empty { IfOk result (λ starter. (starter.ends.items ≡ []) × (vec_len starter.ends ≡ 0)) }
+    ensures room { IfOk result (λ starter. vec_len spares.entry ≤ vec_capacity starter.ends) }
 {
     let ends = Vec::with_capacity(alloc, spares.len())?;
-    Ok(House { job, spares, ends })
+    Ok(Starter { job, spares, ends })
 }
 
 /// Those of all first threads but thread 0, each with as many as are spare.
-fn other_houses<'i, M: StartMemory>(
+fn other_starters<'i, M: StartMemory>(
     alloc: Global,
     mem: &M,
     image: &'i Image,
     first: &mut M::Pass,
     heads: u32,
     spare: u32,
-) -> Result<Vec<House<'i, M::Pass>>, AllocError>
+) -> Result<Vec<Starter<'i, M::Pass>>, AllocError>
     requires numbers { (heads ≡ (M.origin mem.now).first) × (spare ≡ (M.origin mem.now).spare) × (1 ≤ heads) × (heads * (1 + spare) ≡ (M.origin mem.now).size.threads) }
     requires few { (M.origin mem.now).size.threads ≤ 16 }
     requires memory { M.home first.old ≡ M.id mem.now }
     requires left { AreLeft (M.origin mem.now).first (M.origin mem.now).size.threads 1 ((M.origin mem.now).first + (M.origin mem.now).spare) (M.numbers first.old) }
     requires none { (t : ℕ) → entries_of t (M.seen first.old) ≡ [] }
-    ensures houses { IfOk result (λ houses. AreHouses M.home M.numbers M.seen (M.id mem.now) (M.origin mem.now) image.now houses.items) }
-    ensures threads { IfOk result (λ houses. heads_of houses.items ≡ range_with_len 1 (vec_len houses)) }
-    ensures len { IfOk result (λ houses. vec_len houses + 1 ≡ heads) }
+    ensures starters { IfOk result (λ starters. AreStarters M.home M.numbers M.seen (M.id mem.now) (M.origin mem.now) image.now starters.items) }
+    ensures threads { IfOk result (λ starters. heads_of starters.items ≡ range_with_len 1 (vec_len starters)) }
+    ensures len { IfOk result (λ starters. vec_len starters + 1 ≡ heads) }
     ensures single { IfOk result (λ _. IsSingle 0 (M.numbers first.new)) }
     ensures memory { M.home first.new ≡ M.home first.old }
     ensures seen { M.seen first.new ≡ M.seen first.old }
 {
-    let mut houses = Vec::with_capacity(alloc, heads as usize)?;
+    let mut starters = Vec::with_capacity(alloc, heads as usize)?;
     for t in 1..heads {
         let pass = mem.split(first, t);
         let job = job_of(alloc, mem, image, t, pass)?;
         let spares = spares_from(alloc, mem, image, first, heads + t * spare, spare)?;
-        houses.push(house_of(alloc, job, spares)?)?;
+        starters.push(starter_of(alloc, job, spares)?)?;
     }
-    Ok(houses)
+    Ok(starters)
 }
 
 /// All threads of a memory: those that begin by themselves, each with those that it may start, with what they need of memory, so
@@ -146,10 +146,10 @@ pub fn prepare_family<'i, M: StartMemory>(
     let ends = Vec::with_capacity(alloc, all as usize)?;
     let children = Vec::with_capacity(alloc, all as usize)?;
     let own = spares_from(alloc, mem, image, &mut first, heads, spare)?;
-    let others = other_houses(alloc, mem, image, &mut first, heads, spare)?;
+    let others = other_starters(alloc, mem, image, &mut first, heads, spare)?;
     let job = job_of(alloc, mem, image, 0, first)?;
     Ok(Kin {
-        first: house_of(alloc, job, own)?,
+        first: starter_of(alloc, job, own)?,
         others,
         ends,
         children,

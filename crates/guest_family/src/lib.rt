@@ -2,10 +2,10 @@
 #![tactic(auto)]
 
 mod families;
-mod houses;
 mod kin;
 pub mod laws;
 mod running;
+mod starters;
 
 pub use families::run_family;
-pub use kin::{House, Kin, Spare, prepare_family};
+pub use kin::{Kin, Spare, Starter, prepare_family};

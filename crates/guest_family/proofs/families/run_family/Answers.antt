@@ -11,33 +11,33 @@ use Rattle.guest_family.proofs.families.run_family.Goals as goal
 pub returns-clause-ends : goal.returns-clause-ends
 returns-clause-ends g c =
     let origin = g.M.SharedMemory.origin c.args.mem.now in
-    let history = g.M.SharedMemory.seen c.run_houses-pass.result.pass in
-    let lived = c.run_houses-pass.ensures.lived in
+    let history = g.M.SharedMemory.seen c.run_starters-pass.result.pass in
+    let ended = c.run_starters-pass.ensures.ended in
     subst (AreBegunEnds c.args.image.now origin.size origin.first origin.spare c.args.budget history) (sym c.all_ends.ensures.items)
-    (are_begun c.args.image.now origin c.args.budget history (heads_of (c.args.kin.first ∷ c.args.kin.others.items)) c.run_houses-pass.result.ends.items c.run_houses-pass.result.children.items
-    c.requires.kin.threads lived.heads lived.children)
+    (are_begun c.args.image.now origin c.args.budget history (heads_of (c.args.kin.first ∷ c.args.kin.others.items)) c.run_starters-pass.result.ends.items c.run_starters-pass.result.children.items
+    c.requires.kin.threads ended.heads ended.children)
 
 pub returns-clause-spends : goal.returns-clause-spends
 returns-clause-spends g c =
     let origin = g.M.SharedMemory.origin c.args.mem.now in
-    let lived = c.run_houses-pass.ensures.lived in
+    let ended = c.run_starters-pass.ensures.ended in
     subst (All (λ (end : GuestEnd). (addr : ℕ) → end.stop ≡ TagLimit addr → origin.spends ≡ true)) (sym c.all_ends.ensures.items)
-    (all_hold c.args.image.now origin c.args.budget (g.M.SharedMemory.seen c.run_houses-pass.result.pass) (λ (end : GuestEnd). (addr : ℕ) → end.stop ≡ TagLimit addr → origin.spends ≡ true)
-    (heads_of (c.args.kin.first ∷ c.args.kin.others.items)) c.run_houses-pass.result.ends.items c.run_houses-pass.result.children.items (λ t start end is. is.spends) lived.heads lived.children)
+    (all_hold c.args.image.now origin c.args.budget (g.M.SharedMemory.seen c.run_starters-pass.result.pass) (λ (end : GuestEnd). (addr : ℕ) → end.stop ≡ TagLimit addr → origin.spends ≡ true)
+    (heads_of (c.args.kin.first ∷ c.args.kin.others.items)) c.run_starters-pass.result.ends.items c.run_starters-pass.result.children.items (λ t start end is. is.spends) ended.heads ended.children)
 
 pub returns-clause-few : goal.returns-clause-few
 returns-clause-few g c =
     let origin = g.M.SharedMemory.origin c.args.mem.now in
-    let lived = c.run_houses-pass.ensures.lived in
+    let ended = c.run_starters-pass.ensures.ended in
     subst (All (λ (end : GuestEnd). accesses_counted (counts_in end) < 2 ^ 45)) (sym c.all_ends.ensures.items)
-    (all_hold c.args.image.now origin c.args.budget (g.M.SharedMemory.seen c.run_houses-pass.result.pass) (λ (end : GuestEnd). accesses_counted (counts_in end) < 2 ^ 45)
-    (heads_of (c.args.kin.first ∷ c.args.kin.others.items)) c.run_houses-pass.result.ends.items c.run_houses-pass.result.children.items (λ t start end is. is.few) lived.heads lived.children)
+    (all_hold c.args.image.now origin c.args.budget (g.M.SharedMemory.seen c.run_starters-pass.result.pass) (λ (end : GuestEnd). accesses_counted (counts_in end) < 2 ^ 45)
+    (heads_of (c.args.kin.first ∷ c.args.kin.others.items)) c.run_starters-pass.result.ends.items c.run_starters-pass.result.children.items (λ t start end is. is.few) ended.heads ended.children)
 
 pub returns-clause-many : goal.returns-clause-many
 returns-clause-many g c =
     let origin = g.M.SharedMemory.origin c.args.mem.now in
-    let heads = c.run_houses-pass.ensures.ends_len in
-    let children = c.run_houses-pass.ensures.children_len in
+    let heads = c.run_starters-pass.ensures.ends_len in
+    let children = c.run_starters-pass.ensures.children_len in
     let many = c.requires.kin.many in
     let times : (vec_len c.args.kin.others + 1) * origin.spare ≡ origin.first * origin.spare = ap (λ (n : ℕ). n * origin.spare) many in
     let all = c.requires.kin.first.all in
@@ -47,6 +47,6 @@ returns-clause-many g c =
 pub returns-clause-numbers : goal.returns-clause-numbers
 returns-clause-numbers g c u below =
     let origin = g.M.SharedMemory.origin c.args.mem.now in
-    let lived = c.run_houses-pass.ensures.lived in
-    all_numbers (g.M.SharedMemory.numbers c.run_houses-pass.result.pass) origin.first origin.spare origin.size.threads u (heads_of (c.args.kin.first ∷ c.args.kin.others.items)) c.requires.kin.threads
-    lived.own lived.taken c.requires.kin.first.all below
+    let ended = c.run_starters-pass.ensures.ended in
+    all_numbers (g.M.SharedMemory.numbers c.run_starters-pass.result.pass) origin.first origin.spare origin.size.threads u (heads_of (c.args.kin.first ∷ c.args.kin.others.items)) c.requires.kin.threads
+    ended.own ended.taken c.requires.kin.first.all below

@@ -7,15 +7,15 @@ use Rattle.llsc_base.specs.Images.{Program}
 use Rattle.history.specs.declared.entry.Entry.{Entry}
 use Rattle.shared_memory.specs.Seen.{IsFront, IsOneOf, SaysAllOf, joint}
 use Rattle.guest_thread.specs.Crews.{AreTaken}
+use Rattle.guest_family.specs.EndedStarters.{IsLater}
 use Rattle.guest_family.specs.Kin.{AreSpares, IsSpare, spares_of}
-use Rattle.guest_family.specs.Lived.{IsLater}
 use Rattle.guest_family.specs.declared.kin.Spare.{Spare}
 use Rattle.guest_family.proofs.Combined.{joint_left, joint_right, taken_by}
 use Rattle.guest_family.proofs.GoingOn.{front_on}
 
 module _ {P : Type 0} (home : P → TableId) (numbers : P → ℕ → Bool) (seen : P → List Entry) where
   -- the first pass has gone on, and holds the number of one thread and those of all others but of those that are left
-  pub record IsLetGo (mem : TableId) (first : P) (thread : ℕ) (all left : List (Spare P)) (now : P) : Type 0 where
+  pub record HasJoined (mem : TableId) (first : P) (thread : ℕ) (all left : List (Spare P)) (now : P) : Type 0 where
     pub memory : home now ≡ mem
     pub later : IsLater home numbers seen first now
     pub rest : List ℕ
@@ -37,10 +37,10 @@ module _ {P : Type 0} (home : P → TableId) (numbers : P → ℕ → Bool) (see
   pub later_none : (first : P) → IsLater home numbers seen first first
   later_none first = record { memory = refl; holds = λ u had. had; front = ([], sym (append-nil (seen first))); says = λ u had. refl }
 
-  pub one_gone : (mem : TableId) (program : Program) (first new : P) (spare : Spare P) (all : List (Spare P)) → home first ≡ mem
+  pub one_joined : (mem : TableId) (program : Program) (first new : P) (spare : Spare P) (all : List (Spare P)) → home first ≡ mem
       → AreSpares home numbers seen mem program (spare ∷ all) → home new ≡ home first → numbers new ≡ joint (numbers first) (numbers spare.pass)
-      → IsFront (seen first) (seen new) → SaysAllOf (numbers first) (seen first) (seen new) → IsLetGo mem first spare.thread all all new
-  one_gone mem program first new spare all here are memory joined front says = record {
+      → IsFront (seen first) (seen new) → SaysAllOf (numbers first) (seen first) (seen new) → HasJoined mem first spare.thread all all new
+  one_joined mem program first new spare all here are memory joined front says = record {
     memory = memory ∙ here;
     later = later_more first first spare.pass new (later_none first) memory joined front says;
     rest = [];
@@ -63,10 +63,10 @@ module _ {P : Type 0} (home : P → TableId) (numbers : P → ℕ → Bool) (see
       → home last.pass ≡ mem
   last_spare mem program spares rest last is are = (before_last mem program spares rest last is are).1.memory
 
-  pub another_gone : (mem : TableId) (first old new : P) (thread : ℕ) (all left rest : List (Spare P)) (last : Spare P) → IsLetGo mem first thread all left old
+  pub another_joined : (mem : TableId) (first old new : P) (thread : ℕ) (all left rest : List (Spare P)) (last : Spare P) → HasJoined mem first thread all left old
       → left ≡ rest ++ last ∷ [] → home new ≡ home old → numbers new ≡ joint (numbers old) (numbers last.pass)
-      → IsFront (seen old) (seen new) → SaysAllOf (numbers old) (seen old) (seen new) → IsLetGo mem first thread all rest new
-  another_gone mem first old new thread all left rest last is parts memory joined front says =
+      → IsFront (seen old) (seen new) → SaysAllOf (numbers old) (seen old) (seen new) → HasJoined mem first thread all rest new
+  another_joined mem first old new thread all left rest last is parts memory joined front says =
       let spares = before_last mem is.program left rest last parts is.spares in
       let keeps : (u : ℕ) → IsOneOf u (numbers old) → IsOneOf u (numbers new) = λ u had. joint_left (numbers old) (numbers last.pass) (numbers new) u joined had in
       let held = taken_by (numbers old) (numbers new) (thread ∷ is.rest) keeps is.taken in
@@ -84,8 +84,8 @@ module _ {P : Type 0} (home : P → TableId) (numbers : P → ℕ → Bool) (see
         spares = spares.0;
       }
 
-  pub all_gone : (mem : TableId) (first now : P) (thread : ℕ) (all left : List (Spare P)) → IsLetGo mem first thread all left now → left ≡ []
+  pub all_joined : (mem : TableId) (first now : P) (thread : ℕ) (all left : List (Spare P)) → HasJoined mem first thread all left now → left ≡ []
       → AreTaken (numbers now) (thread ∷ spares_of all)
-  all_gone mem first now thread all left is none =
+  all_joined mem first now thread all left is none =
       let rest : spares_of all ≡ is.rest = is.are ∙ ap (λ (ss : List (Spare P)). spares_of ss ++ is.rest) none in
       subst (λ (ns : List ℕ). AreTaken (numbers now) (thread ∷ ns)) (sym rest) is.taken

@@ -1,6 +1,6 @@
--- One house fewer each time.
+-- One starter fewer each time.
 use Rattle.std.proofs.Common.{◌+◌, ◌*◌, vec_len}
-use Rattle.guest_family.proofs.families.+houses.Given as goal
+use Rattle.guest_family.proofs.families.+starters.Given as goal
 
 abbrev pub decreases-run_both-join+arg2 : goal.decreases-run_both-join+arg2
 decreases-run_both-join+arg2 g l = 3 * vec_len l.others + 1
@@ -8,5 +8,5 @@ decreases-run_both-join+arg2 g l = 3 * vec_len l.others + 1
 abbrev pub decreases-run_both : goal.decreases-run_both
 decreases-run_both g l = 3 * vec_len l.others + 2
 
-abbrev pub decreases-run_houses : goal.decreases-run_houses
-decreases-run_houses g l = 3 * vec_len l.others
+abbrev pub decreases-run_starters : goal.decreases-run_starters
+decreases-run_starters g l = 3 * vec_len l.others

@@ -26,16 +26,16 @@ use Rattle.guest_thread.specs.StockRun.{Comes, begins_so}
 use Rattle.guest_thread.specs.declared.ends.GuestEnd.{GuestEnd}
 use Rattle.guest_thread.specs.declared.gathering.Ran.{Ran}
 use Rattle.guest_thread.specs.declared.running.Finished.{Finished}
-use Rattle.guest_family.specs.Kin.{AreSpares, IsHouse, IsSpare, own_numbers, spares_of}
-use Rattle.guest_family.specs.Lived.{AreChildren, HasBranched, HasLived, IsLater, IsLiving, start_of}
+use Rattle.guest_family.specs.EndedStarters.{AreChildren, HasBranched, HasEndedWithAll, IsLater, IsStarterPart, next_start}
+use Rattle.guest_family.specs.Kin.{AreSpares, IsStarter, IsSpare, own_numbers, spares_of}
 use Rattle.guest_family.specs.Next.{HasNoneLeft}
 use Rattle.guest_family.specs.UnderWay.{HasCalled, HasEnded, IsEndFrom, IsUnderWay}
-use Rattle.guest_family.specs.declared.houses.Lived.{Lived}
-use Rattle.guest_family.specs.declared.houses.Living.{Living}
-use Rattle.guest_family.specs.declared.kin.House.{House}
 use Rattle.guest_family.specs.declared.kin.Spare.{Spare}
+use Rattle.guest_family.specs.declared.kin.Starter.{Starter}
+use Rattle.guest_family.specs.declared.starters.StarterEnd.{StarterEnd}
+use Rattle.guest_family.specs.declared.starters.StarterPart.{StarterPart}
 use Rattle.guest_thread.specs.declared.pieces.Part.{Part}
-use Rattle.guest_family.proofs.Combined.{lived_more}
+use Rattle.guest_family.proofs.Combined.{ended_more}
 use Rattle.guest_family.proofs.GoingOn.{front_on}
 use Rattle.guest_family.proofs.Later.{end_later, same_starts}
 
@@ -96,21 +96,21 @@ module _ {P : Type 0} (home : P → TableId) (numbers : P → ℕ → Bool) (see
       subst (IsUnderWay home numbers seen mem origin program budget t start) (sym first) (begins_under start pass memory single acts none rests)
 
   -- one of the first at its start
-  pub house_living : (house : House P) (part : Part P) → IsHouse home numbers seen mem origin program house → house.job.thread ≡ t
-      → part ≡ record { cpu = house.job.cpu; pass = house.job.pass; out = house.job.out; steps = 0; reads = 0; writes = 0; fails = 0 }
-      → IsLiving home numbers seen mem origin program budget t (record { part = part; code = house.job.code; spares = house.spares; ends = house.ends })
-  house_living house part is thread begun =
-      let single : IsSingle t (numbers house.job.pass) = subst (λ (u : ℕ). IsSingle u (numbers house.job.pass)) thread is.job.single in
-      let none : entries_of t (seen house.job.pass) ≡ [] = subst (λ (u : ℕ). entries_of u (seen house.job.pass) ≡ []) thread is.job.none in
+  pub starter_begins : (starter : Starter P) (part : Part P) → IsStarter home numbers seen mem origin program starter → starter.job.thread ≡ t
+      → part ≡ record { cpu = starter.job.cpu; pass = starter.job.pass; out = starter.job.out; steps = 0; reads = 0; writes = 0; fails = 0 }
+      → IsStarterPart home numbers seen mem origin program budget t (record { part = part; code = starter.job.code; spares = starter.spares; ends = starter.ends })
+  starter_begins starter part is thread begun =
+      let single : IsSingle t (numbers starter.job.pass) = subst (λ (u : ℕ). IsSingle u (numbers starter.job.pass)) thread is.job.single in
+      let none : entries_of t (seen starter.job.pass) ≡ [] = subst (λ (u : ℕ). entries_of u (seen starter.job.pass) ≡ []) thread is.job.none in
       let below : t < origin.first = subst (λ (u : ℕ). u < origin.first) thread is.job.first in
-      let cpu : house.job.cpu ≡ thread_start program origin.size origin.first t = is.job.start ∙ ap (thread_start program origin.size origin.first) thread in
-      let pass : part.pass ≡ house.job.pass = ap (λ p. p.pass) begun in
+      let cpu : starter.job.cpu ≡ thread_start program origin.size origin.first t = is.job.start ∙ ap (thread_start program origin.size origin.first) thread in
+      let pass : part.pass ≡ starter.job.pass = ap (λ p. p.pass) begun in
       let started : starts_of t (seen part.pass) ≡ 0 =
-      ap (λ (p : P). starts_of t (seen p)) pass ∙ sym (starts_from-length t 0 (seen house.job.pass)) ∙ ap length (none_started t (seen house.job.pass) none) in
+      ap (λ (p : P). starts_of t (seen p)) pass ∙ sym (starts_from-length t 0 (seen starter.job.pass)) ∙ ap length (none_started t (seen starter.job.pass) none) in
       let many = is.many in
       record {
         first = below;
-        goes = under_at_start (thread_start program origin.size origin.first t) part house.job.cpu house.job.pass house.job.out begun cpu is.job.empty is.job.memory single (inl below) none refl;
+        goes = under_at_start (thread_start program origin.size origin.first t) part starter.job.cpu starter.job.pass starter.job.out begun cpu is.job.empty is.job.memory single (inl below) none refl;
         code = is.job.code;
         spares = is.spares;
         threads = is.threads ∙ ap (λ (u : ℕ). range_with_len (child_of origin.first origin.spare u 0) origin.spare) thread
@@ -123,32 +123,32 @@ module _ {P : Type 0} (home : P → TableId) (numbers : P → ℕ → Bool) (see
       }
 
   -- and at its end
-  pub house_lived : (house : House P) (part : Part P) (lived : Lived P) → IsHouse home numbers seen mem origin program house → house.job.thread ≡ t
-      → part.pass ≡ house.job.pass
-      → HasLived home numbers seen mem origin program budget t (starts_in t (seen part.pass)) (spares_of house.spares.items) lived
-      → HasLived home numbers seen mem origin program budget t [] (own_numbers origin.first origin.spare t) lived
-  house_lived house part lived is thread pass has =
-      let none : entries_of t (seen house.job.pass) ≡ [] = subst (λ (u : ℕ). entries_of u (seen house.job.pass) ≡ []) thread is.job.none in
-      let starts : starts_in t (seen part.pass) ≡ [] = ap (λ (p : P). starts_in t (seen p)) pass ∙ none_started t (seen house.job.pass) none in
-      subst (λ (us : List ℕ). HasLived home numbers seen mem origin program budget t [] us lived) (is.threads ∙ ap (own_numbers origin.first origin.spare) thread)
-      (subst (λ (ss : List Started). HasLived home numbers seen mem origin program budget t ss (spares_of house.spares.items) lived) starts has)
+  pub starter_ends : (starter : Starter P) (part : Part P) (ended : StarterEnd P) → IsStarter home numbers seen mem origin program starter → starter.job.thread ≡ t
+      → part.pass ≡ starter.job.pass
+      → HasEndedWithAll home numbers seen mem origin program budget t (starts_in t (seen part.pass)) (spares_of starter.spares.items) ended
+      → HasEndedWithAll home numbers seen mem origin program budget t [] (own_numbers origin.first origin.spare t) ended
+  starter_ends starter part ended is thread pass has =
+      let none : entries_of t (seen starter.job.pass) ≡ [] = subst (λ (u : ℕ). entries_of u (seen starter.job.pass) ≡ []) thread is.job.none in
+      let starts : starts_in t (seen part.pass) ≡ [] = ap (λ (p : P). starts_in t (seen p)) pass ∙ none_started t (seen starter.job.pass) none in
+      subst (λ (us : List ℕ). HasEndedWithAll home numbers seen mem origin program budget t [] us ended) (is.threads ∙ ap (own_numbers origin.first origin.spare) thread)
+      (subst (λ (ss : List Started). HasEndedWithAll home numbers seen mem origin program budget t ss (spares_of starter.spares.items) ended) starts has)
 
   -- ---- to its end
 
-  pub lived_alone : (living : Living P) (done : Finished P) (pass : P) → IsLiving home numbers seen mem origin program budget t living
-      → HasEnded home numbers seen mem origin program budget t (thread_start program origin.size origin.first t) living.part.pass done
-      → IsLater home numbers seen done.pass pass → AreTaken (numbers pass) (spares_of living.spares.items)
-      → HasLived home numbers seen mem origin program budget t (starts_in t (seen living.part.pass)) (spares_of living.spares.items)
-      (record { ran = record { pass = pass; ends = living.ends }; end = done.end })
-  lived_alone living done pass is ended later taken =
+  pub ended_alone : (starter : StarterPart P) (done : Finished P) (pass : P) → IsStarterPart home numbers seen mem origin program budget t starter
+      → HasEnded home numbers seen mem origin program budget t (thread_start program origin.size origin.first t) starter.part.pass done
+      → IsLater home numbers seen done.pass pass → AreTaken (numbers pass) (spares_of starter.spares.items)
+      → HasEndedWithAll home numbers seen mem origin program budget t (starts_in t (seen starter.part.pass)) (spares_of starter.spares.items)
+      (record { ran = record { pass = pass; ends = starter.ends }; end = done.end })
+  ended_alone starter done pass is ended later taken =
       let same = later.says t ended.single.has in
-      let none : reverse living.ends.items ≡ [] = ap reverse is.empty.0 in
+      let none : reverse starter.ends.items ≡ [] = ap reverse is.empty.0 in
       record {
         memory = later.memory ∙ ended.memory;
         own = later.holds t ended.single.has;
         taken = taken;
         more = [];
-        starts = same_starts t (seen done.pass) (seen pass) same ∙ ended.same ∙ sym (append-nil (starts_in t (seen living.part.pass)));
+        starts = same_starts t (seen done.pass) (seen pass) same ∙ ended.same ∙ sym (append-nil (starts_in t (seen starter.part.pass)));
         head = end_later program origin budget t (thread_start program origin.size origin.first t) (seen done.pass) (seen pass) done.end later.front same ended.end;
         children = subst (AreChildren program origin budget (seen pass) []) (sym none) tt;
         among = All-nil (λ u. IsOneOf u (numbers pass));
@@ -156,28 +156,28 @@ module _ {P : Type 0} (home : P → TableId) (numbers : P → ℕ → Bool) (see
 
   -- ---- to its next start
 
-  pub record IsNextSpare (living : Living P) (spare : Spare P) (rest : List (Spare P)) (len : ℕ) : Type 0 where
+  pub record IsNextSpare (starter : StarterPart P) (spare : Spare P) (rest : List (Spare P)) (len : ℕ) : Type 0 where
     pub is : IsSpare home numbers seen mem program spare
     pub others : AreSpares home numbers seen mem program rest
-    pub thread : spare.thread ≡ child_of origin.first origin.spare t (starts_of t (seen living.part.pass))
-    pub threads : spares_of rest ≡ range_with_len (child_of origin.first origin.spare t (starts_of t (seen living.part.pass)) + 1) len
-    pub few : starts_of t (seen living.part.pass) < origin.spare
+    pub thread : spare.thread ≡ child_of origin.first origin.spare t (starts_of t (seen starter.part.pass))
+    pub threads : spares_of rest ≡ range_with_len (child_of origin.first origin.spare t (starts_of t (seen starter.part.pass)) + 1) len
+    pub few : starts_of t (seen starter.part.pass) < origin.spare
     pub first : origin.first ≤ spare.thread
     pub below : spare.thread < origin.size.threads
 
-  pub next_spare : (living : Living P) (spare : Spare P) (rest : List (Spare P)) (len : ℕ) → IsLiving home numbers seen mem origin program budget t living
-      → living.spares.items ≡ spare ∷ rest → vec_len living.spares ≡ len + 1 → IsNextSpare living spare rest len
-  next_spare living spare rest len is items longer =
-      let number = child_of origin.first origin.spare t (starts_of t (seen living.part.pass)) in
+  pub next_spare : (starter : StarterPart P) (spare : Spare P) (rest : List (Spare P)) (len : ℕ) → IsStarterPart home numbers seen mem origin program budget t starter
+      → starter.spares.items ≡ spare ∷ rest → vec_len starter.spares ≡ len + 1 → IsNextSpare starter spare rest len
+  next_spare starter spare rest len is items longer =
+      let number = child_of origin.first origin.spare t (starts_of t (seen starter.part.pass)) in
       let are = subst (AreSpares home numbers seen mem program) items is.spares in
-      let count : vec_len living.spares ≡ suc len = omega (arith, longer) in
+      let count : vec_len starter.spares ≡ suc len = omega (arith, longer) in
       let row : spare.thread ∷ spares_of rest ≡ number ∷ range_with_len (number + 1) len =
       sym (ap spares_of items) ∙ is.threads ∙ ap (range_with_len number) count in
       let thread : spare.thread ≡ number = cc in
       let threads : spares_of rest ≡ range_with_len (number + 1) len = cc in
       let many = is.many in
-      let few : starts_of t (seen living.part.pass) < origin.spare = omega (arith, many, longer) in
-      let below = child-below origin.first origin.spare t (starts_of t (seen living.part.pass)) is.first few in
+      let few : starts_of t (seen starter.part.pass) < origin.spare = omega (arith, many, longer) in
+      let below = child-below origin.first origin.spare t (starts_of t (seen starter.part.pass)) is.first few in
       let all = is.all in
       record {
         is = are.0;
@@ -190,7 +190,7 @@ module _ {P : Type 0} (home : P → TableId) (numbers : P → ℕ → Bool) (see
       }
 
   -- at its call it has a number left
-  pub called_few : (old : Living P) (spare : Spare P) (rest : List (Spare P)) (len : ℕ) (called : Part P) (entry arg : ℕ) → IsNextSpare old spare rest len
+  pub called_few : (old : StarterPart P) (spare : Spare P) (rest : List (Spare P)) (len : ℕ) (called : Part P) (entry arg : ℕ) → IsNextSpare old spare rest len
       → HasCalled home numbers seen mem origin program budget t (thread_start program origin.size origin.first t) old.part.pass called entry arg
       → starts_of t (seen called.pass) < origin.spare
   called_few old spare rest len called entry arg next is =
@@ -200,27 +200,27 @@ module _ {P : Type 0} (home : P → TableId) (numbers : P → ℕ → Bool) (see
       omega (arith, same, few)
 
   -- what it has started by a call that was answered so
-  module _ (old new : Living P) (spare : Spare P) (called : Part P) (entry arg : ℕ)
+  module _ (old new : StarterPart P) (spare : Spare P) (called : Part P) (entry arg : ℕ)
       (next : IsNextSpare old spare new.spares.items (vec_len new.spares))
       (is_called : HasCalled home numbers seen mem origin program budget t (thread_start program origin.size origin.first t) old.part.pass called entry arg)
-      (starts : starts_in t (seen new.part.pass) ≡ starts_in t (seen called.pass) ++ start_of origin t (seen called.pass) entry arg ∷ []) where
+      (starts : starts_in t (seen new.part.pass) ≡ starts_in t (seen called.pass) ++ next_start origin t (seen called.pass) entry arg ∷ []) where
     same_count : starts_of t (seen called.pass) ≡ starts_of t (seen old.part.pass)
     same_count = sym (starts_from-length t 0 (seen called.pass)) ∙ ap length is_called.same ∙ starts_from-length t 0 (seen old.part.pass)
 
     one_more : starts_of t (seen new.part.pass) ≡ starts_of t (seen old.part.pass) + 1
     one_more =
         let longer : length (starts_in t (seen new.part.pass)) ≡ length (starts_in t (seen called.pass)) + 1 =
-        ap length starts ∙ length-append (starts_in t (seen called.pass)) (start_of origin t (seen called.pass) entry arg ∷ []) in
+        ap length starts ∙ length-append (starts_in t (seen called.pass)) (next_start origin t (seen called.pass) entry arg ∷ []) in
         let before = starts_from-length t 0 (seen called.pass) in
         let after = starts_from-length t 0 (seen new.part.pass) in
         let same = same_count in
         omega (arith, longer, before, after, same)
 
-    pub living_on : IsLiving home numbers seen mem origin program budget t old
+    pub part_left : IsStarterPart home numbers seen mem origin program budget t old
         → IsUnderWay home numbers seen mem origin program budget t (thread_start program origin.size origin.first t) new.part
         → new.code.program ≡ program → new.ends ≡ old.ends → vec_len old.spares ≡ vec_len new.spares + 1
-        → IsLiving home numbers seen mem origin program budget t new
-    living_on is goes code ends longer =
+        → IsStarterPart home numbers seen mem origin program budget t new
+    part_left is goes code ends longer =
         let number : child_of origin.first origin.spare t (starts_of t (seen old.part.pass)) + 1 ≡ child_of origin.first origin.spare t (starts_of t (seen new.part.pass)) =
         let more = one_more in omega (arith, more) in
         let many = is.many in
@@ -238,7 +238,7 @@ module _ {P : Type 0} (home : P → TableId) (numbers : P → ℕ → Bool) (see
           room = subst (λ (es : Vec GuestEnd Global). vec_len new.spares ≤ vec_capacity es) (sym ends) (omega (arith, room, longer));
         }
 
-    pub branched : IsLiving home numbers seen mem origin program budget t old
+    pub branched : IsStarterPart home numbers seen mem origin program budget t old
         → IsUnderWay home numbers seen mem origin program budget t (thread_start program origin.size origin.first t) new.part
         → new.code.program ≡ program → new.ends ≡ old.ends → vec_len old.spares ≡ vec_len new.spares + 1 → old.spares.items ≡ spare ∷ new.spares.items
         → IsFront (seen called.pass) (seen new.part.pass)
@@ -247,32 +247,32 @@ module _ {P : Type 0} (home : P → TableId) (numbers : P → ℕ → Bool) (see
         let thread : child_of origin.first origin.spare t (starts_of t (seen called.pass)) ≡ spare.thread =
         ap (child_of origin.first origin.spare t) same_count ∙ sym next.thread in
         record {
-          goes = living_on is goes code ends longer;
+          goes = part_left is goes code ends longer;
           place = made_by t (seen called.pass);
-          starts = starts ∙ ap (λ (ss : List Started). ss ++ start_of origin t (seen called.pass) entry arg ∷ []) is_called.same
+          starts = starts ∙ ap (λ (ss : List Started). ss ++ next_start origin t (seen called.pass) entry arg ∷ []) is_called.same
               ∙ ap (λ (u : ℕ). starts_in t (seen old.part.pass) ++ record { child = u; entry = entry; arg = arg; place = made_by t (seen called.pass) } ∷ []) thread;
           spares = ap spares_of items;
           front = front_on (seen old.part.pass) (seen called.pass) (seen new.part.pass) is_called.front front;
         }
 
   -- what is left of a thread, and one that it has started, make the thread
-  pub lived_on : (old new : Living P) (spare : Spare P) (entry arg : ℕ) (lived : Lived P) (done : Finished P) (ran : Ran P)
+  pub ended_on : (old new : StarterPart P) (spare : Spare P) (entry arg : ℕ) (ended : StarterEnd P) (done : Finished P) (ran : Ran P)
       → HasBranched home numbers seen mem origin program budget t old new spare entry arg
-      → HasLived home numbers seen mem origin program budget t (starts_in t (seen new.part.pass)) (spares_of new.spares.items) lived
-      × IsFront (seen new.part.pass) (seen lived.ran.pass)
+      → HasEndedWithAll home numbers seen mem origin program budget t (starts_in t (seen new.part.pass)) (spares_of new.spares.items) ended
+      × IsFront (seen new.part.pass) (seen ended.ran.pass)
       → IsEndFrom program origin budget spare.thread (child_start origin.size spare.thread entry arg) (seen done.pass) done.end
       → IsOneOf spare.thread (numbers done.pass)
-      → home ran.pass ≡ mem → numbers ran.pass ≡ joint (numbers lived.ran.pass) (numbers done.pass)
-      → IsFront (seen lived.ran.pass) (seen ran.pass) × IsFront (seen done.pass) (seen ran.pass)
-      → SaysAllOf (numbers lived.ran.pass) (seen lived.ran.pass) (seen ran.pass) → SaysAllOf (numbers done.pass) (seen done.pass) (seen ran.pass)
-      → ran.ends.items ≡ lived.ran.ends.items ++ done.end ∷ []
-      → HasLived home numbers seen mem origin program budget t (starts_in t (seen old.part.pass)) (spares_of old.spares.items) (record { ran = ran; end = lived.end })
+      → home ran.pass ≡ mem → numbers ran.pass ≡ joint (numbers ended.ran.pass) (numbers done.pass)
+      → IsFront (seen ended.ran.pass) (seen ran.pass) × IsFront (seen done.pass) (seen ran.pass)
+      → SaysAllOf (numbers ended.ran.pass) (seen ended.ran.pass) (seen ran.pass) → SaysAllOf (numbers done.pass) (seen done.pass) (seen ran.pass)
+      → ran.ends.items ≡ ended.ran.ends.items ++ done.end ∷ []
+      → HasEndedWithAll home numbers seen mem origin program budget t (starts_in t (seen old.part.pass)) (spares_of old.spares.items) (record { ran = ran; end = ended.end })
       × IsFront (seen old.part.pass) (seen ran.pass)
-  lived_on old new spare entry arg lived done ran branch is child taken memory joined fronts mine yours ends =
+  ended_on old new spare entry arg ended done ran branch is child taken memory joined fronts mine yours ends =
       let one : Started = record { child = spare.thread; entry = entry; arg = arg; place = branch.place } in (
-        subst (λ (us : List ℕ). HasLived home numbers seen mem origin program budget t (starts_in t (seen old.part.pass)) us (record { ran = ran; end = lived.end })) (sym branch.spares)
-            (lived_more home numbers seen mem origin program budget t (starts_in t (seen old.part.pass)) one (spares_of new.spares.items) lived done ran
-            (subst (λ (ss : List Started). HasLived home numbers seen mem origin program budget t ss (spares_of new.spares.items) lived) branch.starts is.0)
+        subst (λ (us : List ℕ). HasEndedWithAll home numbers seen mem origin program budget t (starts_in t (seen old.part.pass)) us (record { ran = ran; end = ended.end })) (sym branch.spares)
+            (ended_more home numbers seen mem origin program budget t (starts_in t (seen old.part.pass)) one (spares_of new.spares.items) ended done ran
+            (subst (λ (ss : List Started). HasEndedWithAll home numbers seen mem origin program budget t ss (spares_of new.spares.items) ended) branch.starts is.0)
             child taken memory joined fronts mine yours ends),
-        front_on (seen old.part.pass) (seen lived.ran.pass) (seen ran.pass) (front_on (seen old.part.pass) (seen new.part.pass) (seen lived.ran.pass) branch.front is.1) fronts.0,
+        front_on (seen old.part.pass) (seen ended.ran.pass) (seen ran.pass) (front_on (seen old.part.pass) (seen new.part.pass) (seen ended.ran.pass) branch.front is.1) fronts.0,
       )

@@ -9,8 +9,8 @@ ghost use Rattle.a32_step.specs.Machine.{Machine, IsCalling};
 ghost use Rattle.guest_thread.specs.Begun.{child_start};
 ghost use Rattle.guest_thread.specs.Crews.{AreTaken};
 ghost use Rattle.guest_thread.specs.Start.{thread_start};
+ghost use Rattle.guest_family.specs.EndedStarters.{Branches, HasEndedWithAll, IfEnded, IfStarts, IsLater, IsStarterPart, LeavesRoom, next_start};
 ghost use Rattle.guest_family.specs.Kin.{AreSpares, IsSpare, spares_of};
-ghost use Rattle.guest_family.specs.Lived.{Branches, HasLived, IfEnded, IfStarts, IsLater, IsLiving, LeavesRoom, start_of};
 ghost use Rattle.guest_family.specs.UnderWay.{HasCalled, IsEndFrom, IsUnderWay};
 ghost use denote.Param.Send.{IsSync, IsSend};
 
@@ -26,7 +26,7 @@ use std::thread::{Threads, join};
 /// A thread that may start others under way: how far it has come, those that it may still start, in order of number, and room for
 /// the ends of all of them.
 #[derive(Drop)]
-pub(crate) struct Living<'i, P> {
+pub(crate) struct StarterPart<'i, P> {
     pub(crate) part: Part<P>,
     pub(crate) code: Code<'i>,
     pub(crate) spares: Vec<Spare<'i, P>>,
@@ -86,7 +86,7 @@ fn take_next<'i, P>(spares: &mut Vec<Spare<'i, P>>) -> Option<Spare<'i, P>>
 }
 
 /// Takes in the passes of threads that were never started.
-fn let_go<M: StartMemory>(
+fn join_unstarted<M: StartMemory>(
     mem: &M,
     mut pass: M::Pass,
     spare: Spare<M::Pass>,
@@ -114,7 +114,7 @@ fn started<M: StartMemory>(mem: &M, mut part: Part<M::Pass>, entry: u32, arg: u3
         → entry % 4 ≡ 0 → HasCalled M.home M.numbers M.seen (M.id mem.now) (M.origin mem.now) program budget t start old part entry arg
         → IsUnderWay M.home M.numbers M.seen (M.id mem.now) (M.origin mem.now) program budget t start result }
     ensures starts { (t : ℕ) → IsSingle t (M.numbers part.pass) → starts_in t (M.seen result.pass) ≡ starts_in t (M.seen part.pass)
-        ++ start_of (M.origin mem.now) t (M.seen part.pass) entry arg ∷ [] }
+        ++ next_start (M.origin mem.now) t (M.seen part.pass) entry arg ∷ [] }
     ensures front { IsFront (M.seen part.pass) (M.seen result.pass) }
 {
     let child = mem.start(&mut part.pass, entry, arg);
@@ -123,7 +123,7 @@ fn started<M: StartMemory>(mem: &M, mut part: Part<M::Pass>, entry: u32, arg: u3
 
 /// A thread that has started others, and how it and they ended: they from the last one back, with the pass of all of them.
 #[derive(Drop)]
-pub(crate) struct Lived<P> {
+pub(crate) struct StarterEnd<P> {
     pub(crate) ran: Ran<P>,
     pub(crate) end: GuestEnd,
 }
@@ -131,10 +131,10 @@ pub(crate) struct Lived<P> {
 /// What one of the first threads comes to.
 pub(crate) enum Branch<'i, P> {
     /// It has ended.
-    Ended(Lived<P>),
+    Ended(StarterEnd<P>),
     /// It has started another, at an address and with an argument: what is left of it, and what that one is to run with.
     Starts {
-        rest: Living<'i, P>,
+        rest: StarterPart<'i, P>,
         spare: Spare<'i, P>,
         entry: u32,
         arg: u32,
@@ -146,42 +146,42 @@ fn to_branch<'i, M: StartMemory, R: Wait>(
     rt: &R,
     mem: &M,
     image: &Image,
-    living: Living<'i, M::Pass>,
+    starter: StarterPart<'i, M::Pass>,
     budget: u64,
 ) -> Branch<'i, M::Pass>
-    requires living { (t : ℕ) × IsLiving M.home M.numbers M.seen (M.id mem.now) (M.origin mem.now) image.now budget t living }
+    requires starter { (t : ℕ) × IsStarterPart M.home M.numbers M.seen (M.id mem.now) (M.origin mem.now) image.now budget t starter }
     requires whole { length image.now.bytes ≡ (M.origin mem.now).size.mem }
     requires budget { budget ≤ most_budget }
-    ensures branches { (t : ℕ) → IsLiving M.home M.numbers M.seen (M.id mem.now) (M.origin mem.now) image.now budget t living.entry
-        → Branches M.home M.numbers M.seen (M.id mem.now) (M.origin mem.now) image.now budget t living.entry result }
-    ensures goes { IfStarts result (λ rest spare entry arg. (t : ℕ) × IsLiving M.home M.numbers M.seen (M.id mem.now) (M.origin mem.now) image.now budget t rest) }
+    ensures branches { (t : ℕ) → IsStarterPart M.home M.numbers M.seen (M.id mem.now) (M.origin mem.now) image.now budget t starter.entry
+        → Branches M.home M.numbers M.seen (M.id mem.now) (M.origin mem.now) image.now budget t starter.entry result }
+    ensures goes { IfStarts result (λ rest spare entry arg. (t : ℕ) × IsStarterPart M.home M.numbers M.seen (M.id mem.now) (M.origin mem.now) image.now budget t rest) }
     ensures spare { IfStarts result (λ rest spare entry arg. IsSpare M.home M.numbers M.seen (M.id mem.now) image.now spare) }
     ensures number { IfStarts result (λ rest spare entry arg. ((M.origin mem.now).first ≤ spare.thread) × (spare.thread < (M.origin mem.now).size.threads)) }
     ensures aligned { IfStarts result (λ rest spare entry arg. entry % 4 ≡ 0) }
-    ensures memory { IfEnded result (λ lived. M.home lived.ran.pass ≡ M.id mem.now) }
-    ensures room { LeavesRoom living.entry result }
+    ensures memory { IfEnded result (λ ended. M.home ended.ran.pass ≡ M.id mem.now) }
+    ensures room { LeavesRoom starter.entry result }
 {
-    let Living {
+    let StarterPart {
         part,
         mut code,
         mut spares,
         ends,
-    } = living;
+    } = starter;
     let Some(spare) = take_next(&mut spares) else {
         let Finished { pass, end } = run_out(rt, mem, &mut code, part, budget);
         let ran = Ran { pass, ends };
-        return Branch::Ended(Lived { ran, end });
+        return Branch::Ended(StarterEnd { ran, end });
     };
     match to_start(rt, mem, &mut code, part, budget) {
         Next::Ended(Finished { pass, end }) => {
-            let pass = let_go(mem, pass, spare, spares);
+            let pass = join_unstarted(mem, pass, spare, spares);
             let ran = Ran { pass, ends };
-            Branch::Ended(Lived { ran, end })
+            Branch::Ended(StarterEnd { ran, end })
         }
         Next::Calls { part, entry, arg } => {
             let part = started(mem, part, entry, arg);
             Branch::Starts {
-                rest: Living {
+                rest: StarterPart {
                     part,
                     code,
                     spares,
@@ -197,26 +197,26 @@ fn to_branch<'i, M: StartMemory, R: Wait>(
 
 /// Goes on with one of the first threads to its end. Each thread that it starts runs beside what is left of it, on another host
 /// thread.
-#[cycle(houses)]
-pub(crate) fn live<M: StartMemory, R: Threads + Wait + Sync>(
+#[cycle(starters)]
+pub(crate) fn run_on<M: StartMemory, R: Threads + Wait + Sync>(
     rt: &R,
     mem: &M,
     image: &Image,
-    living: Living<M::Pass>,
+    starter: StarterPart<M::Pass>,
     budget: u64,
-) -> Lived<M::Pass>
-    requires living { (t : ℕ) × IsLiving M.home M.numbers M.seen (M.id mem.now) (M.origin mem.now) image.now budget t living }
+) -> StarterEnd<M::Pass>
+    requires starter { (t : ℕ) × IsStarterPart M.home M.numbers M.seen (M.id mem.now) (M.origin mem.now) image.now budget t starter }
     requires whole { length image.now.bytes ≡ (M.origin mem.now).size.mem }
     requires budget { budget ≤ most_budget }
-    ensures lived { (t : ℕ) → IsLiving M.home M.numbers M.seen (M.id mem.now) (M.origin mem.now) image.now budget t living.entry
-        → HasLived M.home M.numbers M.seen (M.id mem.now) (M.origin mem.now) image.now budget t (starts_in t (M.seen living.entry.part.pass)) (spares_of living.entry.spares.items) result
-        × IsFront (M.seen living.entry.part.pass) (M.seen result.ran.pass) }
+    ensures ended { (t : ℕ) → IsStarterPart M.home M.numbers M.seen (M.id mem.now) (M.origin mem.now) image.now budget t starter.entry
+        → HasEndedWithAll M.home M.numbers M.seen (M.id mem.now) (M.origin mem.now) image.now budget t (starts_in t (M.seen starter.entry.part.pass)) (spares_of starter.entry.spares.items) result
+        × IsFront (M.seen starter.entry.part.pass) (M.seen result.ran.pass) }
     ensures memory { M.home result.ran.pass ≡ M.id mem.now }
-    ensures len { vec_len result.ran.ends ≤ vec_len living.entry.spares }
-    ensures capacity { vec_capacity living.entry.ends ≤ vec_capacity result.ran.ends }
+    ensures len { vec_len result.ran.ends ≤ vec_len starter.entry.spares }
+    ensures capacity { vec_capacity starter.entry.ends ≤ vec_capacity result.ran.ends }
 {
-    let (rest, spare, entry, arg) = match to_branch(rt, mem, image, living, budget) {
-        Branch::Ended(lived) => return lived,
+    let (rest, spare, entry, arg) = match to_branch(rt, mem, image, starter, budget) {
+        Branch::Ended(ended) => return ended,
         Branch::Starts {
             rest,
             spare,
@@ -224,17 +224,17 @@ pub(crate) fn live<M: StartMemory, R: Threads + Wait + Sync>(
             arg,
         } => (rest, spare, entry, arg),
     };
-    let (lived, done) = join(
+    let (ended, done) = join(
         rt,
-        move || -> Lived<M::Pass>
-            requires { IsSync R.row × ((t : ℕ) × IsLiving M.home M.numbers M.seen (M.id mem.now) (M.origin mem.now) image.now budget t rest)
+        move || -> StarterEnd<M::Pass>
+            requires { IsSync R.row × ((t : ℕ) × IsStarterPart M.home M.numbers M.seen (M.id mem.now) (M.origin mem.now) image.now budget t rest)
                 × (length image.now.bytes ≡ (M.origin mem.now).size.mem) × (budget ≤ most_budget) }
-            ensures { ((t : ℕ) → IsLiving M.home M.numbers M.seen (M.id mem.entry.now) (M.origin mem.entry.now) image.entry.now budget t rest.entry
-                → HasLived M.home M.numbers M.seen (M.id mem.entry.now) (M.origin mem.entry.now) image.entry.now budget t (starts_in t (M.seen rest.entry.part.pass)) (spares_of rest.entry.spares.items) result
+            ensures { ((t : ℕ) → IsStarterPart M.home M.numbers M.seen (M.id mem.entry.now) (M.origin mem.entry.now) image.entry.now budget t rest.entry
+                → HasEndedWithAll M.home M.numbers M.seen (M.id mem.entry.now) (M.origin mem.entry.now) image.entry.now budget t (starts_in t (M.seen rest.entry.part.pass)) (spares_of rest.entry.spares.items) result
                 × IsFront (M.seen rest.entry.part.pass) (M.seen result.ran.pass))
                 × (M.home result.ran.pass ≡ M.id mem.entry.now)
                 × (vec_len result.ran.ends ≤ vec_len rest.entry.spares) × (vec_capacity rest.entry.ends ≤ vec_capacity result.ran.ends) }
-        { live(rt, mem, image, rest, budget) },
+        { run_on(rt, mem, image, rest, budget) },
         move || -> Finished<M::Pass>
             requires { IsSpare M.home M.numbers M.seen (M.id mem.now) image.now spare
                 × (((M.origin mem.now).first ≤ spare.thread) × (spare.thread < (M.origin mem.now).size.threads)) × (entry % 4 ≡ 0)
@@ -243,8 +243,8 @@ pub(crate) fn live<M: StartMemory, R: Threads + Wait + Sync>(
                 × IsOneOf spare.entry.thread (M.numbers result.pass) × (M.home result.pass ≡ M.id mem.entry.now) }
         { run_child(rt, mem, image, spare, entry, arg, budget) },
     );
-    let Lived { ran, end } = lived;
-    Lived {
+    let StarterEnd { ran, end } = ended;
+    StarterEnd {
         ran: gather(mem, ran, done),
         end,
     }

@@ -3,8 +3,8 @@ use Rattle.llsc_base.specs.Images.{Program}
 use Rattle.shared_memory.specs.Seen.{IsSingle}
 use Rattle.guest_thread.specs.Begun.{child_start}
 use Rattle.guest_family.specs.UnderWay.{IsEndFrom}
-use Rattle.guest_family.proofs.Living.{none_later, under_at_start}
-use Rattle.guest_family.proofs.houses.run_child.Goals as goal
+use Rattle.guest_family.proofs.StarterParts.{none_later, under_at_start}
+use Rattle.guest_family.proofs.starters.run_child.Goals as goal
 
 pub run_out-requires-clause-goes : goal.run_out-requires-clause-goes
 run_out-requires-clause-goes g c κs outlives =

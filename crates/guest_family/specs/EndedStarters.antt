@@ -14,12 +14,12 @@ use Rattle.guest_thread.specs.Start.{thread_start}
 use Rattle.guest_thread.specs.declared.ends.GuestEnd.{GuestEnd}
 use Rattle.guest_family.specs.Kin.{AreSpares, own_numbers, spares_of}
 use Rattle.guest_family.specs.UnderWay.{IsEndFrom, IsUnderWay}
-use Rattle.guest_family.specs.declared.houses.Branch.{Branch}
-use Rattle.guest_family.specs.declared.houses.Branch.TheVariants.{Ended, Starts}
-use Rattle.guest_family.specs.declared.houses.Lived.{Lived}
-use Rattle.guest_family.specs.declared.houses.Living.{Living}
-use Rattle.guest_family.specs.declared.families.Grown.{Grown}
+use Rattle.guest_family.specs.declared.families.Gathered.{Gathered}
 use Rattle.guest_family.specs.declared.kin.Spare.{Spare}
+use Rattle.guest_family.specs.declared.starters.Branch.{Branch}
+use Rattle.guest_family.specs.declared.starters.Branch.TheVariants.{Ended, Starts}
+use Rattle.guest_family.specs.declared.starters.StarterEnd.{StarterEnd}
+use Rattle.guest_family.specs.declared.starters.StarterPart.{StarterPart}
 
 -- the ends of the threads that were started so, one of each, in this order
 abbrev pub AreChildren : Program → Origin → (budget : ℕ) → List Entry → List Started → List GuestEnd → Type 0
@@ -43,8 +43,8 @@ abbrev pub numbers_of : List Started → List ℕ
 numbers_of all = map (λ started. started.child) all
 
 -- what a thread starts next, by what was seen
-abbrev pub start_of : Origin → (t : ℕ) → List Entry → (entry arg : ℕ) → Started
-start_of origin t history entry arg =
+abbrev pub next_start : Origin → (t : ℕ) → List Entry → (entry arg : ℕ) → Started
+next_start origin t history entry arg =
     record { child = child_of origin.first origin.spare t (starts_of t history); entry = entry; arg = arg; place = made_by t history }
 
 -- what these threads have started, one after another
@@ -52,18 +52,18 @@ abbrev pub started_by_all : List ℕ → List Entry → List Started
 started_by_all ts history = flat_map (λ t. starts_in t history) ts
 
 -- where it has started another
-abbrev pub IfStarts : {P : Type 0} → Branch P → (Living P → Spare P → (entry arg : ℕ) → Type 0) → Type 0
-IfStarts (Ended lived) holds = Unit {0}
+abbrev pub IfStarts : {P : Type 0} → Branch P → (StarterPart P → Spare P → (entry arg : ℕ) → Type 0) → Type 0
+IfStarts (Ended ended) holds = Unit {0}
 IfStarts (Starts rest spare entry arg) holds = holds rest spare entry arg
 
 -- where it has ended
-abbrev pub IfEnded : {P : Type 0} → Branch P → (Lived P → Type 0) → Type 0
-IfEnded (Ended lived) holds = holds lived
+abbrev pub IfEnded : {P : Type 0} → Branch P → (StarterEnd P → Type 0) → Type 0
+IfEnded (Ended ended) holds = holds ended
 IfEnded (Starts rest spare entry arg) holds = Unit {0}
 
 -- there is room for the ends of all that it may still start
-abbrev pub LeavesRoom : {P : Type 0} → Living P → Branch P → Type 0
-LeavesRoom old (Ended lived) = (vec_len lived.ran.ends ≤ vec_len old.spares) × (vec_capacity old.ends ≤ vec_capacity lived.ran.ends)
+abbrev pub LeavesRoom : {P : Type 0} → StarterPart P → Branch P → Type 0
+LeavesRoom old (Ended ended) = (vec_len ended.ran.ends ≤ vec_len old.spares) × (vec_capacity old.ends ≤ vec_capacity ended.ran.ends)
 LeavesRoom old (Starts rest spare entry arg) =
     (vec_len old.spares ≡ vec_len rest.spares + 1) × (vec_len old.spares ≤ vec_capacity old.ends) × (vec_capacity rest.ends ≡ vec_capacity old.ends)
 
@@ -76,50 +76,50 @@ module _ {P : Type 0} (home : P → TableId) (numbers : P → ℕ → Bool) (see
     pub says : SaysAllOf (numbers old) (seen old) (seen new)
 
   -- one of the first threads under way, with those that it may still start, in order of number, and with room for all ends
-  pub record IsLiving (mem : TableId) (origin : Origin) (program : Program) (budget t : ℕ) (living : Living P) : Type 0 where
+  pub record IsStarterPart (mem : TableId) (origin : Origin) (program : Program) (budget t : ℕ) (starter : StarterPart P) : Type 0 where
     pub first : t < origin.first
-    pub goes : IsUnderWay home numbers seen mem origin program budget t (thread_start program origin.size origin.first t) living.part
-    pub code : living.code.program ≡ program
-    pub spares : AreSpares home numbers seen mem program living.spares.items
-    pub threads : spares_of living.spares.items ≡ range_with_len (child_of origin.first origin.spare t (starts_of t (seen living.part.pass))) (vec_len living.spares)
-    pub many : vec_len living.spares + starts_of t (seen living.part.pass) ≡ origin.spare
+    pub goes : IsUnderWay home numbers seen mem origin program budget t (thread_start program origin.size origin.first t) starter.part
+    pub code : starter.code.program ≡ program
+    pub spares : AreSpares home numbers seen mem program starter.spares.items
+    pub threads : spares_of starter.spares.items ≡ range_with_len (child_of origin.first origin.spare t (starts_of t (seen starter.part.pass))) (vec_len starter.spares)
+    pub many : vec_len starter.spares + starts_of t (seen starter.part.pass) ≡ origin.spare
     pub all : origin.first * (1 + origin.spare) ≡ origin.size.threads
-    pub empty : (living.ends.items ≡ []) × (vec_len living.ends ≡ 0)
-    pub room : vec_len living.spares ≤ vec_capacity living.ends
+    pub empty : (starter.ends.items ≡ []) × (vec_len starter.ends ≡ 0)
+    pub room : vec_len starter.spares ≤ vec_capacity starter.ends
 
   -- It has ended, and so have those that it has started since: what it had started before, and these, are what it has started. Their
   -- ends stand from the last one back. The pass holds its number and those of all that it could start.
-  pub record HasLived (mem : TableId) (origin : Origin) (program : Program) (budget t : ℕ) (before : List Started) (spares : List ℕ) (lived : Lived P) : Type 0 where
-    pub memory : home lived.ran.pass ≡ mem
-    pub own : IsOneOf t (numbers lived.ran.pass)
-    pub taken : AreTaken (numbers lived.ran.pass) spares
+  pub record HasEndedWithAll (mem : TableId) (origin : Origin) (program : Program) (budget t : ℕ) (before : List Started) (spares : List ℕ) (ended : StarterEnd P) : Type 0 where
+    pub memory : home ended.ran.pass ≡ mem
+    pub own : IsOneOf t (numbers ended.ran.pass)
+    pub taken : AreTaken (numbers ended.ran.pass) spares
     pub more : List Started
-    pub starts : starts_in t (seen lived.ran.pass) ≡ before ++ more
-    pub head : IsEndFrom program origin budget t (thread_start program origin.size origin.first t) (seen lived.ran.pass) lived.end
-    pub children : AreChildren program origin budget (seen lived.ran.pass) more (reverse lived.ran.ends.items)
-    pub among : AreTaken (numbers lived.ran.pass) (numbers_of more)
+    pub starts : starts_in t (seen ended.ran.pass) ≡ before ++ more
+    pub head : IsEndFrom program origin budget t (thread_start program origin.size origin.first t) (seen ended.ran.pass) ended.end
+    pub children : AreChildren program origin budget (seen ended.ran.pass) more (reverse ended.ran.ends.items)
+    pub among : AreTaken (numbers ended.ran.pass) (numbers_of more)
 
   -- It has started another, with that number, and goes on: what is left of it may start those that are left.
-  pub record HasBranched (mem : TableId) (origin : Origin) (program : Program) (budget t : ℕ) (old rest : Living P) (spare : Spare P) (entry arg : ℕ) : Type 0 where
-    pub goes : IsLiving mem origin program budget t rest
+  pub record HasBranched (mem : TableId) (origin : Origin) (program : Program) (budget t : ℕ) (old rest : StarterPart P) (spare : Spare P) (entry arg : ℕ) : Type 0 where
+    pub goes : IsStarterPart mem origin program budget t rest
     pub place : ℕ
     pub starts : starts_in t (seen rest.part.pass)
         ≡ starts_in t (seen old.part.pass) ++ record { child = spare.thread; entry = entry; arg = arg; place = place } ∷ []
     pub spares : spares_of old.spares.items ≡ spare.thread ∷ spares_of rest.spares.items
     pub front : IsFront (seen old.part.pass) (seen rest.part.pass)
 
-  abbrev pub Branches : TableId → Origin → Program → (budget t : ℕ) → Living P → Branch P → Type 0
-  Branches mem origin program budget t old (Ended lived) =
-      HasLived mem origin program budget t (starts_in t (seen old.part.pass)) (spares_of old.spares.items) lived
-      × IsFront (seen old.part.pass) (seen lived.ran.pass)
+  abbrev pub Branches : TableId → Origin → Program → (budget t : ℕ) → StarterPart P → Branch P → Type 0
+  Branches mem origin program budget t old (Ended ended) =
+      HasEndedWithAll mem origin program budget t (starts_in t (seen old.part.pass)) (spares_of old.spares.items) ended
+      × IsFront (seen old.part.pass) (seen ended.ran.pass)
   Branches mem origin program budget t old (Starts rest spare entry arg) = HasBranched mem origin program budget t old rest spare entry arg
 
   -- these first threads have ended, and so have all that they have started: the pass holds their numbers and those of all that they
   -- could start
-  pub record HaveLived (mem : TableId) (origin : Origin) (program : Program) (budget : ℕ) (ts : List ℕ) (grown : Grown P) : Type 0 where
-    pub memory : home grown.pass ≡ mem
-    pub own : AreTaken (numbers grown.pass) ts
-    pub taken : AreTaken (numbers grown.pass) (flat_map (own_numbers origin.first origin.spare) ts)
-    pub heads : AreHeads program origin budget (seen grown.pass) ts grown.ends.items
-    pub children : AreChildren program origin budget (seen grown.pass) (started_by_all ts (seen grown.pass)) grown.children.items
-    pub among : AreTaken (numbers grown.pass) (numbers_of (started_by_all ts (seen grown.pass)))
+  pub record HaveEndedWithAll (mem : TableId) (origin : Origin) (program : Program) (budget : ℕ) (ts : List ℕ) (gathered : Gathered P) : Type 0 where
+    pub memory : home gathered.pass ≡ mem
+    pub own : AreTaken (numbers gathered.pass) ts
+    pub taken : AreTaken (numbers gathered.pass) (flat_map (own_numbers origin.first origin.spare) ts)
+    pub heads : AreHeads program origin budget (seen gathered.pass) ts gathered.ends.items
+    pub children : AreChildren program origin budget (seen gathered.pass) (started_by_all ts (seen gathered.pass)) gathered.children.items
+    pub among : AreTaken (numbers gathered.pass) (numbers_of (started_by_all ts (seen gathered.pass)))

@@ -3,7 +3,7 @@ use Rattle.history.specs.Starts.{made_by, starts_in}
 use Rattle.guest_family.specs.UnderWay.{IsUnderWay}
 use Rattle.guest_thread.specs.declared.pieces.Part.{Part}
 use Rattle.guest_family.proofs.Started.{one_start, started_on}
-use Rattle.guest_family.proofs.houses.started.Goals as goal
+use Rattle.guest_family.proofs.starters.started.Goals as goal
 
 pub returns-clause-goes : goal.returns-clause-goes
 returns-clause-goes g c program budget t start old below few word called =

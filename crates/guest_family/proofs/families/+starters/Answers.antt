@@ -3,43 +3,43 @@ use Rattle.std.proofs.lemmas.List.{map-append}
 use denote.Param.{param}
 use mir.Syntax.{of_param}
 use denote.Param.Send.{IsSend, IsSync, Quiet-if}
+use Rattle.guest_family.specs.EndedStarters.{HaveEndedWithAll}
 use Rattle.guest_family.specs.Kin.{heads_of}
-use Rattle.guest_family.specs.Lived.{HaveLived}
-use Rattle.guest_family.proofs.Gathered.{grown_first, grown_more}
+use Rattle.guest_family.proofs.Gathering.{gathered_first, gathered_more}
 use Rattle.guest_family.proofs.GoingOn.{front_on}
-use Rattle.guest_family.proofs.families.+houses.Goals as goal
+use Rattle.guest_family.proofs.families.+starters.Goals as goal
 
-pub run_houses-returns-in_default-clause-lived : goal.run_houses-returns-in_default-clause-lived
-run_houses-returns-in_default-clause-lived g t c =
+pub run_starters-returns-in_default-clause-ended : goal.run_starters-returns-in_default-clause-ended
+run_starters-returns-in_default-clause-ended g t c =
     let home = g.M.SharedMemory.home in
     let numbers = g.M.SharedMemory.numbers in
     let seen = g.M.SharedMemory.seen in
     let mem = g.M.SharedMemory.id c.args.mem.now in
     let origin = g.M.SharedMemory.origin c.args.mem.now in
     let thread = c.args.first.job.thread in
-    subst (λ (us : List ℕ). HaveLived home numbers seen mem origin c.args.image.now c.args.budget (thread ∷ us) c.begin.result) (sym (ap heads_of c.in_default.ensures.items))
-    (grown_first home numbers seen mem origin c.args.image.now c.args.budget thread c.run_house.result c.begin.result c.run_house.ensures.lived c.begin.ensures.pass c.begin.ensures.ends
+    subst (λ (us : List ℕ). HaveEndedWithAll home numbers seen mem origin c.args.image.now c.args.budget (thread ∷ us) c.begin.result) (sym (ap heads_of c.in_default.ensures.items))
+    (gathered_first home numbers seen mem origin c.args.image.now c.args.budget thread c.run_starter.result c.begin.result c.run_starter.ensures.ended c.begin.ensures.pass c.begin.ensures.ends
     c.begin.ensures.children)
 
-pub run_houses-returns-clause-lived : goal.run_houses-returns-clause-lived
-run_houses-returns-clause-lived g t c =
+pub run_starters-returns-clause-ended : goal.run_starters-returns-clause-ended
+run_starters-returns-clause-ended g t c =
     let home = g.M.SharedMemory.home in
     let numbers = g.M.SharedMemory.numbers in
     let seen = g.M.SharedMemory.seen in
     let mem = g.M.SharedMemory.id c.args.mem.now in
     let origin = g.M.SharedMemory.origin c.args.mem.now in
-    let rest = c.args.first ∷ c.take_last.new.houses.items in
+    let rest = c.args.first ∷ c.take_last.new.starters.items in
     let threads : heads_of (c.args.first ∷ c.args.others.items) ≡ _ =
     ap (λ hs. heads_of (c.args.first ∷ hs)) c.in-Some.ensures.items ∙ map-append (λ h. h.job.thread) rest (c.in-Some.last ∷ []) in
-    subst (λ (us : List ℕ). HaveLived home numbers seen mem origin c.args.image.now c.args.budget us c.take_in.result) (sym threads)
-    (grown_more home numbers seen mem origin c.args.image.now c.args.budget c.in-Some.last.job.thread (heads_of rest) c.run_both-grown.result.0 c.take_in.result c.run_both-grown.result.1
-    c.run_both-grown.ensures.grown c.run_both-grown.ensures.lived c.take_in.ensures.memory c.take_in.ensures.numbers c.take_in.ensures.fronts c.take_in.ensures.mine c.take_in.ensures.yours
+    subst (λ (us : List ℕ). HaveEndedWithAll home numbers seen mem origin c.args.image.now c.args.budget us c.take_in.result) (sym threads)
+    (gathered_more home numbers seen mem origin c.args.image.now c.args.budget c.in-Some.last.job.thread (heads_of rest) c.run_both-gathered.result.0 c.take_in.result c.run_both-gathered.result.1
+    c.run_both-gathered.ensures.gathered c.run_both-gathered.ensures.ended c.take_in.ensures.memory c.take_in.ensures.numbers c.take_in.ensures.fronts c.take_in.ensures.mine c.take_in.ensures.yours
     c.take_in.ensures.ends c.take_in.ensures.children)
 
-pub run_houses-returns-clause-front : goal.run_houses-returns-clause-front
-run_houses-returns-clause-front g t c =
+pub run_starters-returns-clause-front : goal.run_starters-returns-clause-front
+run_starters-returns-clause-front g t c =
     let seen = g.M.SharedMemory.seen in
-    front_on (seen c.args.first.job.pass) (seen c.run_both-grown.result.0.pass) (seen c.take_in.result.pass) c.run_both-grown.ensures.front c.take_in.ensures.fronts.0
+    front_on (seen c.args.first.job.pass) (seen c.run_both-gathered.result.0.pass) (seen c.take_in.result.pass) c.run_both-gathered.ensures.front c.take_in.ensures.fronts.0
 
 pub run_both-join-requires-after_bounds : goal.run_both-join-requires-after_bounds
 run_both-join-requires-after_bounds g t c κs outlives =
