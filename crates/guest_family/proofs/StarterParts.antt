@@ -135,21 +135,23 @@ module _ {P : Type 0} (home : P → TableId) (numbers : P → ℕ → Bool) (see
 
   -- ---- to its end
 
-  pub ended_alone : (starter : StarterPart P) (done : Finished P) (pass : P) → IsStarterPart home numbers seen mem origin program budget t starter
+  pub ended_alone : (starter : StarterPart P) (done : Finished P) (ended : StarterEnd P) → IsStarterPart home numbers seen mem origin program budget t starter
       → HasEnded home numbers seen mem origin program budget t (thread_start program origin.size origin.first t) starter.part.pass done
-      → IsLater home numbers seen done.pass pass → AreTaken (numbers pass) (spares_of starter.spares.items)
-      → HasEndedWithAll home numbers seen mem origin program budget t (starts_in t (seen starter.part.pass)) (spares_of starter.spares.items)
-      (record { ran = record { pass = pass; ends = starter.ends }; end = done.end })
-  ended_alone starter done pass is ended later taken =
-      let same = later.says t ended.single.has in
-      let none : reverse starter.ends.items ≡ [] = ap reverse is.empty.0 in
+      → IsLater home numbers seen done.pass ended.ran.pass → AreTaken (numbers ended.ran.pass) (spares_of starter.spares.items)
+      → ended.ran.ends ≡ starter.ends → ended.end ≡ done.end
+      → HasEndedWithAll home numbers seen mem origin program budget t (starts_in t (seen starter.part.pass)) (spares_of starter.spares.items) ended
+  ended_alone starter done ended is has later taken ends end =
+      let pass = ended.ran.pass in
+      let start = thread_start program origin.size origin.first t in
+      let same = later.says t has.single.has in
+      let none : reverse ended.ran.ends.items ≡ [] = ap (λ (es : Vec GuestEnd Global). reverse es.items) ends ∙ ap reverse is.empty.0 in
       record {
-        memory = later.memory ∙ ended.memory;
-        own = later.holds t ended.single.has;
+        memory = later.memory ∙ has.memory;
+        own = later.holds t has.single.has;
         taken = taken;
         more = [];
-        starts = same_starts t (seen done.pass) (seen pass) same ∙ ended.same ∙ sym (append-nil (starts_in t (seen starter.part.pass)));
-        head = end_later program origin budget t (thread_start program origin.size origin.first t) (seen done.pass) (seen pass) done.end later.front same ended.end;
+        starts = same_starts t (seen done.pass) (seen pass) same ∙ has.same ∙ sym (append-nil (starts_in t (seen starter.part.pass)));
+        head = subst (IsEndFrom program origin budget t start (seen pass)) (sym end) (end_later program origin budget t start (seen done.pass) (seen pass) done.end later.front same has.end);
         children = subst (AreChildren program origin budget (seen pass) []) (sym none) tt;
         among = All-nil (λ u. IsOneOf u (numbers pass));
       }

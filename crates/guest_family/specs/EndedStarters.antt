@@ -114,6 +114,18 @@ module _ {P : Type 0} (home : P → TableId) (numbers : P → ℕ → Bool) (see
       × IsFront (seen old.part.pass) (seen ended.ran.pass)
   Branches mem origin program budget t old (Starts rest spare entry arg) = HasBranched mem origin program budget t old rest spare entry arg
 
+  -- to that it has come, whichever of the first threads it is
+  abbrev pub ComesTo : TableId → Origin → Program → (budget : ℕ) → StarterPart P → Branch P → Type 0
+  ComesTo mem origin program budget old branch =
+      (t : ℕ) → IsStarterPart mem origin program budget t old → Branches mem origin program budget t old branch
+
+  -- and to its end
+  abbrev pub RunsTo : TableId → Origin → Program → (budget : ℕ) → StarterPart P → StarterEnd P → Type 0
+  RunsTo mem origin program budget old ended =
+      (t : ℕ) → IsStarterPart mem origin program budget t old
+      → HasEndedWithAll mem origin program budget t (starts_in t (seen old.part.pass)) (spares_of old.spares.items) ended
+      × IsFront (seen old.part.pass) (seen ended.ran.pass)
+
   -- these first threads have ended, and so have all that they have started: the pass holds their numbers and those of all that they
   -- could start
   pub record HaveEndedWithAll (mem : TableId) (origin : Origin) (program : Program) (budget : ℕ) (ts : List ℕ) (gathered : Gathered P) : Type 0 where

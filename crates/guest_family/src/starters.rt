@@ -9,7 +9,7 @@ ghost use Rattle.a32_step.specs.Machine.{Machine, IsCalling};
 ghost use Rattle.guest_thread.specs.Begun.{child_start};
 ghost use Rattle.guest_thread.specs.Crews.{AreTaken};
 ghost use Rattle.guest_thread.specs.Start.{thread_start};
-ghost use Rattle.guest_family.specs.EndedStarters.{Branches, HasEndedWithAll, IfEnded, IfStarts, IsLater, IsStarterPart, LeavesRoom, next_start};
+ghost use Rattle.guest_family.specs.EndedStarters.{ComesTo, IfEnded, IfStarts, IsLater, IsStarterPart, LeavesRoom, RunsTo, next_start};
 ghost use Rattle.guest_family.specs.Kin.{AreSpares, IsSpare, spares_of};
 ghost use Rattle.guest_family.specs.UnderWay.{HasCalled, IsEndFrom, IsUnderWay};
 ghost use denote.Param.Send.{IsSync, IsSend};
@@ -128,6 +128,17 @@ pub(crate) struct StarterEnd<P> {
     pub(crate) end: GuestEnd,
 }
 
+/// A thread that has ended, with the ends of those that it has started.
+fn with_ends<P>(done: Finished<P>, ends: Vec<GuestEnd>) -> StarterEnd<P>
+    ensures pass { result.ran.pass ≡ done.pass }
+    ensures ends { result.ran.ends ≡ ends }
+    ensures end { result.end ≡ done.end }
+{
+    let Finished { pass, end } = done;
+    let ran = Ran { pass, ends };
+    StarterEnd { ran, end }
+}
+
 /// What one of the first threads comes to.
 pub(crate) enum Branch<'i, P> {
     /// It has ended.
@@ -146,14 +157,13 @@ fn to_branch<'i, M: StartMemory, R: Wait>(
     rt: &R,
     mem: &M,
     image: &Image,
-    starter: StarterPart<'i, M::Pass>,
+    mut starter: StarterPart<'i, M::Pass>,
     budget: u64,
 ) -> Branch<'i, M::Pass>
     requires starter { (t : ℕ) × IsStarterPart M.home M.numbers M.seen (M.id mem.now) (M.origin mem.now) image.now budget t starter }
     requires whole { length image.now.bytes ≡ (M.origin mem.now).size.mem }
     requires budget { budget ≤ most_budget }
-    ensures branches { (t : ℕ) → IsStarterPart M.home M.numbers M.seen (M.id mem.now) (M.origin mem.now) image.now budget t starter.entry
-        → Branches M.home M.numbers M.seen (M.id mem.now) (M.origin mem.now) image.now budget t starter.entry result }
+    ensures branches { ComesTo M.home M.numbers M.seen (M.id mem.now) (M.origin mem.now) image.now budget starter.entry result }
     ensures goes { IfStarts result (λ rest spare entry arg. (t : ℕ) × IsStarterPart M.home M.numbers M.seen (M.id mem.now) (M.origin mem.now) image.now budget t rest) }
     ensures spare { IfStarts result (λ rest spare entry arg. IsSpare M.home M.numbers M.seen (M.id mem.now) image.now spare) }
     ensures number { IfStarts result (λ rest spare entry arg. ((M.origin mem.now).first ≤ spare.thread) × (spare.thread < (M.origin mem.now).size.threads)) }
@@ -161,32 +171,20 @@ fn to_branch<'i, M: StartMemory, R: Wait>(
     ensures memory { IfEnded result (λ ended. M.home ended.ran.pass ≡ M.id mem.now) }
     ensures room { LeavesRoom starter.entry result }
 {
-    let StarterPart {
-        part,
-        mut code,
-        mut spares,
-        ends,
-    } = starter;
-    let Some(spare) = take_next(&mut spares) else {
-        let Finished { pass, end } = run_out(rt, mem, &mut code, part, budget);
-        let ran = Ran { pass, ends };
-        return Branch::Ended(StarterEnd { ran, end });
+    let part = starter.part;
+    let Some(spare) = take_next(&mut starter.spares) else {
+        let done = run_out(rt, mem, &mut starter.code, part, budget);
+        return Branch::Ended(with_ends(done, starter.ends));
     };
-    match to_start(rt, mem, &mut code, part, budget) {
+    match to_start(rt, mem, &mut starter.code, part, budget) {
         Next::Ended(Finished { pass, end }) => {
-            let pass = join_unstarted(mem, pass, spare, spares);
-            let ran = Ran { pass, ends };
-            Branch::Ended(StarterEnd { ran, end })
+            let pass = join_unstarted(mem, pass, spare, starter.spares);
+            Branch::Ended(with_ends(Finished { pass, end }, starter.ends))
         }
         Next::Calls { part, entry, arg } => {
             let part = started(mem, part, entry, arg);
             Branch::Starts {
-                rest: StarterPart {
-                    part,
-                    code,
-                    spares,
-                    ends,
-                },
+                rest: StarterPart { part, ..starter },
                 spare,
                 entry,
                 arg,
@@ -208,12 +206,9 @@ pub(crate) fn run_on<M: StartMemory, R: Threads + Wait + Sync>(
     requires starter { (t : ℕ) × IsStarterPart M.home M.numbers M.seen (M.id mem.now) (M.origin mem.now) image.now budget t starter }
     requires whole { length image.now.bytes ≡ (M.origin mem.now).size.mem }
     requires budget { budget ≤ most_budget }
-    ensures ended { (t : ℕ) → IsStarterPart M.home M.numbers M.seen (M.id mem.now) (M.origin mem.now) image.now budget t starter.entry
-        → HasEndedWithAll M.home M.numbers M.seen (M.id mem.now) (M.origin mem.now) image.now budget t (starts_in t (M.seen starter.entry.part.pass)) (spares_of starter.entry.spares.items) result
-        × IsFront (M.seen starter.entry.part.pass) (M.seen result.ran.pass) }
+    ensures ended { RunsTo M.home M.numbers M.seen (M.id mem.now) (M.origin mem.now) image.now budget starter.entry result }
     ensures memory { M.home result.ran.pass ≡ M.id mem.now }
-    ensures len { vec_len result.ran.ends ≤ vec_len starter.entry.spares }
-    ensures capacity { vec_capacity starter.entry.ends ≤ vec_capacity result.ran.ends }
+    ensures room { (vec_len result.ran.ends ≤ vec_len starter.entry.spares) × (vec_capacity starter.entry.ends ≤ vec_capacity result.ran.ends) }
 {
     let (rest, spare, entry, arg) = match to_branch(rt, mem, image, starter, budget) {
         Branch::Ended(ended) => return ended,
@@ -227,25 +222,17 @@ pub(crate) fn run_on<M: StartMemory, R: Threads + Wait + Sync>(
     let (ended, done) = join(
         rt,
         move || -> StarterEnd<M::Pass>
-            requires { IsSync R.row × ((t : ℕ) × IsStarterPart M.home M.numbers M.seen (M.id mem.now) (M.origin mem.now) image.now budget t rest)
-                × (length image.now.bytes ≡ (M.origin mem.now).size.mem) × (budget ≤ most_budget) }
-            ensures { ((t : ℕ) → IsStarterPart M.home M.numbers M.seen (M.id mem.entry.now) (M.origin mem.entry.now) image.entry.now budget t rest.entry
-                → HasEndedWithAll M.home M.numbers M.seen (M.id mem.entry.now) (M.origin mem.entry.now) image.entry.now budget t (starts_in t (M.seen rest.entry.part.pass)) (spares_of rest.entry.spares.items) result
-                × IsFront (M.seen rest.entry.part.pass) (M.seen result.ran.pass))
-                × (M.home result.ran.pass ≡ M.id mem.entry.now)
+            requires { IsSync R.row × ((t : ℕ) × IsStarterPart M.home M.numbers M.seen (M.id mem.now) (M.origin mem.now) image.now budget t rest) × (length image.now.bytes ≡ (M.origin mem.now).size.mem) × (budget ≤ most_budget) }
+            ensures { RunsTo M.home M.numbers M.seen (M.id mem.entry.now) (M.origin mem.entry.now) image.entry.now budget rest.entry result × (M.home result.ran.pass ≡ M.id mem.entry.now)
                 × (vec_len result.ran.ends ≤ vec_len rest.entry.spares) × (vec_capacity rest.entry.ends ≤ vec_capacity result.ran.ends) }
         { run_on(rt, mem, image, rest, budget) },
         move || -> Finished<M::Pass>
-            requires { IsSpare M.home M.numbers M.seen (M.id mem.now) image.now spare
-                × (((M.origin mem.now).first ≤ spare.thread) × (spare.thread < (M.origin mem.now).size.threads)) × (entry % 4 ≡ 0)
-                × (length image.now.bytes ≡ (M.origin mem.now).size.mem) × (budget ≤ most_budget) }
+            requires { IsSpare M.home M.numbers M.seen (M.id mem.now) image.now spare × (((M.origin mem.now).first ≤ spare.thread) × (spare.thread < (M.origin mem.now).size.threads))
+                × (entry % 4 ≡ 0) × (length image.now.bytes ≡ (M.origin mem.now).size.mem) × (budget ≤ most_budget) }
             ensures { IsEndFrom image.entry.now (M.origin mem.entry.now) budget spare.entry.thread (child_start (M.origin mem.entry.now).size spare.entry.thread entry arg) (M.seen result.pass) result.end
                 × IsOneOf spare.entry.thread (M.numbers result.pass) × (M.home result.pass ≡ M.id mem.entry.now) }
         { run_child(rt, mem, image, spare, entry, arg, budget) },
     );
-    let StarterEnd { ran, end } = ended;
-    StarterEnd {
-        ran: gather(mem, ran, done),
-        end,
-    }
+    let ran = gather(mem, ended.ran, done);
+    StarterEnd { ran, ..ended }
 }

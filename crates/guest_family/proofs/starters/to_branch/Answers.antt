@@ -1,12 +1,13 @@
-use Rattle.std.proofs.Common.{◌≤◌, ℕ, List, length, vec_len, refl, subst, sym, ◌∙◌, arith}
+use Rattle.std.proofs.Common.{◌≤◌, ℕ, List, ◌∷◌, length, vec_len, refl, subst, sym, ◌∙◌, arith}
 use Rattle.std.proofs.lemmas.List.Elements.{All-nil}
 use Rattle.llsc_base.specs.Images.{Program}
 use Rattle.history.specs.Starts.{starts_in}
 use Rattle.history.proofs.Starts.{starts_from-length}
-use Rattle.shared_memory.specs.Seen.{IsOneOf}
+use Rattle.shared_memory.specs.Seen.{IsFront, IsOneOf}
 use Rattle.guest_thread.specs.Begun.{stock_of}
 use Rattle.guest_thread.specs.Crews.{AreTaken}
 use Rattle.guest_thread.specs.Start.{thread_start}
+use Rattle.guest_family.specs.EndedStarters.{IsLater}
 use Rattle.guest_family.specs.Kin.{spares_of}
 use Rattle.guest_family.specs.Next.{HasNoneLeft}
 use Rattle.guest_family.specs.UnderWay.{HasCalled, HasEnded, IsUnderWay}
@@ -17,8 +18,8 @@ use Rattle.guest_family.proofs.JoinUnstarted.{later_none}
 use Rattle.guest_family.proofs.StarterParts.{branched, called_few, head_has_none, ended_alone, next_spare}
 use Rattle.guest_family.proofs.starters.to_branch.Goals as goal
 
-pub run_out-pass-requires-clause-none : goal.run_out-pass-requires-clause-none
-run_out-pass-requires-clause-none g c κs outlives u single =
+pub run_out-done-requires-clause-none : goal.run_out-done-requires-clause-none
+run_out-done-requires-clause-none g c κs outlives u single =
     let home = g.M.SharedMemory.home in
     let numbers = g.M.SharedMemory.numbers in
     let seen = g.M.SharedMemory.seen in
@@ -45,10 +46,15 @@ returns-in_default-clause-branches g c t is =
     let program = c.args.image.now in
     let starter = c.args.starter in
     let start = thread_start program origin.size origin.first t in
-    let done = subst (λ (p : Program). HasEnded home numbers seen mem origin p c.args.budget t start starter.part.pass c.run_out-pass.result) is.code
-    (c.run_out-pass.ensures.ended t start (subst (λ (p : Program). IsUnderWay home numbers seen mem origin p c.args.budget t start starter.part) (sym is.code) is.goes)) in
-    let taken = subst (λ (ss : List (Spare _)). AreTaken (numbers c.run_out-pass.result.pass) (spares_of ss)) (sym c.in_default.ensures.items) (All-nil (λ u. IsOneOf u (numbers c.run_out-pass.result.pass))) in
-    (ended_alone home numbers seen mem origin program c.args.budget t starter c.run_out-pass.result c.run_out-pass.result.pass is done (later_none home numbers seen c.run_out-pass.result.pass) taken, done.front)
+    let done = subst (λ (p : Program). HasEnded home numbers seen mem origin p c.args.budget t start starter.part.pass c.run_out-done.result) is.code
+    (c.run_out-done.ensures.ended t start (subst (λ (p : Program). IsUnderWay home numbers seen mem origin p c.args.budget t start starter.part) (sym is.code) is.goes)) in
+    let ended = c.with_ends.result in
+    let pass = sym c.with_ends.ensures.pass in
+    let later = subst (IsLater home numbers seen c.run_out-done.result.pass) pass (later_none home numbers seen c.run_out-done.result.pass) in
+    let taken = subst (λ (ss : List (Spare _)). AreTaken (numbers ended.ran.pass) (spares_of ss)) (sym c.in_default.ensures.items) (All-nil (λ u. IsOneOf u (numbers ended.ran.pass))) in (
+      ended_alone home numbers seen mem origin program c.args.budget t starter c.run_out-done.result ended is done later taken c.with_ends.ensures.ends c.with_ends.ensures.end,
+      subst (λ p. IsFront (seen starter.part.pass) (seen p)) pass done.front,
+    )
 
 pub returns-in-Ended-clause-branches : goal.returns-in-Ended-clause-branches
 returns-in-Ended-clause-branches g c t is =
@@ -62,9 +68,13 @@ returns-in-Ended-clause-branches g c t is =
     let start = thread_start program origin.size origin.first t in
     let done = subst (λ (p : Program). HasEnded home numbers seen mem origin p c.args.budget t start starter.part.pass c.in-Ended.field-0) is.code
     (c.in-Ended.ensures.next t start (subst (λ (p : Program). IsUnderWay home numbers seen mem origin p c.args.budget t start starter.part) (sym is.code) is.goes)) in
-    let taken = subst (λ (ss : List (Spare _)). AreTaken (numbers c.join_unstarted-pass.result) (spares_of ss)) (sym c.in-Some.ensures.items) c.join_unstarted-pass.ensures.taken in (
-      ended_alone home numbers seen mem origin program c.args.budget t starter c.in-Ended.field-0 c.join_unstarted-pass.result is done c.join_unstarted-pass.ensures.later taken,
-      front_on (seen starter.part.pass) (seen c.in-Ended.field-0.pass) (seen c.join_unstarted-pass.result) done.front c.join_unstarted-pass.ensures.later.front,
+    let ended = c.with_ends-in-Ended.result in
+    let pass = sym c.with_ends-in-Ended.ensures.pass in
+    let later = subst (IsLater home numbers seen c.in-Ended.field-0.pass) pass c.join_unstarted-pass.ensures.later in
+    let taken = subst (λ (ss : List (Spare _)). AreTaken (numbers ended.ran.pass) (spares_of ss)) (sym c.in-Some.ensures.items)
+    (subst (λ p. AreTaken (numbers p) (spares_of (c.in-Some.spare ∷ c.take_next.new.spares.items))) pass c.join_unstarted-pass.ensures.taken) in (
+      ended_alone home numbers seen mem origin program c.args.budget t starter c.in-Ended.field-0 ended is done later taken c.with_ends-in-Ended.ensures.ends c.with_ends-in-Ended.ensures.end,
+      front_on (seen starter.part.pass) (seen c.in-Ended.field-0.pass) (seen ended.ran.pass) done.front later.front,
     )
 
 pub started-part-requires-clause-single : goal.started-part-requires-clause-single
