@@ -11,7 +11,8 @@ use Rattle.history.specs.declared.entry.Entry.{Entry}
 use Rattle.shared_memory.specs.Origin.{Origin}
 use Rattle.guest_thread.specs.Crews.{IsFresh}
 use Rattle.guest_thread.specs.declared.crews.Job.{Job}
-use Rattle.guest_family.specs.Kin.{AreStarters, AreSpares, IsStarter, IsSpare, heads_of, spares_of}
+use Rattle.guest_family.specs.Kin.{AreSpares, AreStarters, IsSpare, IsStarter, MayRun, heads_of, spares_of}
+use Rattle.guest_family.specs.declared.kin.Kin.{Kin}
 use Rattle.guest_family.specs.declared.kin.Spare.{Spare}
 use Rattle.guest_family.specs.declared.kin.Starter.{Starter}
 
@@ -102,3 +103,17 @@ pub children_room_left : (len more spare capacity : ℕ) → more ≡ len + 1 �
 children_room_left len more spare capacity longer room =
     let less : (len + 1) * spare ≤ (more + 1) * spare = mul-le-mul_right spare (omega (arith, longer)) in
     omega (arith, less, room)
+
+-- the others may still be run where the last is taken out
+pub runs_without_last : {P : Type 0} (home : P → TableId) (numbers : P → ℕ → Bool) (seen : P → List Entry) (mem : TableId) (origin : Origin) (program : Program)
+    (kin : Kin P) (rest : Vec (Starter P) Global) (last : Starter P) → MayRun home numbers seen mem origin program kin → kin.others.items ≡ rest.items ++ last ∷ []
+    → vec_len rest + 1 ≡ vec_len kin.others
+    → MayRun home numbers seen mem origin program (record { first = kin.first; others = rest; ends = kin.ends; children = kin.children })
+runs_without_last home numbers seen mem origin program kin rest last is items len = record {
+  first = is.first;
+  others = (starters_split home numbers seen mem origin program kin.others.items rest.items last items is.others).0;
+  ends_empty = is.ends_empty;
+  children_empty = is.children_empty;
+  ends_room = room_left (vec_len rest) (vec_len kin.others) (vec_capacity kin.ends) (sym len) is.ends_room;
+  children_room = children_room_left (vec_len rest) (vec_len kin.others) origin.spare (vec_capacity kin.children) (sym len) is.children_room;
+}

@@ -1,12 +1,12 @@
 //! All threads of a program that may start others, on host threads.
-ghost use Rattle.std.specs.Prelude.{◌≡◌, ◌<◌, ◌≤◌, ◌+◌, ◌*◌, ◌^◌, ℕ, [], ◌∷◌, ◌++◌, All, IfNone, IfSome, MatchOption, length, reverse, true, vec_len, vec_capacity};
+ghost use Rattle.std.specs.Prelude.{◌≡◌, ◌<◌, ◌≤◌, ◌+◌, ◌*◌, ◌^◌, ℕ, [], ◌∷◌, ◌++◌, All, length, reverse, true, vec_len, vec_capacity};
 ghost use Rattle.llsc_base.specs.Limits.{most_budget};
 ghost use Rattle.shared_memory.specs.Seen.{IsFront, IsOneOf, SaysAllOf, joint};
 ghost use Rattle.guest_thread.specs.BegunOutcome.{AreBegunEnds};
 ghost use Rattle.guest_thread.specs.Counting.{accesses_counted, counts_in};
 ghost use Rattle.guest_thread.specs.declared.ends.GuestEnd.{GuestEnd};
 ghost use Rattle.guest_family.specs.EndedStarters.{HasEndedWithAll, HaveEndedWithAll};
-ghost use Rattle.guest_family.specs.Kin.{AreStarters, IsReady, IsStarter, heads_of, own_numbers};
+ghost use Rattle.guest_family.specs.Kin.{IsReady, IsStarter, MayRun, heads_of, own_numbers};
 ghost use denote.Param.Send.{IsSync, IsSend};
 
 use crate::kin::{Kin, Starter};
@@ -143,68 +143,39 @@ fn begin<P>(
     }
 }
 
-/// Takes the last of the starters out, where there is one.
-fn take_last<'i, M: StartMemory>(
-    mem: &M,
-    image: &Image,
-    starters: &mut Vec<Starter<'i, M::Pass>>,
-) -> Option<Starter<'i, M::Pass>>
-    requires starters { AreStarters M.home M.numbers M.seen (M.id mem.now) (M.origin mem.now) image.now starters.old.items }
-    ensures others { AreStarters M.home M.numbers M.seen (M.id mem.now) (M.origin mem.now) image.now starters.new.items }
-    ensures last { IfSome result (IsStarter M.home M.numbers M.seen (M.id mem.now) (M.origin mem.now) image.now) }
-    ensures items { MatchOption result (starters.old.items ≡ []) (λ last. starters.old.items ≡ starters.new.items ++ last ∷ []) }
-    ensures len { IfSome result (λ _. vec_len starters.old ≡ vec_len starters.new + 1) }
-    ensures empty { IfNone result (vec_len starters.old ≡ 0) }
-{
-    let Some(last) = starters.pop() else {
-        return None;
-    };
-    Some(last)
-}
-
 /// Runs first threads beside another, each with those that it starts: that one on a host thread of its own.
 #[cycle(starters)]
 fn run_both<'i, M: StartMemory, R: Threads + Wait + Sync>(
     rt: &R,
     mem: &M,
     image: &Image,
-    first: Starter<'i, M::Pass>,
-    others: Vec<Starter<'i, M::Pass>>,
+    kin: Kin<'i, M::Pass>,
     last: Starter<'i, M::Pass>,
-    ends: Vec<GuestEnd>,
-    children: Vec<GuestEnd>,
     budget: u64,
 ) -> (Gathered<M::Pass>, StarterEnd<M::Pass>)
-    requires first { IsStarter M.home M.numbers M.seen (M.id mem.now) (M.origin mem.now) image.now first }
-    requires others { AreStarters M.home M.numbers M.seen (M.id mem.now) (M.origin mem.now) image.now others.items }
+    requires kin { MayRun M.home M.numbers M.seen (M.id mem.now) (M.origin mem.now) image.now kin }
     requires last { IsStarter M.home M.numbers M.seen (M.id mem.now) (M.origin mem.now) image.now last }
-    requires empty { (ends.items ≡ []) × (vec_len ends ≡ 0) × (children.items ≡ []) × (vec_len children ≡ 0) }
-    requires ends_room { vec_len others < vec_capacity ends }
-    requires children_room { (vec_len others + 1) * (M.origin mem.now).spare ≤ vec_capacity children }
     requires whole { length image.now.bytes ≡ (M.origin mem.now).size.mem }
     requires budget { budget ≤ most_budget }
-    ensures gathered { HaveEndedWithAll M.home M.numbers M.seen (M.id mem.now) (M.origin mem.now) image.now budget (heads_of (first.entry ∷ others.entry.items)) result.0 }
-    ensures front { IsFront (M.seen first.entry.job.pass) (M.seen result.0.pass) }
-    ensures ends_len { vec_len result.0.ends ≡ vec_len others.entry + 1 }
-    ensures ends_capacity { vec_capacity result.0.ends ≡ vec_capacity ends }
-    ensures children_len { vec_len result.0.children ≤ (vec_len others.entry + 1) * (M.origin mem.now).spare }
-    ensures children_capacity { vec_capacity result.0.children ≡ vec_capacity children }
+    ensures gathered { HaveEndedWithAll M.home M.numbers M.seen (M.id mem.now) (M.origin mem.now) image.now budget (heads_of (kin.entry.first ∷ kin.entry.others.items)) result.0 }
+    ensures front { IsFront (M.seen kin.entry.first.job.pass) (M.seen result.0.pass) }
+    ensures ends_len { vec_len result.0.ends ≡ vec_len kin.entry.others + 1 }
+    ensures ends_capacity { vec_capacity result.0.ends ≡ vec_capacity kin.entry.ends }
+    ensures children_len { vec_len result.0.children ≤ (vec_len kin.entry.others + 1) * (M.origin mem.now).spare }
+    ensures children_capacity { vec_capacity result.0.children ≡ vec_capacity kin.entry.children }
     ensures ended { HasEndedWithAll M.home M.numbers M.seen (M.id mem.now) (M.origin mem.now) image.now budget last.entry.job.thread [] (own_numbers (M.origin mem.now).first (M.origin mem.now).spare last.entry.job.thread) result.1 }
     ensures started { vec_len result.1.ran.ends ≤ (M.origin mem.now).spare }
 {
     join(
         rt,
         move || -> Gathered<M::Pass>
-            requires { IsSync R.row × IsStarter M.home M.numbers M.seen (M.id mem.now) (M.origin mem.now) image.now first
-                × AreStarters M.home M.numbers M.seen (M.id mem.now) (M.origin mem.now) image.now others.items
-                × ((ends.items ≡ []) × (vec_len ends ≡ 0) × (children.items ≡ []) × (vec_len children ≡ 0))
-                × (vec_len others < vec_capacity ends) × ((vec_len others + 1) * (M.origin mem.now).spare ≤ vec_capacity children)
+            requires { IsSync R.row × MayRun M.home M.numbers M.seen (M.id mem.now) (M.origin mem.now) image.now kin
                 × (length image.now.bytes ≡ (M.origin mem.now).size.mem) × (budget ≤ most_budget) }
-            ensures { HaveEndedWithAll M.home M.numbers M.seen (M.id mem.entry.now) (M.origin mem.entry.now) image.entry.now budget (heads_of (first.entry ∷ others.entry.items)) result
-                × IsFront (M.seen first.entry.job.pass) (M.seen result.pass)
-                × (vec_len result.ends ≡ vec_len others.entry + 1) × (vec_capacity result.ends ≡ vec_capacity ends)
-                × (vec_len result.children ≤ (vec_len others.entry + 1) * (M.origin mem.entry.now).spare) × (vec_capacity result.children ≡ vec_capacity children) }
-        { run_starters(rt, mem, image, first, others, ends, children, budget) },
+            ensures { HaveEndedWithAll M.home M.numbers M.seen (M.id mem.entry.now) (M.origin mem.entry.now) image.entry.now budget (heads_of (kin.entry.first ∷ kin.entry.others.items)) result
+                × IsFront (M.seen kin.entry.first.job.pass) (M.seen result.pass)
+                × (vec_len result.ends ≡ vec_len kin.entry.others + 1) × (vec_capacity result.ends ≡ vec_capacity kin.entry.ends)
+                × (vec_len result.children ≤ (vec_len kin.entry.others + 1) * (M.origin mem.entry.now).spare) × (vec_capacity result.children ≡ vec_capacity kin.entry.children) }
+        { run_starters(rt, mem, image, kin, budget) },
         move || -> StarterEnd<M::Pass>
             requires { IsSync R.row × IsStarter M.home M.numbers M.seen (M.id mem.now) (M.origin mem.now) image.now last
                 × (length image.now.bytes ≡ (M.origin mem.now).size.mem) × (budget ≤ most_budget) }
@@ -218,34 +189,31 @@ fn run_both<'i, M: StartMemory, R: Threads + Wait + Sync>(
 /// Runs first threads beside each other, each with those that it starts: the last on a host thread of its own, those before it so
 /// in turn.
 #[cycle(starters)]
-fn run_starters<'i, M: StartMemory, R: Threads + Wait + Sync>(
+fn run_starters<M: StartMemory, R: Threads + Wait + Sync>(
     rt: &R,
     mem: &M,
     image: &Image,
-    first: Starter<'i, M::Pass>,
-    mut others: Vec<Starter<'i, M::Pass>>,
-    ends: Vec<GuestEnd>,
-    children: Vec<GuestEnd>,
+    mut kin: Kin<M::Pass>,
     budget: u64,
 ) -> Gathered<M::Pass>
-    requires first { IsStarter M.home M.numbers M.seen (M.id mem.now) (M.origin mem.now) image.now first }
-    requires others { AreStarters M.home M.numbers M.seen (M.id mem.now) (M.origin mem.now) image.now others.items }
-    requires empty { (ends.items ≡ []) × (vec_len ends ≡ 0) × (children.items ≡ []) × (vec_len children ≡ 0) }
-    requires ends_room { vec_len others < vec_capacity ends }
-    requires children_room { (vec_len others + 1) * (M.origin mem.now).spare ≤ vec_capacity children }
+    requires kin { MayRun M.home M.numbers M.seen (M.id mem.now) (M.origin mem.now) image.now kin }
     requires whole { length image.now.bytes ≡ (M.origin mem.now).size.mem }
     requires budget { budget ≤ most_budget }
-    ensures ended { HaveEndedWithAll M.home M.numbers M.seen (M.id mem.now) (M.origin mem.now) image.now budget (heads_of (first.entry ∷ others.entry.items)) result }
-    ensures front { IsFront (M.seen first.entry.job.pass) (M.seen result.pass) }
-    ensures ends_len { vec_len result.ends ≡ vec_len others.entry + 1 }
-    ensures ends_capacity { vec_capacity result.ends ≡ vec_capacity ends }
-    ensures children_len { vec_len result.children ≤ (vec_len others.entry + 1) * (M.origin mem.now).spare }
-    ensures children_capacity { vec_capacity result.children ≡ vec_capacity children }
+    ensures ended { HaveEndedWithAll M.home M.numbers M.seen (M.id mem.now) (M.origin mem.now) image.now budget (heads_of (kin.entry.first ∷ kin.entry.others.items)) result }
+    ensures front { IsFront (M.seen kin.entry.first.job.pass) (M.seen result.pass) }
+    ensures ends_len { vec_len result.ends ≡ vec_len kin.entry.others + 1 }
+    ensures ends_capacity { vec_capacity result.ends ≡ vec_capacity kin.entry.ends }
+    ensures children_len { vec_len result.children ≤ (vec_len kin.entry.others + 1) * (M.origin mem.now).spare }
+    ensures children_capacity { vec_capacity result.children ≡ vec_capacity kin.entry.children }
 {
-    let Some(last) = take_last(mem, image, &mut others) else {
-        return begin(run_starter(rt, mem, image, first, budget), ends, children);
+    let Some(last) = kin.others.pop() else {
+        return begin(
+            run_starter(rt, mem, image, kin.first, budget),
+            kin.ends,
+            kin.children,
+        );
     };
-    let (gathered, ended) = run_both(rt, mem, image, first, others, last, ends, children, budget);
+    let (gathered, ended) = run_both(rt, mem, image, kin, last, budget);
     take_in(mem, gathered, ended)
 }
 
@@ -284,17 +252,11 @@ pub fn run_family<M: StartMemory, R: Threads + Wait + Sync>(
     ensures begins { IsFront (M.seen kin.entry.first.job.pass) (M.seen result.pass) }
     ensures memory { M.home result.pass ≡ M.id mem.now }
 {
-    let Kin {
-        first,
-        others,
-        ends,
-        children,
-    } = kin;
     let Gathered {
         pass,
         ends,
         children,
-    } = run_starters(rt, mem, image, first, others, ends, children, budget);
+    } = run_starters(rt, mem, image, kin, budget);
     Ran {
         pass,
         ends: all_ends(ends, children),

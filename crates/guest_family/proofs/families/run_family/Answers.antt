@@ -8,6 +8,24 @@ use Rattle.guest_family.proofs.AllNumbers.{all_numbers}
 use Rattle.guest_family.proofs.Outcome.{all_hold, are_begun}
 use Rattle.guest_family.proofs.families.run_family.Goals as goal
 
+pub run_starters-pass-requires-clause-kin : goal.run_starters-pass-requires-clause-kin
+run_starters-pass-requires-clause-kin g c κs outlives =
+    let origin = g.M.SharedMemory.origin c.args.mem.now in
+    let is = c.requires.kin in
+    let many = is.many in
+    let all = is.first.all in
+    let ends = is.ends_room in
+    let children = is.children_room in
+    let times : (vec_len c.args.kin.others + 1) * origin.spare ≡ origin.first * origin.spare = ap (λ (n : ℕ). n * origin.spare) many in
+    record {
+      first = is.first;
+      others = is.others;
+      ends_empty = is.ends_empty;
+      children_empty = is.children_empty;
+      ends_room = omega (arith, many, all, ends);
+      children_room = omega (arith, times, all, children);
+    }
+
 pub returns-clause-ends : goal.returns-clause-ends
 returns-clause-ends g c =
     let origin = g.M.SharedMemory.origin c.args.mem.now in
