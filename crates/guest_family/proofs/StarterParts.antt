@@ -1,5 +1,5 @@
 -- A thread that may start others, from one point of its run to the next, and to its end.
-use Rattle.std.proofs.Common.{◌≡◌, ℕ, zero, suc, ◌+◌, ◌<◌, ◌≤◌, Bool, false, List, [], ◌∷◌, ◌++◌, length, map, nat_lt, reverse, Vec, vec_capacity, vec_len, refl, sym, subst, ap, ◌∙◌, inl, inr, arith, append-nil, length-append}
+use Rattle.std.proofs.Common.{◌≡◌, ℕ, zero, suc, ◌+◌, ◌<◌, ◌≤◌, Bool, true, false, List, [], ◌∷◌, ◌++◌, length, map, nat_lt, reverse, Vec, vec_capacity, vec_len, refl, sym, subst, ap, ◌∙◌, inl, inr, arith, append-nil, length-append}
 use Rattle.std.specs.List.{range_with_len}
 use Rattle.std.specs.declared.alloc.Global.{Global}
 use Rattle.std.proofs.lemmas.Bool.{cases_Bool}
@@ -7,7 +7,7 @@ use Rattle.std.proofs.lemmas.List.Elements.{All-nil}
 use Rattle.atomic_table.specs.Seated.{TableId}
 use Rattle.llsc_base.specs.Images.{Program}
 use Rattle.history.specs.Parts.{accesses_of, entries_of}
-use Rattle.history.specs.Started.{MayAct, child_of, starts_of}
+use Rattle.history.specs.Started.{MayAct, child_of, is_started, starts_of}
 use Rattle.history.specs.Starts.{Started, made_by, starts_from, starts_in}
 use Rattle.history.specs.declared.entry.Entry.{Entry}
 use Rattle.history.proofs.Appends.{entries_of-append}
@@ -94,6 +94,16 @@ module _ {P : Type 0} (home : P → TableId) (numbers : P → ℕ → Bool) (see
       ∙ ap (λ (m : Machine). record { cpu = m; pass = pass; out = out; steps = 0; reads = 0; writes = 0; fails = 0 }) at
       ∙ ap (λ (o : List ℕ). record { cpu = start; pass = pass; out = o; steps = 0; reads = 0; writes = 0; fails = 0 }) empty in
       subst (IsUnderWay home numbers seen mem origin program budget t start) (sym first) (begins_under start pass memory single acts none rests)
+
+  -- one that was started, once it has come in
+  pub child_begins : (start : Machine) (part : Part P) (cpu : Machine) (old pass : P) (out : List ℕ)
+      → part ≡ record { cpu = cpu; pass = pass; out = out; steps = 0; reads = 0; writes = 0; fails = 0 } → cpu ≡ start → out ≡ []
+      → home old ≡ mem → IsSingle t (numbers old) → entries_of t (seen old) ≡ [] → start ≡ between start.state
+      → home pass ≡ home old → numbers pass ≡ numbers old → is_started t (seen pass) ≡ true → Sees origin t (seen old) [] (seen pass)
+      → IsUnderWay home numbers seen mem origin program budget t start part
+  child_begins start part cpu old pass out is at empty memory single none rests home_stays numbers_stay started sees =
+      under_at_start start part cpu pass out is at empty (home_stays ∙ memory) (subst (IsSingle t) (sym numbers_stay) single) (inr started)
+      (none_later origin t (seen old) (seen pass) none sees) rests
 
   -- one of the first at its start
   pub starter_begins : (starter : Starter P) (part : Part P) → IsStarter home numbers seen mem origin program starter → starter.job.thread ≡ t

@@ -2,6 +2,7 @@
 ghost use Rattle.std.specs.Prelude.{◌≡◌, ◌%◌, ◌<◌, ◌≤◌, ◌+◌, ◌^◌, ℕ, [], ◌∷◌, ◌++◌, length, MatchOption, vec_len, vec_capacity};
 ghost use Rattle.llsc_base.specs.Limits.{most_budget};
 ghost use Rattle.llsc_base.specs.Images.{Program};
+ghost use Rattle.history.specs.Parts.{entries_of};
 ghost use Rattle.history.specs.Started.{starts_of};
 ghost use Rattle.history.specs.Starts.{starts_in};
 ghost use Rattle.shared_memory.specs.Seen.{IsFront, IsOneOf, IsSingle};
@@ -17,6 +18,7 @@ ghost use denote.Param.Send.{IsSync, IsSend};
 use crate::kin::Spare;
 use crate::running::{Next, answered, run_out, to_start};
 use a32_step::{Code, Cpu};
+use guest_calls::Output;
 use guest_thread::{Finished, GuestEnd, Part, Ran, gather};
 use llsc_base::{Image, MachineSize};
 use shared_memory::StartMemory;
@@ -44,6 +46,30 @@ fn child_cpu(size: &MachineSize, child: u32, entry: u32, arg: u32) -> Cpu
     Cpu::start(entry, arg, child, stack)
 }
 
+/// A thread that is started, at its first instruction, from the moment on in which it is started.
+fn come_in<M: StartMemory, R: Wait>(
+    rt: &R,
+    mem: &M,
+    thread: u32,
+    mut pass: M::Pass,
+    out: Output,
+    entry: u32,
+    arg: u32,
+) -> Part<M::Pass>
+    requires memory { M.home pass ≡ M.id mem.now }
+    requires single { IsSingle thread (M.numbers pass) }
+    requires none { entries_of thread (M.seen pass) ≡ [] }
+    requires empty { out ≡ [] }
+    requires number { ((M.origin mem.now).first ≤ thread) × (thread < (M.origin mem.now).size.threads) }
+    requires aligned { entry % 4 ≡ 0 }
+    ensures { (program : Program) (budget : ℕ) →
+        IsUnderWay M.home M.numbers M.seen (M.id mem.now) (M.origin mem.now) program budget thread (child_start (M.origin mem.now).size thread entry arg) result }
+{
+    mem.enter(rt, &mut pass);
+    let cpu = child_cpu(&mem.size(), thread, entry, arg);
+    Part::new(cpu, pass, out)
+}
+
 /// Runs a thread that is started, from the moment on in which it is, to its end.
 fn run_child<M: StartMemory, R: Wait>(
     rt: &R,
@@ -65,13 +91,12 @@ fn run_child<M: StartMemory, R: Wait>(
 {
     let Spare {
         thread,
-        mut pass,
+        pass,
         out,
         mut code,
     } = spare;
-    mem.enter(rt, &mut pass);
-    let cpu = child_cpu(&mem.size(), thread, entry, arg);
-    run_out(rt, mem, &mut code, Part::new(cpu, pass, out), budget)
+    let part = come_in(rt, mem, thread, pass, out, entry, arg);
+    run_out(rt, mem, &mut code, part, budget)
 }
 
 /// Takes out the thread that is to be started next, where there is one.

@@ -1,67 +1,39 @@
-use Rattle.std.proofs.Common.{inr, ap, refl, subst, sym, ◌∙◌}
+use Rattle.std.proofs.Common.{◌≤◌, ℕ, subst, sym}
 use Rattle.llsc_base.specs.Images.{Program}
-use Rattle.shared_memory.specs.Seen.{IsSingle}
+use Rattle.history.specs.Starts.{starts_in}
 use Rattle.guest_thread.specs.Begun.{child_start}
 use Rattle.guest_family.specs.UnderWay.{IsEndFrom}
-use Rattle.guest_family.proofs.StarterParts.{none_later, under_at_start}
+use Rattle.guest_family.proofs.StarterParts.{child_has_none}
 use Rattle.guest_family.proofs.starters.run_child.Goals as goal
 
 pub run_out-requires-clause-goes : goal.run_out-requires-clause-goes
 run_out-requires-clause-goes g c κs outlives =
-    let home = g.M.SharedMemory.home in
-    let numbers = g.M.SharedMemory.numbers in
-    let seen = g.M.SharedMemory.seen in
-    let origin = g.M.SharedMemory.origin c.args.mem.now in
-    let mem = g.M.SharedMemory.id c.args.mem.now in
     let t = c.args.spare.thread in
-    let start = child_start origin.size t c.args.entry c.args.arg in
-    let single : IsSingle t (numbers c.enter.new.pass) = subst (IsSingle t) (sym c.enter.ensures.numbers) c.requires.spare.single in
-    let under = under_at_start home numbers seen mem origin c.args.spare.code.program c.args.budget t start c.new.result c.child_cpu-cpu.result c.enter.new.pass c.args.spare.out c.new.ensures
-    (c.child_cpu-cpu.ensures ∙ ap (λ s. child_start s t c.args.entry c.args.arg) c.size.ensures) c.requires.spare.empty (c.enter.ensures.memory ∙ c.requires.spare.memory) single
-    (inr (c.enter.ensures.started t c.requires.spare.single)) (none_later origin t (seen c.args.spare.pass) (seen c.enter.new.pass) c.requires.spare.none (c.enter.ensures.seen t c.requires.spare.single)) refl in
-    (t, start, under)
+    (t, child_start (g.M.SharedMemory.origin c.args.mem.now).size t c.args.entry c.args.arg, c.come_in-part.ensures c.args.spare.code.program c.args.budget)
+
+pub run_out-requires-clause-none : goal.run_out-requires-clause-none
+run_out-requires-clause-none g c κs outlives u single =
+    let origin = g.M.SharedMemory.origin c.args.mem.now in
+    let goes = c.come_in-part.ensures c.args.spare.code.program c.args.budget in
+    let above : origin.first ≤ u = subst (λ (v : ℕ). origin.first ≤ v) (sym (goes.single.only u single.has)) c.requires.number.0 in
+    child_has_none origin.first origin.spare u (starts_in u (g.M.SharedMemory.seen c.come_in-part.result.pass)) above
 
 pub returns-clause-end : goal.returns-clause-end
 returns-clause-end g c =
-    let home = g.M.SharedMemory.home in
-    let numbers = g.M.SharedMemory.numbers in
-    let seen = g.M.SharedMemory.seen in
     let origin = g.M.SharedMemory.origin c.args.mem.now in
-    let mem = g.M.SharedMemory.id c.args.mem.now in
     let t = c.args.spare.thread in
     let start = child_start origin.size t c.args.entry c.args.arg in
-    let single : IsSingle t (numbers c.enter.new.pass) = subst (IsSingle t) (sym c.enter.ensures.numbers) c.requires.spare.single in
-    let under = under_at_start home numbers seen mem origin c.args.spare.code.program c.args.budget t start c.new.result c.child_cpu-cpu.result c.enter.new.pass c.args.spare.out c.new.ensures
-    (c.child_cpu-cpu.ensures ∙ ap (λ s. child_start s t c.args.entry c.args.arg) c.size.ensures) c.requires.spare.empty (c.enter.ensures.memory ∙ c.requires.spare.memory) single
-    (inr (c.enter.ensures.started t c.requires.spare.single)) (none_later origin t (seen c.args.spare.pass) (seen c.enter.new.pass) c.requires.spare.none (c.enter.ensures.seen t c.requires.spare.single)) refl in
-    subst (λ (p : Program). IsEndFrom p origin c.args.budget t start (seen c.run_out.result.pass) c.run_out.result.end) c.requires.spare.code (c.run_out.ensures.ended t start under).end
+    let goes = c.come_in-part.ensures c.args.spare.code.program c.args.budget in
+    subst (λ (p : Program). IsEndFrom p origin c.args.budget t start (g.M.SharedMemory.seen c.run_out.result.pass) c.run_out.result.end) c.requires.spare.code (c.run_out.ensures.ended t start goes).end
 
 pub returns-clause-number : goal.returns-clause-number
 returns-clause-number g c =
-    let home = g.M.SharedMemory.home in
-    let numbers = g.M.SharedMemory.numbers in
-    let seen = g.M.SharedMemory.seen in
-    let origin = g.M.SharedMemory.origin c.args.mem.now in
-    let mem = g.M.SharedMemory.id c.args.mem.now in
     let t = c.args.spare.thread in
-    let start = child_start origin.size t c.args.entry c.args.arg in
-    let single : IsSingle t (numbers c.enter.new.pass) = subst (IsSingle t) (sym c.enter.ensures.numbers) c.requires.spare.single in
-    let under = under_at_start home numbers seen mem origin c.args.spare.code.program c.args.budget t start c.new.result c.child_cpu-cpu.result c.enter.new.pass c.args.spare.out c.new.ensures
-    (c.child_cpu-cpu.ensures ∙ ap (λ s. child_start s t c.args.entry c.args.arg) c.size.ensures) c.requires.spare.empty (c.enter.ensures.memory ∙ c.requires.spare.memory) single
-    (inr (c.enter.ensures.started t c.requires.spare.single)) (none_later origin t (seen c.args.spare.pass) (seen c.enter.new.pass) c.requires.spare.none (c.enter.ensures.seen t c.requires.spare.single)) refl in
-    (c.run_out.ensures.ended t start under).single.has
+    let goes = c.come_in-part.ensures c.args.spare.code.program c.args.budget in
+    (c.run_out.ensures.ended t (child_start (g.M.SharedMemory.origin c.args.mem.now).size t c.args.entry c.args.arg) goes).single.has
 
 pub returns-clause-memory : goal.returns-clause-memory
 returns-clause-memory g c =
-    let home = g.M.SharedMemory.home in
-    let numbers = g.M.SharedMemory.numbers in
-    let seen = g.M.SharedMemory.seen in
-    let origin = g.M.SharedMemory.origin c.args.mem.now in
-    let mem = g.M.SharedMemory.id c.args.mem.now in
     let t = c.args.spare.thread in
-    let start = child_start origin.size t c.args.entry c.args.arg in
-    let single : IsSingle t (numbers c.enter.new.pass) = subst (IsSingle t) (sym c.enter.ensures.numbers) c.requires.spare.single in
-    let under = under_at_start home numbers seen mem origin c.args.spare.code.program c.args.budget t start c.new.result c.child_cpu-cpu.result c.enter.new.pass c.args.spare.out c.new.ensures
-    (c.child_cpu-cpu.ensures ∙ ap (λ s. child_start s t c.args.entry c.args.arg) c.size.ensures) c.requires.spare.empty (c.enter.ensures.memory ∙ c.requires.spare.memory) single
-    (inr (c.enter.ensures.started t c.requires.spare.single)) (none_later origin t (seen c.args.spare.pass) (seen c.enter.new.pass) c.requires.spare.none (c.enter.ensures.seen t c.requires.spare.single)) refl in
-    (c.run_out.ensures.ended t start under).memory
+    let goes = c.come_in-part.ensures c.args.spare.code.program c.args.budget in
+    (c.run_out.ensures.ended t (child_start (g.M.SharedMemory.origin c.args.mem.now).size t c.args.entry c.args.arg) goes).memory
