@@ -1,5 +1,6 @@
 -- What a piece of a thread's run comes to, on a memory that threads share.
-use Rattle.std.proofs.Common.{◌≡◌, ◌⊎◌, inl, inr, ℕ, ◌+◌, ◌<◌, ◌≤◌, Bool, true, List, ◌++◌, length, refl, sym, ap, subst, ◌∙◌, length-append, arith}
+use Rattle.std.proofs.Common.{◌≡◌, ◌⊎◌, inl, inr, ℕ, ◌+◌, ◌<◌, ◌≤◌, Bool, true, List, ◌++◌, length, refl, sym, ap, subst, ⊎_elim, ◌∙◌, length-append, arith}
+use Rattle.std.proofs.lemmas.Bool.{cases_lt}
 use Rattle.std.proofs.lemmas.List.{length-map}
 use Rattle.atomic_table.specs.Seated.{TableId}
 use Rattle.llsc_base.specs.Images.{Program}
@@ -21,8 +22,8 @@ use Rattle.guest_calls.specs.Pairs.{pair_of, pairs_of}
 use Rattle.guest_calls.specs.Run.{Pair, Point, by_itself}
 use Rattle.guest_thread.specs.Counting.{AreCounts, accesses_counted}
 use Rattle.guest_thread.specs.Outcome.{IsSpent}
-use Rattle.guest_thread.specs.Pieces.{ByAnswer, CountFew, HasMadeFew, IsPiece, StandsAt, counts_after, counts_by, pass_of, point_of}
-use Rattle.guest_thread.specs.Ports.{EndsByFrom}
+use Rattle.guest_thread.specs.Pieces.{ByAnswer, CountFew, HasMadeFew, IsPiece, StandsAt, counts_after, counts_by, ended_at, pass_of, point_of}
+use Rattle.guest_thread.specs.Ports.{EndsByFrom, RestsBy, RestsWithin}
 use Rattle.guest_thread.specs.Progress.{progress_of}
 use Rattle.guest_thread.specs.Sharing.{SharingState, IsServedBy, RefusesAt}
 use Rattle.guest_thread.specs.ThreadState.{StopsWithin, ThreadState}
@@ -32,6 +33,8 @@ use Rattle.guest_thread.specs.declared.guests.Event.TheVariants as event
 use Rattle.guest_thread.specs.declared.pieces.Part.{Part}
 use Rattle.guest_thread.specs.declared.pieces.Paused.{Paused}
 use Rattle.guest_thread.specs.declared.pieces.Paused.TheVariants.{Ended, Start, Pause}
+use Rattle.guest_thread.specs.declared.ports.Rest.{Rest}
+use Rattle.guest_thread.specs.declared.ports.Rest.TheVariants as rest
 use Rattle.guest_thread.specs.declared.running.Finished.{Finished}
 use Rattle.guest_thread.proofs.Calling.{calling_in}
 use Rattle.guest_thread.proofs.Going.{answer_later, calls_within, ended_by_within, ended_on_since, ends_by_within, few_by_answer, reaches_within, refused_at, spent_between, steps_since}
@@ -186,3 +189,27 @@ module _ {P : Type 0} (home : P → TableId) (numbers : P → ℕ → Bool) (see
             within = calls.within;
             few = subst (λ n. CountFew n (guest.steps + 1) guest.output) (sym same) (omega (arith, counted, replies));
           })
+
+      -- wherever it has come to rest
+      pub rested_at : (how : Rest) (stood : Part P) (answer : Paused P) → stood ≡ part_at
+          → ((why : Stop) → how ≡ rest.Stopped why → answer ≡ Ended (ended_at t why stood))
+          → (how ≡ rest.Starts → (call : CallAsk) × (stood.cpu.phase ≡ Calling call) × (answer ≡ Start stood call.a call.b))
+          → (how ≡ rest.Spent → upto < budget → answer ≡ Pause stood) → (how ≡ rest.Spent → budget ≤ upto → answer ≡ Ended (ended_at t stop.Budget stood))
+          → (how ≡ rest.Starts → starts ≡ true) → RestsWithin upto how guest → accesses_counted last.counts ≤ progress_of guest
+          → length guest.cpu.replies ≤ 16 → RestsBy starts (RefusesAt last) program upto (point_of part) pairs how guest
+          → IsPiece home numbers seen mem origin program starts upto budget t part answer
+      rested_at (rest.Stopped why) stood answer is stops calls pauses spends asked within counted replies comes =
+          subst (λ a. IsPiece home numbers seen mem origin program starts upto budget t part a)
+          (sym (stops why refl ∙ ap (λ (p : Part P). Ended (ended_at t why p)) is)) (stopped_at why within comes)
+      rested_at rest.Starts stood answer is stops calls pauses spends asked within counted replies comes =
+          let made = calls refl in
+          let call : CallAsk = made.0 in
+          subst (λ a. IsPiece home numbers seen mem origin program starts upto budget t part a)
+          (sym (made.2 ∙ ap (λ (p : Part P). Start p call.a call.b) is))
+          (called_at call (subst (λ (p : Part P). p.cpu.phase ≡ Calling call) is made.1) (asked refl) counted replies comes)
+      rested_at rest.Spent stood answer is stops calls pauses spends asked within counted replies comes = ⊎_elim
+          (λ less. subst (λ a. IsPiece home numbers seen mem origin program starts upto budget t part a) (sym (pauses refl less ∙ ap (λ (p : Part P). Pause p) is))
+          (paused less counted comes))
+          (λ all. subst (λ a. IsPiece home numbers seen mem origin program starts upto budget t part a)
+          (sym (spends refl all ∙ ap (λ (p : Part P). Ended (ended_at t stop.Budget p)) is)) (spent_at (omega (arith, least, all)) comes))
+          (cases_lt upto budget)

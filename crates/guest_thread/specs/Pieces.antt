@@ -9,6 +9,7 @@ use Rattle.history.specs.declared.entry.Entry.{Entry}
 use Rattle.shared_memory.specs.Origin.{Origin}
 use Rattle.shared_memory.specs.Seen.{IsFront, IsSingle}
 use Rattle.a32_instr.specs.declared.outside.CallAsk.{CallAsk}
+use Rattle.a32_instr.specs.declared.outside.Stop.{Stop}
 use Rattle.a32_instr.specs.declared.outside.Stop.TheVariants.{Exit, TagLimit}
 use Rattle.a32_step.specs.Machine.{between, IsCalling}
 use Rattle.guest_calls.specs.Bound.{most_accesses_in}
@@ -32,6 +33,13 @@ counts_by part = record { reads = part.reads; writes = part.writes; fails = part
 -- how far a part has come
 abbrev pub point_of : {P : Type 0} → Part P → Point
 point_of part = record { machine = part.cpu; steps = part.steps; output = part.out }
+
+-- the end of a thread that has come so far
+abbrev pub ended_at : {P : Type 0} → (thread : ℕ) → Stop → Part P → Finished P
+ended_at thread stop part = record {
+  pass = part.pass;
+  end = record { thread = thread; stop = stop; steps = part.steps; reads = part.reads; writes = part.writes; fails = part.fails; out = part.out };
+}
 
 -- no more accesses are counted than so many steps and so much output allow
 abbrev pub CountFew : Counts → (steps : ℕ) → (output : List ℕ) → Type 0

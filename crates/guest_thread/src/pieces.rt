@@ -1,12 +1,13 @@
 //! A thread that runs piece by piece on a memory that threads share.
-ghost use Rattle.std.specs.Prelude.{◌≡◌, ◌≤◌, ℕ, length};
+ghost use Rattle.std.specs.Prelude.{◌≡◌, ◌<◌, ◌≤◌, ℕ, None, length};
 ghost use Rattle.llsc_base.specs.Limits.{most_budget};
 ghost use Rattle.history.specs.Started.{MayAct};
 ghost use Rattle.shared_memory.specs.Seen.{IsSingle};
 ghost use Rattle.a32_instr.specs.declared.outside.CallAsk.{CallAsk};
+ghost use Rattle.a32_instr.specs.declared.outside.Stop.{Stop};
 ghost use Rattle.a32_step.specs.Machine.{between, IsCalling};
 ghost use Rattle.a32_step.specs.Phase.{Calling};
-ghost use Rattle.guest_thread.specs.Pieces.{CountFew, IsPiece, counts_by};
+ghost use Rattle.guest_thread.specs.Pieces.{CountFew, IsPiece, counts_by, ended_at};
 
 use crate::counts::Counts;
 use crate::ends::GuestEnd;
@@ -64,6 +65,23 @@ impl<P> Part<P> {
             fails: self.fails,
         }
     }
+
+    /// The thread itself, and its pass.
+    fn into_guest(self) -> (Guest, P)
+        ensures guest { result.0 ≡ record { cpu = self.cpu; steps = self.steps; output = self.out; printing = None } }
+        ensures pass { result.1 ≡ self.pass }
+    {
+        let Part {
+            cpu,
+            pass,
+            out,
+            steps,
+            reads: _,
+            writes: _,
+            fails: _,
+        } = self;
+        (Guest::at(cpu, out, steps), pass)
+    }
 }
 
 /// Where a piece of a thread's run comes to.
@@ -112,30 +130,13 @@ pub fn go_on<M: SharedMemory, R: Wait>(
     prove!(left <= 65_536);
     let thread = mem.thread(&part.pass);
     let counts = part.counts();
-    let Part {
-        cpu,
-        pass,
-        out,
-        steps,
-        reads: _,
-        writes: _,
-        fails: _,
-    } = part;
+    let (mut guest, pass) = part.into_guest();
     let mut sharing = Sharing::with(rt, mem, pass, thread, counts);
-    let mut guest = Guest::at(cpu, out, steps);
     let rest = guest.run_on(code, upto, &mut sharing, starts);
     let counts = sharing.counts();
     let pass = sharing.into_pass();
-    match rest {
-        Rest::Starts => called(part_of(guest, pass, counts)),
-        Rest::Spent => {
-            if upto < budget {
-                return Paused::Pause(part_of(guest, pass, counts));
-            }
-            Paused::Ended(ended(thread, Stop::Budget, guest, pass, counts))
-        }
-        Rest::Stopped(stop) => Paused::Ended(ended(thread, stop, guest, pass, counts)),
-    }
+    let part = part_of(guest, pass, counts);
+    rested(rest, thread, part, upto, budget)
 }
 
 /// A thread as it may go on.
@@ -154,21 +155,41 @@ fn part_of<P>(guest: Guest, pass: P, counts: Counts) -> Part<P>
     }
 }
 
+/// Where a thread has come to that was to make so many steps, by how it rests. With all of them made it may go on, where they
+/// aren't its budget.
+fn rested<P>(rest: Rest, thread: u32, part: Part<P>, upto: u64, budget: u64) -> Paused<P>
+    requires { rest ≡ Rest.Starts → IsCalling part.cpu.phase }
+    ensures stopped { (stop : Stop) → rest ≡ Rest.Stopped stop → result ≡ Paused.Ended (ended_at thread stop part) }
+    ensures called { rest ≡ Rest.Starts → (call : CallAsk) × (part.cpu.phase ≡ Calling call) × (result ≡ Paused.Start part call.a call.b) }
+    ensures pauses { rest ≡ Rest.Spent → upto < budget → result ≡ Paused.Pause part }
+    ensures spent { rest ≡ Rest.Spent → budget ≤ upto → result ≡ Paused.Ended (ended_at thread Stop.Budget part) }
+{
+    match rest {
+        Rest::Stopped(stop) => Paused::Ended(ended(thread, stop, part)),
+        Rest::Starts => called(part),
+        Rest::Spent => {
+            if upto < budget {
+                return Paused::Pause(part);
+            }
+            Paused::Ended(ended(thread, Stop::Budget, part))
+        }
+    }
+}
+
 /// A thread that has ended.
-fn ended<P>(thread: u32, stop: Stop, guest: Guest, pass: P, counts: Counts) -> Finished<P>
-    ensures pass { result.pass ≡ pass }
-    ensures end { result.end ≡ record { thread = thread; stop = stop; steps = guest.steps; reads = counts.reads; writes = counts.writes; fails = counts.fails; out = guest.output } }
+fn ended<P>(thread: u32, stop: Stop, part: Part<P>) -> Finished<P>
+    ensures { result ≡ ended_at thread stop part }
 {
     Finished {
-        pass,
+        pass: part.pass,
         end: GuestEnd {
             thread,
             stop,
-            steps: guest.steps(),
-            reads: counts.reads,
-            writes: counts.writes,
-            fails: counts.fails,
-            out: guest.into_output(),
+            steps: part.steps,
+            reads: part.reads,
+            writes: part.writes,
+            fails: part.fails,
+            out: part.out,
         },
     }
 }
