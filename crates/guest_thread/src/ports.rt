@@ -26,7 +26,9 @@ pub(crate) enum Rest {
 }
 
 impl Guest {
-    /// Up to the thread's next access, which is made and replied to, or to the end of an instruction, or its rest.
+    /// Up to the thread's next access, which is made and replied to, or to the end of an instruction, or its rest. It is marked as
+    /// cold, so that what it is given takes no register from the instructions that are carried through.
+    #[cold]
     #[inline(never)]
     fn pass<P: Port>(
         &mut self,
