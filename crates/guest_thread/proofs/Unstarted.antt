@@ -1,7 +1,7 @@
 -- Where none is spare nobody starts a thread, and the outcome is that of threads which begin by themselves.
-use Rattle.std.proofs.Common.{◌≡◌, ℕ, zero, suc, ◌+◌, ◌<◌, ◌≤◌, ◌||◌, All, Bool, true, false, Some, None, List, [], ◌∷◌, ◌++◌, cond, length, map, slice_get, arith, refl, sym, subst, ap, ◌∙◌, append-nil}
+use Rattle.std.proofs.Common.{◌≡◌, ℕ, suc, ◌+◌, ◌<◌, ◌≤◌, All, false, Some, None, List, [], ◌∷◌, ◌++◌, cond, length, map, slice_get, arith, refl, sym, subst, ap, ◌∙◌, append-nil}
 use Rattle.std.specs.List.{flat_map, range_with_len}
-use Rattle.std.proofs.lemmas.List.Elements.{All-cons, All-head, All-nil, All-tail}
+use Rattle.std.proofs.lemmas.List.Elements.{All-cons, All-nil}
 use Rattle.llsc_base.specs.Images.{Program}
 use Rattle.llsc_base.specs.Sizes.{Numbers}
 use Rattle.history.specs.Started.{AreBorn, MayStand, is_start_by, starts_of}
@@ -12,15 +12,14 @@ use Rattle.history.proofs.Cuts.{each-front, each-last}
 use Rattle.history.proofs.Ends.{by_ends}
 use Rattle.history.proofs.Starts.{starts_from-length}
 use Rattle.std.proofs.lemmas.List.Sums.{sum_by-append}
-use Rattle.a32_instr.specs.declared.outside.Stop.{Stop}
 use Rattle.guest_calls.specs.Pairs.{pairs_of}
-use Rattle.guest_thread.specs.Begun.{BeginsAs, by_itself, by_start, begun_in, children_of, stock_of}
-use Rattle.guest_thread.specs.BegunOutcome.{AreBegunEnds, IsBegunEnd, IsOutcomeFrom, IsStockEndOn}
-use Rattle.guest_thread.specs.Outcome.{AreEndsOn, IsEndOn, IsOutcome}
+use Rattle.guest_thread.specs.Begun.{BeginsAs, by_itself, begun_in, children_of}
+use Rattle.guest_thread.specs.BegunOutcome.{IsBegunEnd, IsOutcomeFrom}
+use Rattle.guest_thread.specs.Outcome.{IsEndOn, IsOutcome}
 use Rattle.guest_thread.specs.Start.{thread_start}
 use Rattle.guest_thread.specs.StockRun.{IsStockRun}
 use Rattle.guest_thread.specs.declared.ends.GuestEnd.{GuestEnd}
-use Rattle.guest_thread.proofs.StockRun.{run_stockless, stockless_run}
+use Rattle.guest_thread.proofs.StockRun.{run_stockless}
 
 -- ---- no starts
 
