@@ -33,7 +33,8 @@ differ run other = list_any (differ_at run other) (below 32)
 abbrev differ_from : Run → List Run → Bool
 differ_from run others = list_any (differ run) others
 
-abbrev clash : List Run → List Run → Bool
+-- of two lists of fixed bits one has a bit that differs
+abbrev pub clash : List Run → List Run → Bool
 clash runs others = list_any (λ run. differ_from run others) runs
 
 -- two rows have a fixed bit that differs
@@ -98,7 +99,8 @@ differ_from_apart word run h (other ∷ others) all e =
     (differ_from_apart word run h others (rest_of word other others all))
     (or_cases (differ run other) (differ_from run others) e)
 
-clash_apart : (word : ℕ) (runs others : List Run) → IsTrue (has_all word runs) → IsTrue (has_all word others) → IsTrue (clash runs others) → ⊥
+-- no word has both then
+pub clash_apart : (word : ℕ) (runs others : List Run) → IsTrue (has_all word runs) → IsTrue (has_all word others) → IsTrue (clash runs others) → ⊥
 clash_apart word [] others all more e = both_ways false refl e
 clash_apart word (run ∷ runs) others all more e =
     ⊎_elim

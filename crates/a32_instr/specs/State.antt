@@ -14,11 +14,15 @@ pub record State : Type 0 where
 
 -- What an instruction does next: it asks for an access, makes a guest call, is complete with a new state, or
 -- stops the thread. Until it is complete, the state is that of its start.
-pub data Effect : Type 0 where
-  asks : Ask → Effect
-  calls : CallAsk → Effect
-  completes : State → Effect
-  stops : Stop → Effect
+pub data EffectOf (S : Type 0) : Type 0 where
+  asks : Ask → EffectOf S
+  calls : CallAsk → EffectOf S
+  completes : S → EffectOf S
+  stops : Stop → EffectOf S
+
+-- what an A32 instruction does next
+abbrev pub Effect : Type 0
+Effect = EffectOf State
 
 -- a number modulo 2 to the 32
 abbrev pub low32 : ℕ → ℕ

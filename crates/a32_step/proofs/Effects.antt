@@ -4,16 +4,10 @@ use Rattle.llsc_base.specs.Images.{Program}
 use Rattle.llsc_base.specs.declared.access.Bar.{Bar}
 use Rattle.llsc_base.specs.declared.access.Bar.TheVariants as bar
 use Rattle.a32_instr.specs.declared.outside.Ask.{Ask}
-use Rattle.a32_instr.specs.declared.outside.Stop.{Stop}
-use Rattle.a32_instr.specs.declared.outside.Stop.TheVariants as stop
 use Rattle.a32_instr.specs.State.{State, Effect, asks, calls, completes, stops, jumps, writes}
 use Rattle.a32_instr.specs.LoadStore.{barred}
+pub use Rattle.a32_step.specs.Machine.{IsOwn}
 use Rattle.a32_step.specs.Machine.{wanted_of, IsTested, PassesTests, ValueFits}
-
--- a stop that an instruction may make: each but that for want of a tag, which is memory's
-abbrev pub IsOwn : Stop → Type 0
-IsOwn (stop.TagLimit addr) = ⊥
-IsOwn _ = Unit {0}
 
 -- an access that is asked for: it has passed its tests, fewer than 16 came before it, and where registers are words its value fits
 pub record IsSound (words : Type 0) (program : Program) (replies : List ℕ) (ask : Ask) : Type 0 where

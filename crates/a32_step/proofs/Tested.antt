@@ -13,6 +13,7 @@ use Rattle.a32_instr.specs.Table.{table, meaning}
 use Rattle.a32_step.specs.declared.phases.Wanted.{Wanted}
 use Rattle.a32_step.specs.Words.{AreWords}
 use Rattle.a32_step.specs.Phase.{Phase, Between, Inside, Awaiting, Calling, Stopped}
+pub use Rattle.a32_step.specs.Machine.{GoesOn, GoesOnWith}
 use Rattle.a32_step.specs.Machine.{Machine, wanted_of, begins, decoded, instr_of_word, next_in, next_effect, IsReady, IsTested, PassesTests}
 use Rattle.a32_step.proofs.Effects.{IsOwn, IsSound, Stands, allowed, chosen}
 use Rattle.a32_step.proofs.Instructions.{acts_stand}
@@ -27,14 +28,6 @@ decoded_stands program state (Err fault.Unpredictable) = tt
 begins_stand : (program : Program) (state : State) (word : Option ℕ) → Stands (AreWords state.regs) program [] (begins program state (instr_of_word state.pc word))
 begins_stand program state None = tt
 begins_stand program state (Some word) = decoded_stands program state (meaning table word)
-
--- between two instructions, or inside one
-abbrev pub GoesOn : Phase → Type 0
-GoesOn Between = Unit {0}
-GoesOn (Inside instr) = Unit {0}
-GoesOn (Awaiting instr ask) = ⊥
-GoesOn (Calling call) = ⊥
-GoesOn (Stopped stop) = ⊥
 
 -- the replies that the instruction of a machine has had
 abbrev replies_in : List ℕ → Phase → List ℕ
@@ -63,14 +56,6 @@ next_passes program machine asked goes same = (next_sound program machine asked 
 pub next_own : (program : Program) (machine : Machine) (why : Stop) → GoesOn machine.phase → next_effect program machine ≡ stops why → IsOwn why
 next_own program machine why goes same =
     subst (Stands (AreWords machine.state.regs) program (replies_in machine.replies machine.phase)) same (stands_in program machine machine.phase goes)
-
--- with these replies behind it a machine goes on: it is between two instructions, with none, or inside one
-abbrev pub GoesOnWith : Phase → List ℕ → Type 0
-GoesOnWith Between replies = replies ≡ []
-GoesOnWith (Inside instr) replies = Unit {0}
-GoesOnWith (Awaiting instr asked) replies = ⊥
-GoesOnWith (Calling call) replies = ⊥
-GoesOnWith (Stopped stop) replies = ⊥
 
 goes_on : (phase : Phase) (replies : List ℕ) → GoesOnWith phase replies → GoesOn phase × (replies_in replies phase ≡ replies)
 goes_on Between replies none = (tt, sym none)

@@ -6,9 +6,13 @@ use Rattle.a32_instr.specs.declared.outside.Stop.{Stop}
 
 -- Between two instructions; inside one that waits for nothing; waiting for the reply to an access of this instruction,
 -- or for the answer of a guest call; or stopped for good.
-pub data Phase : Type 0 where
-  Between : Phase
-  Inside : Instr → Phase
-  Awaiting : Instr → Ask → Phase
-  Calling : CallAsk → Phase
-  Stopped : Stop → Phase
+pub data PhaseOf (I : Type 0) : Type 0 where
+  Between : PhaseOf I
+  Inside : I → PhaseOf I
+  Awaiting : I → Ask → PhaseOf I
+  Calling : CallAsk → PhaseOf I
+  Stopped : Stop → PhaseOf I
+
+-- where the thread of an A32 guest stands
+abbrev pub Phase : Type 0
+Phase = PhaseOf Instr

@@ -1,7 +1,7 @@
 //! The instruction at the PC of one guest thread as it is carried out.
 ghost use Rattle.llsc_base.specs.Images.{Program};
 ghost use Rattle.std.specs.Prelude.{◌≡◌, ◌≢◌, ◌<◌, ◌≤◌, ◌%◌, ◌+◌, ◌^◌, ◌∷◌, ◌++◌, length, slice_index, IsFalse, IsTrue, []};
-ghost use Rattle.a32_instr.specs.State.{register, with_register, advanced, jumps, writes, answered, stops};
+ghost use Rattle.a32_instr.specs.State.{State, register, with_register, advanced, jumps, writes, answered, stops};
 ghost use Rattle.a32_instr.specs.Condition.{passes};
 ghost use Rattle.a32_instr.specs.Effect.{acts};
 ghost use Rattle.a32_step.specs.Progress.{progress_of, stop_of};
@@ -274,7 +274,7 @@ impl Execution {
 
     /// The thread stops, and that is what is wanted.
     pub fn stop_wanted(&mut self, stop: Stop) -> Wanted
-        ensures wanted { result ≡ wanted_of (stops stop) }
+        ensures wanted { result ≡ wanted_of {S = State} (stops stop) }
         ensures state { self.new ≡ record self.old { stage = Stopped stop } }
     {
         self.stop(stop);

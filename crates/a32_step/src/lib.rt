@@ -10,6 +10,7 @@
 #![tactic(auto)]
 
 mod code;
+mod cores;
 mod cpu;
 mod decoded;
 mod execution;
@@ -21,6 +22,7 @@ mod sources;
 
 pub use a32_instr::{Ask, CallAsk, Flags, Stop};
 pub use code::Code;
+pub use cores::Core;
 pub use cpu::Cpu;
 pub use phases::{Passage, Wanted};
 pub use ports::Port;

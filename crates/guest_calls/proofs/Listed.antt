@@ -3,8 +3,8 @@ use Rattle.std.proofs.Common.{◌≡◌, ℕ, Option, Some, None, List, [], ◌�
 use Rattle.llsc_base.specs.Images.{Program}
 use Rattle.a32_instr.specs.declared.outside.Ask.{Ask}
 use Rattle.a32_instr.specs.declared.outside.Stop.{Stop}
-use Rattle.a32_step.specs.Machine.{Machine}
-use Rattle.guest_calls.specs.Run.{Pair, Ends}
+use Rattle.a32_step.specs.Machine.{MachineOf, InstructionSet}
+use Rattle.guest_calls.specs.Run.{Pair, EndsOf}
 use Rattle.guest_calls.proofs.Decided.{AreDecided, one_end}
 
 -- the reply that a list has after so long a beginning
@@ -27,11 +27,12 @@ pub list_ends : (pairs : List Pair) → reply_after pairs pairs ≡ None
 list_ends [] = refl
 list_ends (pair ∷ pairs) = list_ends pairs
 
--- two ends of one list are the same
-pub one_end_of_list : (program : Program) (budget : ℕ) (start : Machine) (pairs : List Pair) (stop other : Stop) (steps count : ℕ) (output text : List ℕ)
-    → Ends program budget start pairs stop steps output → Ends program budget start pairs other count text → (stop ≡ other) × (steps ≡ count) × (output ≡ text)
-one_end_of_list program budget start pairs stop other steps count output text ends ends_too =
-    let same =
-    one_end (λ front ask. reply_after pairs front) program budget start pairs pairs stop other steps count output text
-    ends (list_decides pairs) ends_too (list_decides pairs) in
-    (same.1, same.2, same.3)
+module _ {I S : Type 0} (set : InstructionSet I S) where
+  -- two ends of one list are the same
+  pub one_end_of_list : (program : Program) (budget : ℕ) (start : MachineOf I S) (pairs : List Pair) (stop other : Stop) (steps count : ℕ) (output text : List ℕ)
+      → EndsOf set program budget start pairs stop steps output → EndsOf set program budget start pairs other count text → (stop ≡ other) × (steps ≡ count) × (output ≡ text)
+  one_end_of_list program budget start pairs stop other steps count output text ends ends_too =
+      let same =
+      one_end set (λ front ask. reply_after pairs front) program budget start pairs pairs stop other steps count output text
+      ends (list_decides pairs) ends_too (list_decides pairs) in
+      (same.1, same.2, same.3)

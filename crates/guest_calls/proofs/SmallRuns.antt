@@ -11,7 +11,7 @@ use Rattle.a32_instr.specs.declared.outside.Ask.{Ask}
 use Rattle.a32_instr.specs.declared.outside.Ask.TheVariants.{Load, Store, StoreEx}
 use Rattle.a32_instr.specs.declared.outside.Stop.{Stop}
 use Rattle.a32_instr.specs.declared.outside.Stop.TheVariants.{Exit, Budget, TagLimit, Outside, ReadOnly}
-use Rattle.a32_step.specs.Machine.{Machine, after_next, given, next_effect}
+use Rattle.a32_step.specs.Machine.{Machine, after_next, given, next_effect, a32}
 use Rattle.guest_calls.specs.Run.{Pair, byte_load, Reaches, begins, accesses, steps_on, returns, prints, returned, Ends, halts, leaves, spends, EndsOn, by_itself, by_limit, Asks, asks_access, asks_byte}
 use Rattle.guest_calls.specs.Worked.{byte_at, call, calling, loading, storing, storing_exclusively, thread_at, word}
 use Rattle.guest_calls.proofs.Asked.{asks_or_ends, one_ask}
@@ -116,10 +116,10 @@ pub refused_at : (program : Program) (budget : ℕ) (start : Machine) (pairs : L
     → Asks program budget start pairs ask → EndsOn program budget start pairs stop steps output
     → (place : Place) × (value : ℕ) × (ask ≡ Store place value)
 refused_at program budget start _ ask _ _ _ asked (by_itself pairs stop steps output ends) =
-    absurd (asks_or_ends program budget start pairs ask stop steps output asked ends)
+    absurd (asks_or_ends a32 program budget start pairs ask stop steps output asked ends)
 refused_at program budget start _ ask _ _ _ asked (by_limit pairs machine steps output place value reached less stored) = (
   place,
   value,
-  one_ask program budget start pairs ask (Store place value) asked
+  one_ask a32 program budget start pairs ask (Store place value) asked
       (asks_access pairs machine steps output (Store place value) reached less stored),
 )

@@ -1,5 +1,6 @@
 pub mod Bound
 pub mod Calls
+pub mod Outcomes
 pub mod OutputInside
 pub mod Pairs
 pub mod Run

@@ -1,10 +1,9 @@
 -- What the code makes of a guest call.
 use Rattle.std.specs.Prelude.{ℕ, ◌+◌, ◌<◌, ◌≤◌}
-use Rattle.a32_step.specs.Machine.{Machine}
+use Rattle.a32_step.specs.Machine.{MachineOf, Machine, InstructionSet, a32, returned_of}
 use Rattle.guest_calls.specs.declared.calls.CallStep.{CallStep}
 use Rattle.guest_calls.specs.declared.calls.CallStep.TheVariants.{Exit, Answered, Bytes}
 use Rattle.guest_calls.specs.Calls.{CallEffect, exits, answers, writes_bytes, most_output}
-use Rattle.guest_calls.specs.Run.{returned}
 
 -- the step of a call's effect
 abbrev pub step_of : CallEffect → CallStep
@@ -13,10 +12,13 @@ step_of (answers value) = Answered
 step_of (writes_bytes from count) = Bytes from count
 
 -- the core that made the call: one whose call is answered is between two instructions, and any other is as it was
+abbrev pub after_call_of : {I S : Type 0} → InstructionSet I S → MachineOf I S → CallEffect → MachineOf I S
+after_call_of set machine (exits code) = machine
+after_call_of set machine (answers value) = returned_of set machine value
+after_call_of set machine (writes_bytes from count) = machine
+
 abbrev pub after_call : Machine → CallEffect → Machine
-after_call machine (exits code) = machine
-after_call machine (answers value) = returned machine value
-after_call machine (writes_bytes from count) = machine
+after_call = after_call_of a32
 
 -- bytes that are to be loaded are some, lie in memory, and have room in the output
 abbrev pub HaveRoom : (mem written : ℕ) → CallStep → Type 0

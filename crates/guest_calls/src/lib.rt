@@ -14,6 +14,6 @@ mod replies;
 pub mod worked;
 pub mod worked_runs;
 
-pub use calls::{CallStep, guest_call, is_start_call};
+pub use calls::{CallOutcome, CallStep, guest_call, is_start_call, outcome_of};
 pub use output::Output;
 pub use replies::reply_of;

@@ -2,7 +2,7 @@
 use Rattle.std.proofs.Common.{◌≡◌, ℕ, List, [], ◌∷◌, refl, sym, ◌∙◌, subst}
 use Rattle.llsc_base.specs.Images.{Program}
 use Rattle.llsc_base.specs.Sizes.{Numbers}
-use Rattle.a32_step.specs.Machine.{Machine}
+use Rattle.a32_step.specs.Machine.{Machine, a32}
 use Rattle.history.specs.Accesses.{history_of}
 use Rattle.history.specs.declared.entry.Access.{Access}
 use Rattle.history.specs.declared.entry.Entry.{Entry}
@@ -34,7 +34,7 @@ same_by_memory program budget start granule bytes history others end other numbe
     subst (λ t. Ends program budget start (pairs_of t others) other.stop other.steps other.out) number_too is_too.ends in
     let counts : AreCounts 0 history (counts_in end) = subst (λ t. AreCounts t history (counts_in end)) number is.counts in
     let counts_too : AreCounts 0 others (counts_in other) = subst (λ t. AreCounts t others (counts_in other)) number_too is_too.counts in
-    let same = one_end (by_memory granule bytes) program budget start (pairs_of 0 history) (pairs_of 0 others)
+    let same = one_end a32 (by_memory granule bytes) program budget start (pairs_of 0 history) (pairs_of 0 others)
     end.stop other.stop end.steps other.steps end.out other.out ends decided ends_too decided_too in
     same_end end other (number ∙ sym number_too) same.1 same.2
     (counts.reads ∙ same_count reads_in (λ pair. read_by pair.0 pair.1) reads_counted 0 history others same.0 ∙ sym counts_too.reads)

@@ -8,6 +8,7 @@ use Rattle.llsc_base.specs.Sizes.{Numbers}
 use Rattle.history.specs.declared.entry.Access.{Access}
 use Rattle.a32_instr.specs.declared.outside.Ask.{Ask}
 use Rattle.a32_instr.specs.declared.outside.Stop.{Stop}
+use Rattle.a32_step.specs.Machine.{a32}
 use Rattle.guest_calls.specs.Run.{Asks, Ends}
 use Rattle.guest_calls.proofs.Asked.{one_ask, asks_or_ends}
 use Rattle.guest_calls.specs.Pairs.{pairs_in}
@@ -67,14 +68,14 @@ one_next program size budget _ _ _ (access spot t ask turn asks) (access _ u wis
     let wishes : Asks program budget (thread_start program size size.threads t) (pairs_in t spot.accesses) wish =
     subst (λ n. Asks program budget (thread_start program size size.threads n) (pairs_in n spot.accesses) wish) (sym same) asks' in
     ap (λ n. made program size spot n ask) same
-    ∙ ap (made program size spot u) (one_ask program budget (thread_start program size size.threads t) (pairs_in t spot.accesses) ask wish asks wishes)
+    ∙ ap (made program size spot u) (one_ask a32 program budget (thread_start program size size.threads t) (pairs_in t spot.accesses) ask wish asks wishes)
 one_next program size budget _ _ _ (access spot t ask turn asks) (stop _ u end steps output turn' ends) =
     let same : t ≡ u = some_same t u (turn_of (drawn spot.number) spot.live) turn turn' in
-    absurd (asks_or_ends program budget (thread_start program size size.threads t) (pairs_in t spot.accesses) ask end steps output asks
+    absurd (asks_or_ends a32 program budget (thread_start program size size.threads t) (pairs_in t spot.accesses) ask end steps output asks
     (subst (λ n. Ends program budget (thread_start program size size.threads n) (pairs_in n spot.accesses) end steps output) (sym same) ends))
 one_next program size budget _ _ _ (stop spot t end steps output turn ends) (access _ u wish turn' asks') =
     let same : t ≡ u = some_same t u (turn_of (drawn spot.number) spot.live) turn turn' in
-    absurd (asks_or_ends program budget (thread_start program size size.threads t) (pairs_in t spot.accesses) wish end steps output
+    absurd (asks_or_ends a32 program budget (thread_start program size size.threads t) (pairs_in t spot.accesses) wish end steps output
     (subst (λ n. Asks program budget (thread_start program size size.threads n) (pairs_in n spot.accesses) wish) (sym same) asks') ends)
 one_next program size budget _ _ _ (stop spot t end steps output turn ends) (stop _ u end' steps' output' turn' ends') =
     ap (stopped spot) (some_same t u (turn_of (drawn spot.number) spot.live) turn turn')

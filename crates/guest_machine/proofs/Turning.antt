@@ -14,7 +14,7 @@ use Rattle.history.specs.declared.entry.Access.{Access}
 use Rattle.history.proofs.Appends.{IsArmLegal-push}
 use Rattle.a32_instr.specs.declared.outside.Ask.{Ask}
 use Rattle.a32_instr.specs.declared.outside.Stop.{Stop}
-use Rattle.guest_calls.specs.Run.{Pair, ReachesBy, Asks, Ends}
+use Rattle.guest_calls.specs.Run.{Pair, ReachesByOf, Asks, Ends}
 use Rattle.history.specs.Accesses.{entry_of, history_of}
 use Rattle.guest_calls.specs.Pairs.{pairs_in, reply_of}
 use Rattle.guest_thread.specs.ThreadState.{ThreadState, IsReadyIn, IsWaitingIn}
@@ -238,7 +238,7 @@ at_start program size seed budget live seats memory accesses live_is seats_are m
     }))
   where
     seated : (t : ℕ) → t < size.threads → IsSeated program size budget [] (range_with_len 0 size.threads) t (first_seat program size t)
-    seated t known = record { tells = in_range size.threads t 0 (omega arith) (omega (arith, known)); stands = (ReachesBy.begins, (tt, omega arith)) }
+    seated t known = record { tells = in_range size.threads t 0 (omega arith) (omega (arith, known)); stands = (ReachesByOf.begins, (tt, omega arith)) }
 
     first_seated : (t : ℕ) (other : Seat) → t < size.threads
         → IsSeated program size budget [] (range_with_len 0 size.threads) t (slice_index_or (map (first_seat program size) (range_with_len 0 size.threads)) t other)

@@ -14,8 +14,8 @@ use Rattle.shared_memory.specs.Seen.{IsFront, IsSingle}
 use Rattle.a32_instr.specs.declared.outside.CallAsk.{CallAsk}
 use Rattle.a32_instr.specs.declared.outside.Stop.{Stop}
 use Rattle.a32_instr.specs.declared.outside.Stop.TheVariants as stop
-use Rattle.a32_step.specs.Machine.{Machine, between, wanted_of, IsCalling}
-use Rattle.a32_step.specs.Phase.{Calling}
+use Rattle.a32_step.specs.Machine.{Machine, a32, between, wanted_of, IsCalling}
+use Rattle.a32_step.specs.Phase.{Phase, Calling}
 use Rattle.a32_step.specs.Ports.{Leads}
 use Rattle.guest_calls.specs.Calls.{most_output}
 use Rattle.guest_calls.specs.Pairs.{pair_of, pairs_of}
@@ -45,9 +45,9 @@ use Rattle.guest_thread.proofs.Shared.{HasShared, after_all}
 pub calling_of : (stocked : Bool) (program : Program) (budget : ℕ) (point : Point) (pairs : List Pair) (standing : ThreadState)
     → (comes : ComesToEvent stocked program budget point pairs event.Starts standing) → standing.cpu.phase ≡ Calling comes.0
 calling_of stocked program budget point pairs standing comes =
-    calling_in program comes.1.machine standing.cpu comes.0 (ap wanted_of (sym comes.1.called)) comes.1.cpu_is
+    calling_in a32 program comes.1.machine standing.cpu comes.0 (ap wanted_of (sym comes.1.called)) comes.1.cpu_is
 
-same_call : (one other : CallAsk) → Calling one ≡ Calling other → one ≡ other
+same_call : (one other : CallAsk) → ◌≡◌ {A = Phase} (Calling one) (Calling other) → one ≡ other
 same_call one other same = cc
 
 -- a thread that has made all of its steps has stopped by the exit call
@@ -138,7 +138,7 @@ module _ {P : Type 0} (home : P → TableId) (numbers : P → ℕ → Bool) (see
       pub spent_at : upto ≡ budget → ComesToEvent starts program upto (point_of part) pairs event.Spent guest
           → IsPiece home numbers seen mem origin program starts upto budget t part (Ended (done_at stop.Budget))
       spent_at all comes =
-          let ends = spent_ends starts program upto (point_of part) pairs guest comes in
+          let ends = spent_ends a32 starts program upto (point_of part) pairs guest comes in
           let spent = comes.1 in
           piece_of (Ended (done_at stop.Budget)) gone same
           (subst (λ n. ByAnswer starts program n (point_of part) pairs (Ended (done_at stop.Budget))) all (by_itself pairs stop.Budget guest.steps guest.output ends))

@@ -6,7 +6,7 @@ use Rattle.a32_instr.specs.declared.outside.Ask.{Ask}
 use Rattle.a32_step.specs.declared.phases.Passage.{Passage}
 use Rattle.a32_step.specs.declared.phases.Passage.TheVariants.{Complete, AtStart, UnderWay}
 use Rattle.a32_step.specs.declared.phases.Wanted.TheVariants as wanted
-use Rattle.a32_step.specs.Machine.{Machine, between, IsReady, IsAwaiting, after_next, given, given_in, wanted_of}
+use Rattle.a32_step.specs.Machine.{Machine, between, IsReady, IsAwaiting, after_next, given, given_in, wanted_of, a32}
 use Rattle.a32_step.specs.Phase.{Phase, Between, Inside, Awaiting, Calling, Stopped}
 use Rattle.a32_step.specs.Passages.{Comes, starts, replied, EndsAt, IsCarriedOn}
 use Rattle.a32_step.specs.Ports.{Leads, goes, refused, stays}
@@ -15,10 +15,8 @@ use Rattle.guest_calls.specs.Run.{Pair, ReachesBy, accesses, steps_on, Point}
 use Rattle.guest_calls.specs.Calls.{most_output}
 use Rattle.guest_calls.proofs.FewAccesses.{given_one}
 use Rattle.guest_thread.specs.Ports.{IsAtRest, IsRunning}
-use Rattle.guest_thread.specs.Progress.{IsBounded, progress_of}
 use Rattle.guest_thread.specs.ThreadState.{ThreadState, IsReadyBy}
 use Rattle.guest_thread.specs.Under.{HasComeFrom}
-use Rattle.guest_thread.proofs.Leading.{leads_on}
 use Rattle.guest_thread.proofs.Reached.{come_by, reached_at, reached_by}
 
 -- ---- how far its run has come
@@ -82,12 +80,6 @@ replies_counted program old machine pairs rest comes =
     let all = comes_counted program old machine pairs (subst (λ (m : Machine). IsReady m.phase) (sym rest) tt) comes in
     omega (arith, none, all.count)
 
--- a step is more than the replies of an instruction
-pub further : (old new : ThreadState) → IsBounded old → old.steps < new.steps → new.output ≡ old.output → progress_of old < progress_of new
-further old new bounded more same =
-    let long : length new.output ≡ length old.output = ap (λ o. length o) same in
-    omega (arith, bounded.replies, more, long)
-
 -- ---- one instruction more, or a part of it
 
 pub part_ends : (program : Program) (machine new : Machine) (way : Passage) → (way ≡ AtStart) ⊎ (way ≡ UnderWay) → EndsAt program machine way new
@@ -113,12 +105,12 @@ module _ {S : Type 0} (replies : S → Ask → Option ℕ → S → Type 0) (pro
   pub after_one : IsCarriedOn replies program old.cpu from Complete new.cpu to → new.steps ≡ old.steps + 1 → (stocked : Bool) (point : Point) (before : List Pair)
       → HasComeFrom stocked program budget point before old → (pairs : List Pair) × (Leads replies from pairs to × HasComeFrom stocked program budget point (before ++ pairs) new)
   after_one carried more stocked point before come =
-      let reached = come_on stocked program budget point old.cpu before old.steps old.output carried.pairs carried.machine (reached_by stocked program budget point before old rest.printing come) within carried.comes in (
+      let reached = come_on stocked program budget point old.cpu before old.steps old.output carried.pairs carried.machine (reached_by a32 stocked program budget point before old rest.printing come) within carried.comes in (
         carried.pairs,
         (
           carried.leads,
-          come_by stocked program budget point (before ++ carried.pairs) new still
-              (reached_at stocked program budget point new.cpu (after_next program carried.machine) (before ++ carried.pairs) new.steps (old.steps + 1) new.output old.output
+          come_by a32 stocked program budget point (before ++ carried.pairs) new still
+              (reached_at a32 stocked program budget point new.cpu (after_next program carried.machine) (before ++ carried.pairs) new.steps (old.steps + 1) new.output old.output
               carried.ends.2 more same (steps_on (before ++ carried.pairs) carried.machine old.steps old.output carried.ends.0 reached within carried.ends.1)),
         ),
       )
@@ -131,30 +123,8 @@ module _ {S : Type 0} (replies : S → Ask → Option ℕ → S → Type 0) (pro
     pairs,
     (
       leads,
-      come_by stocked program budget point (before ++ pairs) new still
-          (reached_at stocked program budget point new.cpu machine (before ++ pairs) new.steps old.steps new.output old.output is steps same
-          (come_on stocked program budget point old.cpu before old.steps old.output pairs machine (reached_by stocked program budget point before old rest.printing come) within comes)),
+      come_by a32 stocked program budget point (before ++ pairs) new still
+          (reached_at a32 stocked program budget point new.cpu machine (before ++ pairs) new.steps old.steps new.output old.output is steps same
+          (come_on stocked program budget point old.cpu before old.steps old.output pairs machine (reached_by a32 stocked program budget point before old rest.printing come) within comes)),
     ),
   )
-
--- ---- one way after another
-
-abbrev pub Ways : {S : Type 0} → (S → Ask → Option ℕ → S → Type 0) → Bool → Program → ℕ → ThreadState → S → ThreadState → S → Type 0
-Ways replies stocked program budget old from new to = (point : Point) (before : List Pair) → HasComeFrom stocked program budget point before old
-    → (pairs : List Pair) × (Leads replies from pairs to × HasComeFrom stocked program budget point (before ++ pairs) new)
-
-pub no_way : {S : Type 0} (replies : S → Ask → Option ℕ → S → Type 0) (stocked : Bool) (program : Program) (budget : ℕ) (old : ThreadState) (from : S) → Ways replies stocked program budget old from old from
-no_way replies stocked program budget old from point before come =
-    ([], (stays, subst (λ all. HasComeFrom stocked program budget point all old) (sym (append-nil before)) come))
-
-pub way_on : {S : Type 0} (replies : S → Ask → Option ℕ → S → Type 0) (stocked : Bool) (program : Program) (budget : ℕ) (first old new : ThreadState) (from at to : S)
-    → Ways replies stocked program budget first from old at → Ways replies stocked program budget old at new to → Ways replies stocked program budget first from new to
-way_on replies stocked program budget first old new from at to way further point before come =
-    let here = way point before come in
-    let next = further point (before ++ here.0) here.1.1 in (
-      here.0 ++ next.0,
-      (
-        leads_on replies from at to here.0 next.0 here.1.0 next.1.0,
-        subst (λ all. HasComeFrom stocked program budget point all new) (append_assoc before here.0 next.0) next.1.1,
-      ),
-    )

@@ -4,11 +4,11 @@ use Rattle.llsc_base.specs.Images.{Program}
 use Rattle.a32_instr.specs.declared.outside.CallAsk.{CallAsk}
 use Rattle.a32_instr.specs.declared.outside.Stop.{Stop}
 use Rattle.a32_instr.specs.declared.outside.Stop.TheVariants.{Budget, TagLimit}
-use Rattle.a32_step.specs.Machine.{Machine, after_next, between, wanted_of, IsReady}
+use Rattle.a32_step.specs.Machine.{Machine, a32, after_next, between, wanted_of, IsReady}
 use Rattle.a32_step.specs.Phase.{Phase, Between, Inside, Awaiting, Calling, Stopped}
 use Rattle.a32_step.specs.declared.phases.Wanted.TheVariants as wanted
 use Rattle.a32_step.proofs.Follows.{next_follows}
-use Rattle.a32_step.proofs.Tested.{GoesOn}
+use Rattle.a32_step.proofs.Tested.{GoesOn, next_room}
 use Rattle.guest_calls.specs.Bound.{most_accesses_in}
 use Rattle.guest_calls.specs.Calls.{most_output}
 use Rattle.guest_calls.specs.Run.{Pair, Point, ReachesBy, begins, accesses, steps_on, returns, prints, EndsFrom, halts, leaves, spends, EndsOnFrom, by_itself, by_limit}
@@ -161,7 +161,7 @@ module _ (stocked : Bool) (program : Program) (budget : ℕ) (point : Point) (re
   more_pairs : (pairs : List Pair) (machine : Machine) (steps : ℕ) (output : List ℕ) → ReachesBy stocked program budget point pairs machine steps output
       → HasReplies pairs machine steps output
   more_pairs pairs machine steps output reached =
-      let all = few_pairs program budget point pairs machine steps output rests short (reaches_plain stocked program budget point pairs machine steps output reached) in
+      let all = few_pairs a32 next_room program budget point pairs machine steps output rests short (reaches_plain stocked program budget point pairs machine steps output reached) in
       let made = all.0 in
       record { made = omega (arith, few, made); replies = all.1; written = all.2 }
 

@@ -23,3 +23,4 @@ pub mod Prepared
 pub mod Going
 pub mod Answered
 pub mod Unstarted
+pub mod Ways

@@ -4,7 +4,7 @@ use Rattle.llsc_base.specs.Images.{Program}
 use Rattle.llsc_base.specs.Sizes.{Numbers}
 use Rattle.history.specs.Parts.{entries_of}
 use Rattle.history.specs.declared.entry.Entry.{Entry}
-use Rattle.a32_step.specs.Machine.{Machine}
+use Rattle.a32_step.specs.Machine.{Machine, a32}
 use Rattle.guest_calls.specs.Pairs.{pairs_of}
 use Rattle.guest_calls.specs.Run.{EndsOn, by_itself}
 use Rattle.guest_calls.proofs.Asked.{one_end_on}
@@ -34,7 +34,7 @@ same_in : (program : Program) (budget : ℕ) (start : Machine) (history : List E
     → one ≡ two
 same_in program budget start history one two thread ends counts ends_too counts_too =
     let mine = subst (λ t. EndsOn program budget start (pairs_of t history) one.stop one.steps one.out) thread ends in
-    let same = one_end_on program budget start (pairs_of two.thread history) one.stop two.stop one.steps two.steps one.out two.out mine ends_too in
+    let same = one_end_on a32 program budget start (pairs_of two.thread history) one.stop two.stop one.steps two.steps one.out two.out mine ends_too in
     same_end one two thread same.0 same.1
     (counts.reads ∙ ap (λ t. reads_of (entries_of t history)) thread ∙ sym counts_too.reads)
     (counts.writes ∙ ap (λ t. writes_of (entries_of t history)) thread ∙ sym counts_too.writes)

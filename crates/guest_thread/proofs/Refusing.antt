@@ -5,25 +5,27 @@ use Rattle.llsc_base.specs.declared.access.Place.{Place}
 use Rattle.a32_instr.specs.declared.outside.Ask.{Ask}
 use Rattle.a32_instr.specs.declared.outside.Ask.TheVariants.{Store}
 use Rattle.a32_instr.specs.declared.outside.Stop.TheVariants.{TagLimit}
-use Rattle.guest_calls.specs.Run.{Pair, EndsOnFrom, by_limit, Point}
-use Rattle.guest_thread.specs.ThreadState.{ThreadState}
-use Rattle.guest_thread.specs.Under.{AwaitsFrom, AwaitsBy}
+use Rattle.a32_step.specs.Machine.{InstructionSet}
+use Rattle.guest_calls.specs.Run.{Pair, EndsOnFromOf, by_limit, PointOf}
+use Rattle.guest_thread.specs.ThreadState.{ThreadOf}
+use Rattle.guest_thread.specs.Under.{AwaitsFromOf, AwaitsByOf}
 use Rattle.guest_thread.specs.declared.guests.Printing.{Printing}
 
-abbrev is_store : Ask → Type 0
-is_store (Store place value) = Unit {0}
-is_store _ = ⊥
+module _ {I S : Type 0} (set : InstructionSet I S) where
+  abbrev is_store : Ask → Type 0
+  is_store (Store place value) = Unit {0}
+  is_store _ = ⊥
 
-ended_by : (stocked : Bool) (program : Program) (budget : ℕ) (point : Point) (pairs : List Pair) (place : Place) (value : ℕ) (standing : ThreadState)
-    (printing : Option Printing) → AwaitsBy stocked program budget point pairs (Store place value) standing printing
-    → EndsOnFrom stocked program budget point pairs (TagLimit place.addr) standing.steps standing.output
-ended_by stocked program budget point pairs place value standing None awaits =
-    by_limit pairs awaits.machine standing.steps standing.output place value awaits.reached awaits.within awaits.asked
-ended_by stocked program budget point pairs place value standing (Some printing) awaits = absurd (subst is_store awaits.1 tt)
+  ended_by : (stocked : Bool) (program : Program) (budget : ℕ) (point : PointOf I S) (pairs : List Pair) (place : Place) (value : ℕ) (standing : ThreadOf I S)
+      (printing : Option Printing) → AwaitsByOf set stocked program budget point pairs (Store place value) standing printing
+      → EndsOnFromOf set stocked program budget point pairs (TagLimit place.addr) standing.steps standing.output
+  ended_by stocked program budget point pairs place value standing None awaits =
+      by_limit pairs awaits.machine standing.steps standing.output place value awaits.reached awaits.within awaits.asked
+  ended_by stocked program budget point pairs place value standing (Some printing) awaits = absurd (subst is_store awaits.1 tt)
 
--- one that awaits the reply to a store isn't in the middle of a write, and ends there
-pub ended_on : (stocked : Bool) (program : Program) (budget : ℕ) (point : Point) (pairs : List Pair) (place : Place) (value : ℕ) (ask : Ask) (standing : ThreadState)
-    → AwaitsFrom stocked program budget point pairs ask standing → ask ≡ Store place value
-    → EndsOnFrom stocked program budget point pairs (TagLimit place.addr) standing.steps standing.output
-ended_on stocked program budget point pairs place value ask standing awaits is =
-    ended_by stocked program budget point pairs place value standing standing.printing (subst (λ a. AwaitsFrom stocked program budget point pairs a standing) is awaits)
+  -- one that awaits the reply to a store isn't in the middle of a write, and ends there
+  pub ended_on : (stocked : Bool) (program : Program) (budget : ℕ) (point : PointOf I S) (pairs : List Pair) (place : Place) (value : ℕ) (ask : Ask) (standing : ThreadOf I S)
+      → AwaitsFromOf set stocked program budget point pairs ask standing → ask ≡ Store place value
+      → EndsOnFromOf set stocked program budget point pairs (TagLimit place.addr) standing.steps standing.output
+  ended_on stocked program budget point pairs place value ask standing awaits is =
+      ended_by stocked program budget point pairs place value standing standing.printing (subst (λ a. AwaitsFromOf set stocked program budget point pairs a standing) is awaits)

@@ -9,8 +9,8 @@ use Rattle.history.specs.Marked.{byte_place}
 use Rattle.history.specs.Started.{AreBorn}
 use Rattle.history.specs.declared.entry.Entry.{Entry}
 use Rattle.a32_instr.specs.declared.outside.Stop.TheVariants.{Exit, TagLimit}
-use Rattle.a32_step.specs.Machine.{Machine}
-use Rattle.guest_calls.specs.Run.{EndsOn}
+use Rattle.a32_step.specs.Machine.{MachineOf, Machine, InstructionSet, a32}
+use Rattle.guest_calls.specs.Run.{EndsOnOf}
 use Rattle.guest_calls.specs.Pairs.{pairs_of}
 use Rattle.guest_thread.specs.Counting.{AreCounts, counts_in}
 use Rattle.guest_thread.specs.Start.{thread_start}
@@ -22,10 +22,13 @@ IsSpent size history addr = size.limit ≤ writes_in_class size (row_of size.gra
 
 -- a thread's stop, its steps and its output are those of its run with its accesses in the history; where it was stopped at a
 -- store, the class of the store has no write left; and its counts are those of its accesses
-pub record IsEndOn (program : Program) (size : Numbers) (budget : ℕ) (start : Machine) (history : List Entry) (end : GuestEnd) : Type 0 where
-  pub ends : EndsOn program budget start (pairs_of end.thread history) end.stop end.steps end.out
+pub record IsEndOnOf {I S : Type 0} (set : InstructionSet I S) (program : Program) (size : Numbers) (budget : ℕ) (start : MachineOf I S) (history : List Entry) (end : GuestEnd) : Type 0 where
+  pub ends : EndsOnOf set program budget start (pairs_of end.thread history) end.stop end.steps end.out
   pub spent : (addr : ℕ) → end.stop ≡ TagLimit addr → IsSpent size history addr
   pub counts : AreCounts end.thread history (counts_in end)
+
+abbrev pub IsEndOn : Program → Numbers → ℕ → Machine → List Entry → GuestEnd → Type 0
+IsEndOn = IsEndOnOf a32
 
 -- the ends of all threads, each of which began by itself, in order of number
 pub record AreEndsOn (program : Program) (size : Numbers) (budget : ℕ) (history : List Entry) (all : List GuestEnd) : Type 0 where

@@ -5,17 +5,17 @@ ghost use Rattle.llsc_base.specs.Images.{Program};
 ghost use Rattle.a32_instr.specs.declared.outside.Ask.{Ask};
 ghost use Rattle.a32_instr.specs.declared.outside.CallAsk.{CallAsk};
 ghost use Rattle.a32_step.specs.Phase as phase;
-ghost use Rattle.a32_step.specs.Machine.{Machine, IsReady, IsCalling};
-ghost use Rattle.guest_calls.specs.Run.{Pair, Point, byte_load, effect_of_call};
+ghost use Rattle.a32_step.specs.Machine.{MachineOf, IsReady, IsCalling};
+ghost use Rattle.guest_calls.specs.Run.{Pair, PointOf, byte_load, effect_of_call_of};
 ghost use Rattle.guest_thread.specs.Ports.{IsAtRest};
 ghost use Rattle.guest_thread.specs.Progress.{HasKept, HasMoved, IsBounded};
-ghost use Rattle.guest_thread.specs.ThreadState.{EndsWithin, HasLeft, IsReadyIn, IsWaitingIn, IsPendingAfter, IsPendingAfterEvent, MayGive};
+ghost use Rattle.guest_thread.specs.ThreadState.{thread_in, EndsWithin, HasLeft, IsReadyIn, IsWaitingIn, IsPendingAfter, IsPendingAfterEvent, MayGive};
 ghost use Rattle.guest_thread.specs.Start.{first_state, thread_start};
-ghost use Rattle.guest_thread.specs.Turns.{AfterCall, IsAtTurn, IsOneStepOn, after_byte, turn_by};
-ghost use Rattle.guest_thread.specs.Under.{HasCome, HasComeFrom, Awaits, AwaitsFrom, ComesTo, ComesToEvent};
+ghost use Rattle.guest_thread.specs.Turns.{AfterCallOf, IsAtTurn, IsOneStepOn, after_byte_of, turn_by};
+ghost use Rattle.guest_thread.specs.Under.{HasCome, HasComeOf, HasComeFromOf, AwaitsOf, AwaitsFromOf, ComesToOf, ComesToEventOf};
 
 use crate::starts::start_cpu;
-use a32_step::{Ask, CallAsk, Cpu, Stop, Wanted};
+use a32_step::{Ask, CallAsk, Core, Cpu, Stop, Wanted};
 use guest_calls::{CallStep, Output, guest_call, is_start_call};
 use llsc_base::{Image, MachineSize, Place, Size};
 use std::alloc::{AllocError, Global};
@@ -76,24 +76,24 @@ impl Called {
 
 /// A guest thread under way: its core, its steps, and its output.
 #[derive(Drop)]
-pub struct Guest {
-    pub(crate) cpu: Cpu,
+pub struct Guest<C: Core> {
+    pub(crate) cpu: C,
     pub(crate) steps: u64,
     output: Output,
     printing: Option<Printing>,
 }
 
-impl Model for Guest {
+impl<C: Core> Model for Guest<C> {
     ghost use Rattle.guest_thread.specs.Ports.{IsAtRest};
     ghost use Rattle.guest_thread.specs.Progress.{HasKept, HasMoved, IsBounded};
-    ghost use Rattle.guest_thread.specs.ThreadState.{ThreadState};
+    ghost use Rattle.guest_thread.specs.ThreadState.{ThreadStateOf};
 
-    ghost Value = { ThreadState };
+    ghost Value = { ThreadStateOf C };
 
     ghost view = { λ g. record { cpu = g.cpu; steps = g.steps; output = g.output; printing = g.printing } };
 }
 
-impl Guest {
+impl Guest<Cpu> {
     /// A thread of a program at its start, whose core is [`start_cpu`]'s. `t` is below the machine's threads.
     ///
     /// # Errors
@@ -104,7 +104,7 @@ impl Guest {
         image: &Image,
         size: &MachineSize,
         t: u32,
-    ) -> Result<Guest, AllocError>
+    ) -> Result<Guest<Cpu>, AllocError>
         requires { t < size.now.threads }
         ensures state { IfOk result (λ guest. guest ≡ first_state image.now size.now size.now.threads t) }
         ensures ready { IfOk result (λ guest. (mem budget : ℕ) → IsReadyIn mem budget guest) }
@@ -114,11 +114,21 @@ impl Guest {
         Ok(Guest::new(start_cpu(image, size, size.threads(), t), output))
     }
 
+    /// Whether it is between two instructions, and no write is under way.
+    #[inline]
+    pub(crate) fn is_at_rest(&self) -> bool
+        ensures { IsTrue result → IsAtRest self.now }
+    {
+        self.printing.is_none() && self.cpu.is_between()
+    }
+}
+
+impl<C: Core> Guest<C> {
     /// A thread whose core is between two instructions, and that has written nothing.
-    pub(crate) fn new(cpu: Cpu, output: Output) -> Guest
+    pub(crate) fn new(cpu: C, output: Output) -> Guest<C>
         ensures state { result ≡ record { cpu = cpu; steps = 0; output = output; printing = None } }
-        ensures ready { IsReady cpu.phase → (mem budget : ℕ) → IsReadyIn mem budget result }
-        ensures comes { output ≡ [] → (program : Program) (budget : ℕ) → HasCome program budget cpu [] result }
+        ensures ready { IsReady (C.machine cpu).phase → (mem budget : ℕ) → IsReadyIn mem budget (thread_in C.machine result) }
+        ensures comes { output ≡ [] → (program : Program) (budget : ℕ) → HasComeOf C.set program budget (C.machine cpu) [] (thread_in C.machine result) }
     {
         Guest {
             cpu,
@@ -129,7 +139,7 @@ impl Guest {
     }
 
     /// A thread whose core is between two instructions, and that has made so many steps and written this.
-    pub(crate) fn at(cpu: Cpu, output: Output, steps: u64) -> Guest
+    pub(crate) fn at(cpu: C, output: Output, steps: u64) -> Guest<C>
         ensures { result ≡ record { cpu = cpu; steps = steps; output = output; printing = None } }
     {
         Guest {
@@ -141,7 +151,7 @@ impl Guest {
     }
 
     /// Its core, what it wrote, and its steps.
-    pub(crate) fn into_parts(self) -> (Cpu, Output, u64)
+    pub(crate) fn into_parts(self) -> (C, Output, u64)
         ensures cpu { result.0 ≡ self.cpu }
         ensures output { result.1 ≡ self.output }
         ensures steps { result.2 ≡ self.steps }
@@ -170,21 +180,21 @@ impl Guest {
     }
 }
 
-impl Guest {
+impl<C: Core> Guest<C> {
     /// Goes on until the thread asks for an access or has ended: by a stop, by the exit call, or since it has made
     /// `budget` steps. The budget is at most 1,000,000,000,000 steps.
     ///
     /// The core waits for no reply, and the image is that of the start, whose length 32 bits hold. A thread that has ended
     /// isn't asked again. In the middle of a write the answer is the next byte's load, also where it was asked for before.
     pub fn next(&mut self, image: &Image, budget: u64) -> Turn
-        requires ready { IsReadyIn (length image.now.bytes) budget self.old }
+        requires ready { IsReadyIn (length image.now.bytes) budget (thread_in C.machine self.old) }
         requires small { length image.now.bytes < 2 ^ 32 }
         requires budget { budget ≤ most_budget }
-        ensures comes { (start : Machine) (pairs : List Pair) → HasCome image.now budget start pairs self.old
-            → ComesTo image.now budget start pairs result self.new }
-        ensures pending { IsPendingAfter (length image.now.bytes) budget result self.new }
+        ensures comes { (start : MachineOf C.Instr C.State) (pairs : List Pair) → HasComeOf C.set image.now budget start pairs (thread_in C.machine self.old)
+            → ComesToOf C.set image.now budget start pairs result (thread_in C.machine self.new) }
+        ensures pending { IsPendingAfter (length image.now.bytes) budget result (thread_in C.machine self.new) }
         ensures within { self.new.steps ≤ budget }
-        ensures kept { IsBounded self.old → HasKept self.old self.new }
+        ensures kept { IsBounded (thread_in C.machine self.old) → HasKept (thread_in C.machine self.old) (thread_in C.machine self.new) }
     {
         if let Some(printing) = self.printing {
             return Turn::Asks(byte_ask(printing));
@@ -197,28 +207,20 @@ impl Guest {
         Turn::Ended(Stop::Budget)
     }
 
-    /// Whether it is between two instructions, and no write is under way.
-    #[inline]
-    pub(crate) fn is_at_rest(&self) -> bool
-        ensures { IsTrue result → IsAtRest self.now }
-    {
-        self.printing.is_none() && self.cpu.is_between()
-    }
-
     /// Goes on by one instruction, or up to the thread's next access or its end, as [`Guest::next`] does; where `starts` holds, also up to
     /// a call that starts a thread. `None` where the instruction is complete.
     #[inline(never)]
     pub(crate) fn one_turn(&mut self, image: &Image, budget: u64, starts: bool) -> Option<Event>
-        requires ready { IsReadyIn (length image.now.bytes) budget self.old }
+        requires ready { IsReadyIn (length image.now.bytes) budget (thread_in C.machine self.old) }
         requires small { length image.now.bytes < 2 ^ 32 }
         requires budget { budget ≤ most_budget }
-        ensures comes { (from : Point) (pairs : List Pair) → HasComeFrom starts image.now budget from pairs self.old
-            → MatchOption result (HasComeFrom starts image.now budget from pairs self.new) (λ event. ComesToEvent starts image.now budget from pairs event self.new) }
-        ensures pending { IfSome result (λ event. IsPendingAfterEvent (length image.now.bytes) budget event self.new) }
-        ensures ready { IfNone result (IsReadyIn (length image.now.bytes) budget self.new) }
+        ensures comes { (from : PointOf C.Instr C.State) (pairs : List Pair) → HasComeFromOf C.set starts image.now budget from pairs (thread_in C.machine self.old)
+            → MatchOption result (HasComeFromOf C.set starts image.now budget from pairs (thread_in C.machine self.new)) (λ event. ComesToEventOf C.set starts image.now budget from pairs event (thread_in C.machine self.new)) }
+        ensures pending { IfSome result (λ event. IsPendingAfterEvent (length image.now.bytes) budget event (thread_in C.machine self.new)) }
+        ensures ready { IfNone result (IsReadyIn (length image.now.bytes) budget (thread_in C.machine self.new)) }
         ensures later { IfNone result ((self.old.steps < self.new.steps) × (self.new.output ≡ self.old.output)) }
-        ensures kept { IsBounded self.old → HasKept self.old self.new }
-        ensures within { IfSome result (λ event. EndsWithin budget event self.new) }
+        ensures kept { IsBounded (thread_in C.machine self.old) → HasKept (thread_in C.machine self.old) (thread_in C.machine self.new) }
+        ensures within { IfSome result (λ event. EndsWithin budget event (thread_in C.machine self.new)) }
         ensures starts { result ≡ Some Event.Starts → starts ≡ true }
     {
         if let Some(printing) = self.printing {
@@ -233,16 +235,16 @@ impl Guest {
     /// One instruction goes on, or a guest call is made, of a thread that starts none. `None` where it is complete.
     #[inline(always)]
     fn turn(&mut self, image: &Image) -> Option<Turn>
-        requires at_turn { IsAtTurn self.old }
+        requires at_turn { IsAtTurn (thread_in C.machine self.old) }
         requires few { self.old.steps < most_budget }
         requires small { length image.now.bytes < 2 ^ 32 }
-        ensures goes_on { IfNone result (IsOneStepOn self.old self.new) }
-        ensures comes { (budget : ℕ) (start : Machine) (pairs : List Pair) → HasCome image.now budget start pairs self.old → self.old.steps < budget
-            → MatchOption result (HasCome image.now budget start pairs self.new) (λ turn. ComesTo image.now budget start pairs turn self.new) }
-        ensures pending { IfSome result (λ turn. (budget : ℕ) → self.old.steps < budget → IsPendingAfter (length image.now.bytes) budget turn self.new) }
+        ensures goes_on { IfNone result (IsOneStepOn (thread_in C.machine self.old) (thread_in C.machine self.new)) }
+        ensures comes { (budget : ℕ) (start : MachineOf C.Instr C.State) (pairs : List Pair) → HasComeOf C.set image.now budget start pairs (thread_in C.machine self.old) → self.old.steps < budget
+            → MatchOption result (HasComeOf C.set image.now budget start pairs (thread_in C.machine self.new)) (λ turn. ComesToOf C.set image.now budget start pairs turn (thread_in C.machine self.new)) }
+        ensures pending { IfSome result (λ turn. (budget : ℕ) → self.old.steps < budget → IsPendingAfter (length image.now.bytes) budget turn (thread_in C.machine self.new)) }
         ensures output { self.new.output ≡ self.old.output }
         ensures at_most { self.new.steps ≤ self.old.steps + 1 }
-        ensures kept { IsBounded self.old → HasKept self.old self.new }
+        ensures kept { IsBounded (thread_in C.machine self.old) → HasKept (thread_in C.machine self.old) (thread_in C.machine self.new) }
     {
         let Some(event) = self.turn_or_start(image, false) else {
             return None;
@@ -257,24 +259,24 @@ impl Guest {
     #[inline(always)]
     #[tactic(auto, using(crate::proofs::Kept::calling_keeps, crate::proofs::Kept::stopping_keeps))]
     fn turn_or_start(&mut self, image: &Image, starts: bool) -> Option<Event>
-        requires at_turn { IsAtTurn self.old }
+        requires at_turn { IsAtTurn (thread_in C.machine self.old) }
         requires few { self.old.steps < most_budget }
         requires small { length image.now.bytes < 2 ^ 32 }
-        ensures goes_on { IfNone result (IsOneStepOn self.old self.new) }
-        ensures comes { (budget : ℕ) (from : Point) (pairs : List Pair) → HasComeFrom starts image.now budget from pairs self.old → self.old.steps < budget
-            → MatchOption result (HasComeFrom starts image.now budget from pairs self.new) (λ event. ComesToEvent starts image.now budget from pairs event self.new) }
-        ensures pending { IfSome result (λ event. (budget : ℕ) → self.old.steps < budget → IsPendingAfterEvent (length image.now.bytes) budget event self.new) }
+        ensures goes_on { IfNone result (IsOneStepOn (thread_in C.machine self.old) (thread_in C.machine self.new)) }
+        ensures comes { (budget : ℕ) (from : PointOf C.Instr C.State) (pairs : List Pair) → HasComeFromOf C.set starts image.now budget from pairs (thread_in C.machine self.old) → self.old.steps < budget
+            → MatchOption result (HasComeFromOf C.set starts image.now budget from pairs (thread_in C.machine self.new)) (λ event. ComesToEventOf C.set starts image.now budget from pairs event (thread_in C.machine self.new)) }
+        ensures pending { IfSome result (λ event. (budget : ℕ) → self.old.steps < budget → IsPendingAfterEvent (length image.now.bytes) budget event (thread_in C.machine self.new)) }
         ensures output { self.new.output ≡ self.old.output }
         ensures at_most { self.new.steps ≤ self.old.steps + 1 }
-        ensures kept { IsBounded self.old → HasKept self.old self.new }
-        ensures within { IfSome result (λ event. (budget : ℕ) → self.old.steps < budget → EndsWithin budget event self.new) }
+        ensures kept { IsBounded (thread_in C.machine self.old) → HasKept (thread_in C.machine self.old) (thread_in C.machine self.new) }
+        ensures within { IfSome result (λ event. (budget : ℕ) → self.old.steps < budget → EndsWithin budget event (thread_in C.machine self.new)) }
         ensures starts { result ≡ Some Event.Starts → starts ≡ true }
         ensures unspent { (result ≡ Some Event.Spent) → ⊥ }
     {
         match self.cpu.next(image) {
             Wanted::Access(ask) => Some(Event::Turns(Turn::Asks(ask))),
             Wanted::Call(call) => {
-                if starts && is_start_call(&call) {
+                if starts && is_start_call(&C::numbered(&call)) {
                     return Some(Event::Starts);
                 }
                 let called = self.call(image);
@@ -294,17 +296,17 @@ impl Guest {
     /// The guest call that the core waits for is made.
     #[inline(never)]
     fn call(&mut self, image: &Image) -> Called
-        requires calling { IsCalling self.old.cpu.phase }
+        requires calling { IsCalling (C.machine self.old.cpu).phase }
         requires few { self.old.steps < most_budget }
         requires small { length image.now.bytes < 2 ^ 32 }
-        ensures made { (call : CallAsk) → self.old.cpu.phase ≡ phase.Calling call
-            → AfterCall (length image.now.bytes) (effect_of_call image.now call (length self.old.output)) self.old result self.new }
-        ensures goes_on { self.old.printing ≡ None → IfNone (turn_by result) (IsOneStepOn self.old self.new) }
+        ensures made { (call : CallAsk) → (C.machine self.old.cpu).phase ≡ phase.Calling call
+            → AfterCallOf C.set (length image.now.bytes) (effect_of_call_of C.set image.now call (length self.old.output)) (thread_in C.machine self.old) result (thread_in C.machine self.new) }
+        ensures goes_on { self.old.printing ≡ None → IfNone (turn_by result) (IsOneStepOn (thread_in C.machine self.old) (thread_in C.machine self.new)) }
         ensures pending { self.old.printing ≡ None
-            → IfSome (turn_by result) (λ turn. (budget : ℕ) → self.old.steps < budget → IsPendingAfter (length image.now.bytes) budget turn self.new) }
+            → IfSome (turn_by result) (λ turn. (budget : ℕ) → self.old.steps < budget → IsPendingAfter (length image.now.bytes) budget turn (thread_in C.machine self.new)) }
         ensures output { self.new.output ≡ self.old.output }
         ensures at_most { self.new.steps ≤ self.old.steps + 1 }
-        ensures kept { IsBounded self.old → HasKept self.old self.new }
+        ensures kept { IsBounded (thread_in C.machine self.old) → HasKept (thread_in C.machine self.old) (thread_in C.machine self.new) }
     {
         let call = self.cpu.asked_call();
         self.make(image, &call)
@@ -312,16 +314,16 @@ impl Guest {
 
     /// A guest call is made, which the core waits for.
     fn make(&mut self, image: &Image, call: &CallAsk) -> Called
-        requires calling { IsCalling self.old.cpu.phase }
+        requires calling { IsCalling (C.machine self.old.cpu).phase }
         requires few { self.old.steps < most_budget }
         requires small { length image.now.bytes < 2 ^ 32 }
-        ensures made { AfterCall (length image.now.bytes) (effect_of_call image.now call.now (length self.old.output)) self.old result self.new }
-        ensures goes_on { self.old.printing ≡ None → IfNone (turn_by result) (IsOneStepOn self.old self.new) }
+        ensures made { AfterCallOf C.set (length image.now.bytes) (effect_of_call_of C.set image.now call.now (length self.old.output)) (thread_in C.machine self.old) result (thread_in C.machine self.new) }
+        ensures goes_on { self.old.printing ≡ None → IfNone (turn_by result) (IsOneStepOn (thread_in C.machine self.old) (thread_in C.machine self.new)) }
         ensures pending { self.old.printing ≡ None
-            → IfSome (turn_by result) (λ turn. (budget : ℕ) → self.old.steps < budget → IsPendingAfter (length image.now.bytes) budget turn self.new) }
+            → IfSome (turn_by result) (λ turn. (budget : ℕ) → self.old.steps < budget → IsPendingAfter (length image.now.bytes) budget turn (thread_in C.machine self.new)) }
         ensures output { self.new.output ≡ self.old.output }
         ensures at_most { self.new.steps ≤ self.old.steps + 1 }
-        ensures kept { IsBounded self.old → HasKept self.old self.new }
+        ensures kept { IsBounded (thread_in C.machine self.old) → HasKept (thread_in C.machine self.old) (thread_in C.machine self.new) }
     {
         let mem = image.bytes().len() as u32;
         match guest_call(&mut self.cpu, call, mem, &mut self.output) {
@@ -345,18 +347,18 @@ impl Guest {
     }
 }
 
-impl Guest {
+impl<C: Core> Guest<C> {
     /// The reply to the access that is awaited: any value of its size to a load, which is a byte for a byte of a write, 1 to
     /// a store-exclusive that failed, and otherwise 0.
     #[inline(always)]
     pub fn give(&mut self, reply: u64)
-        requires { MayGive self.old reply }
-        ensures ready { (mem budget : ℕ) → IsWaitingIn mem budget self.old → IsReadyIn mem budget self.new }
-        ensures comes { (program : Program) (budget : ℕ) (start : Machine) (pairs : List Pair) (ask : Ask) →
-            Awaits program budget start pairs ask self.old → HasCome program budget start (pairs ++ (ask, reply) ∷ []) self.new }
-        ensures on { (stocked : Bool) (program : Program) (budget : ℕ) (from : Point) (pairs : List Pair) (ask : Ask) →
-            AwaitsFrom stocked program budget from pairs ask self.old → HasComeFrom stocked program budget from (pairs ++ (ask, reply) ∷ []) self.new }
-        ensures moved { IsBounded self.old → HasMoved self.old self.new }
+        requires { MayGive (thread_in C.machine self.old) reply }
+        ensures ready { (mem budget : ℕ) → IsWaitingIn mem budget (thread_in C.machine self.old) → IsReadyIn mem budget (thread_in C.machine self.new) }
+        ensures comes { (program : Program) (budget : ℕ) (start : MachineOf C.Instr C.State) (pairs : List Pair) (ask : Ask) →
+            AwaitsOf C.set program budget start pairs ask (thread_in C.machine self.old) → HasComeOf C.set program budget start (pairs ++ (ask, reply) ∷ []) (thread_in C.machine self.new) }
+        ensures on { (stocked : Bool) (program : Program) (budget : ℕ) (from : PointOf C.Instr C.State) (pairs : List Pair) (ask : Ask) →
+            AwaitsFromOf C.set stocked program budget from pairs ask (thread_in C.machine self.old) → HasComeFromOf C.set stocked program budget from (pairs ++ (ask, reply) ∷ []) (thread_in C.machine self.new) }
+        ensures moved { IsBounded (thread_in C.machine self.old) → HasMoved (thread_in C.machine self.old) (thread_in C.machine self.new) }
     {
         match self.printing {
             None => self.cpu.give(reply),
@@ -366,10 +368,10 @@ impl Guest {
 
     /// One byte more of a write; with its last one the call is answered by the number of its bytes.
     fn print(&mut self, printing: Printing, byte: u8)
-        requires left { HasLeft self.old printing }
+        requires left { HasLeft (thread_in C.machine self.old) printing }
         requires few { self.old.steps < 2 ^ 63 }
-        ensures byte { self.new ≡ after_byte self.old printing byte }
-        ensures moved { IsBounded self.old → HasMoved self.old self.new }
+        ensures byte { thread_in C.machine self.new ≡ after_byte_of C.set (thread_in C.machine self.old) printing byte }
+        ensures moved { IsBounded (thread_in C.machine self.old) → HasMoved (thread_in C.machine self.old) (thread_in C.machine self.new) }
     {
         self.output.push(byte);
         let loaded = printing.loaded + 1;

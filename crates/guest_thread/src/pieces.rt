@@ -67,7 +67,7 @@ impl<P> Part<P> {
     }
 
     /// The thread itself, and its pass.
-    fn into_guest(self) -> (Guest, P)
+    fn into_guest(self) -> (Guest<Cpu>, P)
         ensures guest { result.0 ≡ record { cpu = self.cpu; steps = self.steps; output = self.out; printing = None } }
         ensures pass { result.1 ≡ self.pass }
     {
@@ -140,7 +140,7 @@ pub fn go_on<M: SharedMemory, R: Wait>(
 }
 
 /// A thread as it may go on.
-fn part_of<P>(guest: Guest, pass: P, counts: Counts) -> Part<P>
+fn part_of<P>(guest: Guest<Cpu>, pass: P, counts: Counts) -> Part<P>
     ensures { result ≡ record { cpu = guest.cpu; pass = pass; out = guest.output; steps = guest.steps; reads = counts.reads; writes = counts.writes; fails = counts.fails } }
 {
     let (cpu, out, steps) = guest.into_parts();

@@ -3,15 +3,16 @@ ghost use Rattle.std.specs.Prelude.{◌≡◌, ◌<◌, ◌≤◌, ◌+◌, ◌*
 ghost use Rattle.llsc_base.specs.Images.{Program};
 ghost use Rattle.llsc_base.specs.Limits.{most_budget};
 ghost use Rattle.guest_calls.specs.Calls.{most_output};
-ghost use Rattle.a32_step.specs.Machine.{Machine};
+ghost use Rattle.a32_step.specs.Machine.{Machine, MachineOf};
 ghost use Rattle.a32_step.specs.Ports.{Leads};
-ghost use Rattle.guest_calls.specs.Run.{Pair, Point};
-ghost use Rattle.guest_thread.specs.Ports.{EndsBy, IsRunning, RestsBy, RestsWithin};
+ghost use Rattle.guest_calls.specs.Run.{Pair, Point, PointOf};
+ghost use Rattle.guest_thread.specs.Ports.{EndsBy, EndsByOf, IsRunning, RestsBy, RestsByOf, RestsWithin};
 ghost use Rattle.guest_thread.specs.Progress.{IsBounded, progress_of};
-ghost use Rattle.guest_thread.specs.Under.{HasCome, HasComeFrom};
+ghost use Rattle.guest_thread.specs.ThreadState.{thread_in};
+ghost use Rattle.guest_thread.specs.Under.{HasCome, HasComeFrom, HasComeOf, HasComeFromOf};
 
 use crate::guests::{Event, Guest, Turn};
-use a32_step::{Ask, Code, Passage, Port, Stop};
+use a32_step::{Ask, Code, Core, Cpu, Passage, Port, Stop};
 use llsc_base::Image;
 
 /// How a thread that may start others comes to rest.
@@ -25,7 +26,7 @@ pub(crate) enum Rest {
     Spent,
 }
 
-impl Guest {
+impl<C: Core> Guest<C> {
     /// Up to the thread's next access, which is made and replied to, or to the end of an instruction, or its rest. It is marked as
     /// cold, so that what it is given takes no register from the instructions that are carried through.
     #[cold]
@@ -37,21 +38,21 @@ impl Guest {
         port: &mut P,
         starts: bool,
     ) -> Option<Rest>
-        requires running { IsRunning (length image.now.bytes) budget self.old }
+        requires running { IsRunning (length image.now.bytes) budget (thread_in C.machine self.old) }
         requires mem { P.mem port.old ≡ length image.now.bytes }
-        requires counted { P.counted port.old ≤ progress_of self.old }
+        requires counted { P.counted port.old ≤ progress_of (thread_in C.machine self.old) }
         requires small { length image.now.bytes < 2 ^ 32 }
         requires budget { budget ≤ most_budget }
-        ensures goes_on { IfNone result (IsRunning (length image.now.bytes) budget self.new) }
-        ensures later { IfNone result (progress_of self.old < progress_of self.new) }
+        ensures goes_on { IfNone result (IsRunning (length image.now.bytes) budget (thread_in C.machine self.new)) }
+        ensures later { IfNone result (progress_of (thread_in C.machine self.old) < progress_of (thread_in C.machine self.new)) }
         ensures mem { P.mem port.new ≡ P.mem port.old }
-        ensures counted { P.counted port.new ≤ progress_of self.new }
+        ensures counted { P.counted port.new ≤ progress_of (thread_in C.machine self.new) }
         ensures no_more { IfSome result (λ _. P.counted port.new ≤ P.counted port.old) }
-        ensures bounded { IsBounded self.new }
-        ensures comes { (from : Point) (before : List Pair) → HasComeFrom starts image.now budget from before self.old
-            → MatchOption result ((pairs : List Pair) × (Leads P.replies port.old pairs port.new × HasComeFrom starts image.now budget from (before ++ pairs) self.new))
-            (λ rest. Leads P.replies port.old [] port.new × RestsBy starts (P.refuses port.new) image.now budget from before rest self.new) }
-        ensures within { IfSome result (λ rest. RestsWithin budget rest self.new) }
+        ensures bounded { IsBounded (thread_in C.machine self.new) }
+        ensures comes { (from : PointOf C.Instr C.State) (before : List Pair) → HasComeFromOf C.set starts image.now budget from before (thread_in C.machine self.old)
+            → MatchOption result ((pairs : List Pair) × (Leads P.replies port.old pairs port.new × HasComeFromOf C.set starts image.now budget from (before ++ pairs) (thread_in C.machine self.new)))
+            (λ rest. Leads P.replies port.old [] port.new × RestsByOf C.set starts (P.refuses port.new) image.now budget from before rest (thread_in C.machine self.new)) }
+        ensures within { IfSome result (λ rest. RestsWithin budget rest (thread_in C.machine self.new)) }
         ensures starts { result ≡ Some Rest.Starts → starts ≡ true }
     {
         let Some(event) = self.one_turn(image, budget, starts) else {
@@ -77,6 +78,31 @@ impl Guest {
         }
     }
 
+    /// Goes on up to the thread's stop, one access after another, as [`Guest::run`] does; the port replies to each access.
+    pub fn run_by_turns<P: Port>(&mut self, image: &Image, budget: u64, port: &mut P) -> Stop
+        requires running { IsRunning (length image.now.bytes) budget (thread_in C.machine self.old) }
+        requires mem { P.mem port.old ≡ length image.now.bytes }
+        requires counted { P.counted port.old ≤ progress_of (thread_in C.machine self.old) }
+        requires small { length image.now.bytes < 2 ^ 32 }
+        requires budget { budget ≤ most_budget }
+        ensures mem { P.mem port.new ≡ P.mem port.old }
+        ensures few { P.counted port.new ≤ 17 * budget + most_output + 16 }
+        ensures ends { (start : MachineOf C.Instr C.State) → HasComeOf C.set image.now budget start [] (thread_in C.machine self.old)
+            → (pairs : List Pair) × (Leads P.replies port.old pairs port.new × EndsByOf C.set (P.refuses port.new) image.now budget start pairs result self.new.steps self.new.output) }
+    {
+        loop {
+            if let Some(rest) = self.pass(image, budget, port, false) {
+                return match rest {
+                    Rest::Stopped(stop) => stop,
+                    Rest::Spent => Stop::Budget,
+                    Rest::Starts => unreachable!(),
+                };
+            }
+        }
+    }
+}
+
+impl Guest<Cpu> {
     /// Instructions are carried through over the port, one after another, as long as each is complete at once and the budget
     /// lasts; none is where one is under way already.
     #[inline(always)]

@@ -6,6 +6,7 @@ use Rattle.history.specs.declared.entry.Access.{Access}
 use Rattle.history.specs.declared.entry.Deed.{Deed}
 use Rattle.history.specs.declared.entry.Deed.TheVariants as deed
 use Rattle.a32_instr.specs.declared.outside.Ask.{Ask}
+use Rattle.a32_step.specs.Machine.{a32}
 use Rattle.guest_calls.proofs.Asked.{one_ask, asks_or_ends}
 use Rattle.guest_thread.specs.Ended.{HasEnded}
 use Rattle.run_checker.specs.Verdict.{is_asked, is_load, AsksNext, IsRight, IsWrong, AreRight, Judges, good, wrong, unfinished}
@@ -59,10 +60,10 @@ same_test access ask other b same test = subst (λ a. is_asked a access ≡ b) (
 module _ (program : Program) (size : Numbers) (budget : ℕ) where
   -- a thread that asks hasn't stopped
   asks_or_stopped : (early : List Access) (t : ℕ) (ask : Ask) → AsksNext program size budget early t ask → HasEnded program size budget early t → ⊥
-  asks_or_stopped early t ask next stopped = asks_or_ends program budget _ _ ask stopped.stop stopped.steps stopped.output next stopped.ends
+  asks_or_stopped early t ask next stopped = asks_or_ends a32 program budget _ _ ask stopped.stop stopped.steps stopped.output next stopped.ends
 
   same_ask : (early : List Access) (t : ℕ) (ask other : Ask) → AsksNext program size budget early t ask → AsksNext program size budget early t other → ask ≡ other
-  same_ask early t ask other next also = one_ask program budget _ _ ask other next also
+  same_ask early t ask other next also = one_ask a32 program budget _ _ ask other next also
 
   -- an access that is as asked, by one thing that is asked, is so by the other
   asked_or_not : (early : List Access) (access : Access) (ask other : Ask)

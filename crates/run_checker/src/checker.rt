@@ -13,6 +13,7 @@ ghost use Rattle.run_checker.specs.Positions.{AreBrought, BringsOn, HaveEnded, I
 use crate::asked::is_asked;
 use crate::serving::serve;
 use crate::verdicts::Reason;
+use a32_step::Cpu;
 use guest_calls::reply_of;
 use guest_thread::{Guest, Turn};
 use history::{Access, PlainMemory};
@@ -22,7 +23,7 @@ use std::alloc::{AllocError, Global};
 /// The threads of a run, in order of number, and their memory, where the accesses so far have brought them.
 #[derive(Drop)]
 pub struct Checker {
-    guests: Vec<Guest>,
+    guests: Vec<Guest<Cpu>>,
     memory: PlainMemory,
 }
 
@@ -80,7 +81,7 @@ impl Checker {
 
 /// Makes an access of a thread as it is recorded, or says why it is wrong.
 fn make(
-    guest: &mut Guest,
+    guest: &mut Guest<Cpu>,
     memory: &mut PlainMemory,
     image: &Image,
     budget: u64,

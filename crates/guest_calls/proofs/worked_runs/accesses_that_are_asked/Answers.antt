@@ -1,6 +1,7 @@
 use Rattle.std.proofs.Common.{◌≡◌, [], ◌∷◌}
 use Rattle.a32_instr.specs.declared.outside.Ask.TheVariants.{Load, LoadEx}
 use Rattle.a32_instr.specs.declared.outside.Stop.TheVariants.{Budget, Exit}
+use Rattle.a32_step.specs.Machine.{a32}
 use Rattle.guest_calls.specs.Worked.{calling, loading, word}
 use Rattle.guest_calls.proofs.Asked.{asks_or_ends, one_ask}
 use Rattle.guest_calls.proofs.SmallRuns.{exit_left, first_byte_asked, load_asked, second_byte_asked, spent_at_once, store_asked, store_exclusive_asked, write_spent}
@@ -23,13 +24,13 @@ returns-clause-second_byte c = second_byte_asked
 
 pub returns-clause-another : goal.returns-clause-another
 returns-clause-another c = λ asked.
-    let wrong : Load word ≡ LoadEx word = one_ask loading 1 _ [] (Load word) (LoadEx word) load_asked asked in cc
+    let wrong : Load word ≡ LoadEx word = one_ask a32 loading 1 _ [] (Load word) (LoadEx word) load_asked asked in cc
 
 pub returns-clause-too_late : goal.returns-clause-too_late
-returns-clause-too_late c = λ ask asked. asks_or_ends loading 0 _ [] ask Budget 0 [] asked (spent_at_once loading _)
+returns-clause-too_late c = λ ask asked. asks_or_ends a32 loading 0 _ [] ask Budget 0 [] asked (spent_at_once loading _)
 
 pub returns-clause-behind_the_last_byte : goal.returns-clause-behind_the_last_byte
-returns-clause-behind_the_last_byte c = λ ask asked. asks_or_ends calling 1 _ _ ask Budget 1 (104 ∷ 105 ∷ []) asked write_spent
+returns-clause-behind_the_last_byte c = λ ask asked. asks_or_ends a32 calling 1 _ _ ask Budget 1 (104 ∷ 105 ∷ []) asked write_spent
 
 pub returns-clause-leaves : goal.returns-clause-leaves
-returns-clause-leaves c = λ ask asked. asks_or_ends calling 1 _ [] ask (Exit 5) 1 [] asked exit_left
+returns-clause-leaves c = λ ask asked. asks_or_ends a32 calling 1 _ [] ask (Exit 5) 1 [] asked exit_left

@@ -1,6 +1,7 @@
 use Rattle.std.proofs.Common.{◌≡◌, ℕ, [], arith}
 use Rattle.a32_instr.specs.declared.outside.Ask.TheVariants.{Load, Store, StoreEx}
 use Rattle.a32_instr.specs.declared.outside.Stop.TheVariants.{Budget, Exit, TagLimit}
+use Rattle.a32_step.specs.Machine.{a32}
 use Rattle.guest_calls.specs.Run.{by_itself, spends}
 use Rattle.guest_calls.specs.Worked.{loading, storing, storing_exclusively, thread_at, word}
 use Rattle.guest_calls.proofs.Asked.{one_end_on}
@@ -19,12 +20,12 @@ returns-clause-at_a_store c = store_refused
 
 pub returns-clause-elsewhere : goal.returns-clause-elsewhere
 returns-clause-elsewhere c = λ ends.
-    let wrong : TagLimit 8 ≡ TagLimit 12 = (one_end_on storing 1 _ [] (TagLimit 8) (TagLimit 12) 0 0 [] [] store_refused ends).0 in
+    let wrong : TagLimit 8 ≡ TagLimit 12 = (one_end_on a32 storing 1 _ [] (TagLimit 8) (TagLimit 12) 0 0 [] [] store_refused ends).0 in
     absurd (omega (arith, same_limit 8 12 wrong))
 
 pub returns-clause-a_step : goal.returns-clause-a_step
 returns-clause-a_step c = λ ends.
-    let wrong : 0 ≡ 1 = (one_end_on storing 1 _ [] (TagLimit 8) (TagLimit 8) 0 1 [] [] store_refused ends).1 in absurd (omega (arith, wrong))
+    let wrong : 0 ≡ 1 = (one_end_on a32 storing 1 _ [] (TagLimit 8) (TagLimit 8) 0 1 [] [] store_refused ends).1 in absurd (omega (arith, wrong))
 
 pub returns-clause-at_a_load : goal.returns-clause-at_a_load
 returns-clause-at_a_load c = λ stop steps output ends.
@@ -39,9 +40,9 @@ returns-clause-at_a_store_exclusive c = λ stop steps output ends.
 pub returns-clause-behind_it : goal.returns-clause-behind_it
 returns-clause-behind_it c = λ ends.
     let spent = by_itself _ Budget 1 [] (spends _ (thread_at 4 7 8 0 0) [] store_reached) in
-    let wrong : Budget ≡ TagLimit 8 = (one_end_on storing 1 _ _ Budget (TagLimit 8) 1 0 [] [] spent ends).0 in cc
+    let wrong : Budget ≡ TagLimit 8 = (one_end_on a32 storing 1 _ _ Budget (TagLimit 8) 1 0 [] [] spent ends).0 in cc
 
 pub returns-clause-too_late : goal.returns-clause-too_late
 returns-clause-too_late c = λ ends.
     let spent = by_itself [] Budget 0 [] (spent_at_once storing (thread_at 0 7 8 0 0)) in
-    let wrong : Budget ≡ TagLimit 8 = (one_end_on storing 0 _ [] Budget (TagLimit 8) 0 0 [] [] spent ends).0 in cc
+    let wrong : Budget ≡ TagLimit 8 = (one_end_on a32 storing 0 _ [] Budget (TagLimit 8) 0 0 [] [] spent ends).0 in cc

@@ -1,5 +1,6 @@
 use Rattle.std.proofs.Common.{◌≡◌, [], ◌∷◌, lit<, refl, subst, arith}
 use Rattle.a32_instr.specs.declared.outside.Stop.TheVariants.{Budget, Exit}
+use Rattle.a32_step.specs.Machine.{a32}
 use Rattle.guest_calls.specs.Run.{Reaches, ReachesFrom, begins, returns, spends}
 use Rattle.guest_calls.specs.Worked.{call, calling, loading, thread_at}
 use Rattle.guest_calls.proofs.Asked.{asks_or_ends}
@@ -33,11 +34,11 @@ returns-clause-from_a_point c =
 
 pub returns-clause-not_by_exit : goal.returns-clause-not_by_exit
 returns-clause-not_by_exit c = λ machine reached.
-    let wrong : Exit 5 ≡ Budget = (one_end_of_list calling 1 _ [] (Exit 5) Budget 1 1 [] [] exit_left (spends [] machine [] reached)).0 in cc
+    let wrong : Exit 5 ≡ Budget = (one_end_of_list a32 calling 1 _ [] (Exit 5) Budget 1 1 [] [] exit_left (spends [] machine [] reached)).0 in cc
 
 pub returns-clause-not_without_a_reply : goal.returns-clause-not_without_a_reply
 returns-clause-not_without_a_reply c = λ machine reached.
-    asks_or_ends loading 1 _ [] _ Budget 1 [] load_asked (spends [] machine [] reached)
+    asks_or_ends a32 loading 1 _ [] _ Budget 1 [] load_asked (spends [] machine [] reached)
 
 pub returns-clause-not_beyond_the_budget : goal.returns-clause-not_beyond_the_budget
 returns-clause-not_beyond_the_budget c = λ machine reached.

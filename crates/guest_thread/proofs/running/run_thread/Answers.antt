@@ -1,6 +1,8 @@
 use Rattle.std.proofs.Common.{◌∙◌, refl, sym, subst}
 use Rattle.history.specs.Started.{MayAct}
 use Rattle.shared_memory.specs.Seen.{IsFront, IsSingle}
+use Rattle.a32_step.specs.Machine.{a32}
+use Rattle.a32_step.proofs.Tested.{next_own, next_passes, next_room}
 use Rattle.guest_thread.specs.Outcome.{IsEndOn}
 use Rattle.guest_thread.specs.declared.ends.GuestEnd.{GuestEnd}
 use Rattle.guest_thread.specs.Sharing.{RefusesAt}
@@ -33,10 +35,10 @@ returns-clause-end g c =
       fails = c.counts-counts.result.fails;
       out = c.into_output.result;
     } in
-    let ends = ends_as (RefusesAt last) c.args.code.program c.args.budget c.args.cpu ran.0 c.run-stop.result c.steps.result c.into_output.result c.run-stop.new.self
+    let ends = ends_as a32 (RefusesAt last) c.args.code.program c.args.budget c.args.cpu ran.0 c.run-stop.result c.steps.result c.into_output.result c.run-stop.new.self
     c.steps.ensures c.into_output.ensures ran.1.1 in
     subst (λ s. IsEndOn c.args.code.program origin.size c.args.budget c.args.cpu s end) (sym c.into_pass.ensures.seen)
-    (end_on c.args.code.program c.args.budget c.args.cpu c.requires.between (at_start (g.M.SharedMemory.id mem) origin t seen) last ran.0 end shared none refl refl c.counts-counts.ensures ends)
+    (end_on a32 next_passes next_own c.args.code.program c.args.budget c.args.cpu c.requires.between (at_start (g.M.SharedMemory.id mem) origin t seen) last ran.0 end shared none refl refl c.counts-counts.ensures ends)
 
 pub returns-clause-spends : goal.returns-clause-spends
 returns-clause-spends g c = λ addr is.
@@ -47,7 +49,7 @@ returns-clause-spends g c = λ addr is.
     let last = c.run-stop.new.port in
     let ran = c.run-stop.ensures.ends c.args.cpu (c.new-guest.ensures.comes c.requires.empty c.args.code.program c.args.budget) in
     let shared = shared_from (g.M.SharedMemory.id mem) origin t seen c.new-sharing.result last ran.0 c.new-sharing.ensures.state ran.1.0 in
-    spends_at c.args.code.program c.args.budget c.args.cpu c.requires.between (at_start (g.M.SharedMemory.id mem) origin t seen) last ran.0 c.run-stop.result
+    spends_at a32 next_passes next_own c.args.code.program c.args.budget c.args.cpu c.requires.between (at_start (g.M.SharedMemory.id mem) origin t seen) last ran.0 c.run-stop.result
     c.run-stop.new.self.steps c.run-stop.new.self.output addr shared ran.1.1 is
 
 pub returns-clause-single : goal.returns-clause-single
@@ -85,5 +87,5 @@ returns-clause-memory g c =
 
 pub returns-clause-few : goal.returns-clause-few
 returns-clause-few g c =
-    few_in_history c.args.code.program (g.M.SharedMemory.origin c.args.mem.now).size c.args.budget c.args.cpu (g.M.SharedMemory.seen c.into_pass.result) _ c.requires.between
+    few_in_history a32 next_room c.args.code.program (g.M.SharedMemory.origin c.args.mem.now).size c.args.budget c.args.cpu (g.M.SharedMemory.seen c.into_pass.result) _ c.requires.between
     (returns-clause-end g c)

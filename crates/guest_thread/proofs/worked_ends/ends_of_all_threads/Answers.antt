@@ -1,5 +1,6 @@
 use Rattle.std.proofs.Common.{◌≡◌, [], refl, arith}
 use Rattle.a32_instr.specs.declared.outside.Stop.TheVariants.{Exit}
+use Rattle.a32_step.specs.Machine.{a32}
 use Rattle.guest_calls.proofs.Listed.{one_end_of_list}
 use Rattle.guest_thread.specs.Worked.{end_of, leaving, machine_of}
 use Rattle.guest_thread.proofs.SmallEnds.{both_ends, end_0, end_1, same_code}
@@ -21,5 +22,5 @@ returns-clause-one_twice c = λ ends. let wrong : 0 ≡ 1 = ends.numbers 1 end_0
 pub returns-clause-another_end : goal.returns-clause-another_end
 returns-clause-another_end c = λ ends.
     let end = ends.each 1 (end_of 1 (Exit 0) 2 0 0 0) refl in
-    let wrong : Exit 1 ≡ Exit 0 = (one_end_of_list leaving 2 _ [] (Exit 1) (Exit 0) 2 2 [] [] (left (machine_of 2 1 1) 2 1) end.ends).0 in
+    let wrong : Exit 1 ≡ Exit 0 = (one_end_of_list a32 leaving 2 _ [] (Exit 1) (Exit 0) 2 2 [] [] (left (machine_of 2 1 1) 2 1) end.ends).0 in
     absurd (omega (arith, same_code 1 0 wrong))

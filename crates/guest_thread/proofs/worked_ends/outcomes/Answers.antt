@@ -8,6 +8,7 @@ use Rattle.history.proofs.Cuts.{each-none}
 use Rattle.history.proofs.Operations.{last_stage-AreFinished}
 use Rattle.history.proofs.SmallHistories.{not_begun}
 use Rattle.a32_instr.specs.declared.outside.Stop.TheVariants.{Exit}
+use Rattle.a32_step.specs.Machine.{a32}
 use Rattle.guest_calls.specs.Run.{by_itself}
 use Rattle.guest_calls.proofs.Asked.{one_end_on}
 use Rattle.guest_thread.specs.Worked.{end_of, leaving, machine_of, word}
@@ -38,7 +39,7 @@ pub returns-clause-another_end : goal.returns-clause-another_end
 returns-clause-another_end c = λ outcome.
     let end = outcome.ends.each 1 (end_of 1 (Exit 0) 2 0 0 0) refl in
     let ends = by_itself [] (Exit 1) 2 [] (left (machine_of 2 1 1) 2 1) in
-    let wrong : Exit 1 ≡ Exit 0 = (one_end_on leaving 2 _ [] (Exit 1) (Exit 0) 2 2 [] [] ends end.ends).0 in
+    let wrong : Exit 1 ≡ Exit 0 = (one_end_on a32 leaving 2 _ [] (Exit 1) (Exit 0) 2 2 [] [] ends end.ends).0 in
     absurd (omega (arith, same_code 1 0 wrong))
 
 pub returns-clause-another_memory : goal.returns-clause-another_memory

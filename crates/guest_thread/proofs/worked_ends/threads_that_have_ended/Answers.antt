@@ -1,6 +1,7 @@
 use Rattle.std.proofs.Common.{[]}
 use Rattle.a32_instr.specs.declared.outside.Ask.TheVariants.{Load}
 use Rattle.a32_instr.specs.declared.outside.Stop.TheVariants.{Budget, Exit}
+use Rattle.a32_step.specs.Machine.{a32}
 use Rattle.guest_calls.proofs.Asked.{asks_or_ends}
 use Rattle.guest_thread.specs.Worked.{loading, machine_of, word}
 use Rattle.guest_thread.proofs.SmallRuns.{left, load_asked, load_spent}
@@ -14,4 +15,4 @@ returns-clause-spent c = record { stop = Budget; steps = 1; output = []; ends = 
 
 pub returns-clause-asks : goal.returns-clause-asks
 returns-clause-asks c = λ ended.
-    asks_or_ends loading 1 _ [] (Load word) ended.stop ended.steps ended.output (load_asked (machine_of 2 1 1) 2 0) ended.ends
+    asks_or_ends a32 loading 1 _ [] (Load word) ended.stop ended.steps ended.output (load_asked (machine_of 2 1 1) 2 0) ended.ends

@@ -2,11 +2,12 @@
 use Rattle.std.proofs.Common.{◌∙◌, ◌++◌, [], length, refl, sym, subst, append-nil}
 use Rattle.llsc_base.specs.Images.{Program}
 use Rattle.a32_step.specs.Ports.{Leads}
+use Rattle.a32_step.specs.Machine.{a32}
 use Rattle.guest_thread.specs.Ports.{IsRunning, RestsBy}
 use Rattle.guest_thread.specs.Under.{HasComeFrom}
-use Rattle.guest_thread.proofs.Carried.{no_way, Ways, way_on}
+use Rattle.guest_thread.proofs.Ways.{no_way, Ways, way_on}
 use Rattle.guest_thread.proofs.Leading.{leads_on}
-use Rattle.guest_thread.proofs.guests.Guest.run_on.Goals as goal
+use Rattle.guest_thread.proofs.ports.Guest+Cpu.run_on.Goals as goal
 
 pub loop-rest-init : goal.loop-rest-init
 loop-rest-init g c = record {
@@ -14,16 +15,16 @@ loop-rest-init g c = record {
   program = refl;
   mem = c.requires.mem;
   counted = c.requires.counted;
-  way = no_way g.P.Port.replies c.args.starts c.args.code.now.program c.args.budget c.args.self.now c.args.port.now;
+  way = no_way a32 g.P.Port.replies c.args.starts c.args.code.now.program c.args.budget c.args.self.now c.args.port.now;
 }
 
 pub returns-in-Some-clause-comes : goal.returns-in-Some-clause-comes
 returns-in-Some-clause-comes g c = λ point before come.
     let program : Program = c.args.code.now.program in
     let starts = c.args.starts in
-    let further : Ways g.P.Port.replies starts program c.args.budget c.loop-rest.self c.loop-rest.port c.carry_on.new.self c.carry_on.new.port =
-    subst (λ p. Ways g.P.Port.replies starts p c.args.budget c.loop-rest.self c.loop-rest.port c.carry_on.new.self c.carry_on.new.port) c.loop-rest.invariant.program (c.carry_on.ensures.comes starts) in
-    let way = way_on g.P.Port.replies starts program c.args.budget c.args.self.now c.loop-rest.self c.carry_on.new.self c.args.port.now c.loop-rest.port c.carry_on.new.port
+    let further : Ways a32 g.P.Port.replies starts program c.args.budget c.loop-rest.self c.loop-rest.port c.carry_on.new.self c.carry_on.new.port =
+    subst (λ p. Ways a32 g.P.Port.replies starts p c.args.budget c.loop-rest.self c.loop-rest.port c.carry_on.new.self c.carry_on.new.port) c.loop-rest.invariant.program (c.carry_on.ensures.comes starts) in
+    let way = way_on a32 g.P.Port.replies starts program c.args.budget c.args.self.now c.loop-rest.self c.carry_on.new.self c.args.port.now c.loop-rest.port c.carry_on.new.port
     c.loop-rest.invariant.way further point before come in
     let ended = c.in-Some.ensures.comes point (before ++ way.0) (subst (λ p. HasComeFrom starts p c.args.budget point (before ++ way.0) c.carry_on.new.self) (sym c.image-image.ensures) way.1.1) in (
       way.0,
@@ -38,16 +39,16 @@ pub loop-rest-preserved : goal.loop-rest-preserved
 loop-rest-preserved g c =
     let program : Program = c.args.code.now.program in
     let starts = c.args.starts in
-    let further : Ways g.P.Port.replies starts program c.args.budget c.loop-rest.self c.loop-rest.port c.carry_on.new.self c.carry_on.new.port =
-    subst (λ p. Ways g.P.Port.replies starts p c.args.budget c.loop-rest.self c.loop-rest.port c.carry_on.new.self c.carry_on.new.port) c.loop-rest.invariant.program (c.carry_on.ensures.comes starts) in
-    let passed : Ways g.P.Port.replies starts program c.args.budget c.carry_on.new.self c.carry_on.new.port c.pass.new.self c.pass.new.port =
-    subst (λ p. Ways g.P.Port.replies starts p c.args.budget c.carry_on.new.self c.carry_on.new.port c.pass.new.self c.pass.new.port) c.image-image.ensures c.in_default.ensures.comes in
+    let further : Ways a32 g.P.Port.replies starts program c.args.budget c.loop-rest.self c.loop-rest.port c.carry_on.new.self c.carry_on.new.port =
+    subst (λ p. Ways a32 g.P.Port.replies starts p c.args.budget c.loop-rest.self c.loop-rest.port c.carry_on.new.self c.carry_on.new.port) c.loop-rest.invariant.program (c.carry_on.ensures.comes starts) in
+    let passed : Ways a32 g.P.Port.replies starts program c.args.budget c.carry_on.new.self c.carry_on.new.port c.pass.new.self c.pass.new.port =
+    subst (λ p. Ways a32 g.P.Port.replies starts p c.args.budget c.carry_on.new.self c.carry_on.new.port c.pass.new.self c.pass.new.port) c.image-image.ensures c.in_default.ensures.comes in
     record {
       running = subst (λ p. IsRunning (length p.bytes) c.args.budget c.pass.new.self) c.image-image.ensures c.in_default.ensures.goes_on;
       program = c.carry_on.ensures.program ∙ c.loop-rest.invariant.program;
       mem = c.pass.ensures.mem ∙ c.carry_on.ensures.mem ∙ c.loop-rest.invariant.mem;
       counted = c.pass.ensures.counted;
-      way = way_on g.P.Port.replies starts program c.args.budget c.args.self.now c.loop-rest.self c.pass.new.self c.args.port.now c.loop-rest.port c.pass.new.port
+      way = way_on a32 g.P.Port.replies starts program c.args.budget c.args.self.now c.loop-rest.self c.pass.new.self c.args.port.now c.loop-rest.port c.pass.new.port
           c.loop-rest.invariant.way
-          (way_on g.P.Port.replies starts program c.args.budget c.loop-rest.self c.carry_on.new.self c.pass.new.self c.loop-rest.port c.carry_on.new.port c.pass.new.port further passed);
+          (way_on a32 g.P.Port.replies starts program c.args.budget c.loop-rest.self c.carry_on.new.self c.pass.new.self c.loop-rest.port c.carry_on.new.port c.pass.new.port further passed);
     }

@@ -1,9 +1,10 @@
 -- Between two instructions, with all accesses behind it.
 use Rattle.std.proofs.Common.{◌≡◌, ◌≤◌, ◌-◌, Bool, length}
+use Rattle.a32_step.specs.Machine.{a32}
 use Rattle.guest_thread.specs.Ports.{IsAtRest, IsRunning}
 use Rattle.guest_thread.specs.Progress.{progress_of}
-use Rattle.guest_thread.proofs.Carried.{Ways}
-use Rattle.guest_thread.proofs.guests.Guest.carry_on.Given as goal
+use Rattle.guest_thread.proofs.Ways.{Ways}
+use Rattle.guest_thread.proofs.ports.Guest+Cpu.carry_on.Given as goal
 
 abbrev pub invariant-loop-steps : goal.invariant-loop-steps
 invariant-loop-steps g l = record {
@@ -13,7 +14,7 @@ invariant-loop-steps g l = record {
   mem : g.P.Port.mem l.port ≡ g.P.Port.mem l.fn.port;
   counted : g.P.Port.counted l.port ≤ progress_of (record { cpu = l.self-inside.cpu; steps = l.steps; output = l.self-inside.output; printing = l.self-inside.printing });
   later : progress_of l.fn.self ≤ progress_of (record { cpu = l.self-inside.cpu; steps = l.steps; output = l.self-inside.output; printing = l.self-inside.printing });
-  way : (stocked : Bool) → Ways g.P.Port.replies stocked l.fn.code.program l.fn.budget l.fn.self l.fn.port (record { cpu = l.self-inside.cpu; steps = l.steps; output = l.self-inside.output; printing = l.self-inside.printing }) l.port;
+  way : (stocked : Bool) → Ways a32 g.P.Port.replies stocked l.fn.code.program l.fn.budget l.fn.self l.fn.port (record { cpu = l.self-inside.cpu; steps = l.steps; output = l.self-inside.output; printing = l.self-inside.printing }) l.port;
 }
 
 abbrev pub decreases-loop-steps : goal.decreases-loop-steps

@@ -2,16 +2,17 @@
 use Rattle.std.proofs.Common.{rules, ◌≡◌, ◌+◌, ◌<◌, ◌≤◌, length, refl, sym, ap, subst, ◌∙◌, arith}
 use Rattle.llsc_base.specs.Images.{Program}
 use Rattle.a32_step.specs.declared.phases.Passage.TheVariants.{Complete}
-use Rattle.a32_step.specs.Machine.{Machine, IsReady}
+use Rattle.a32_step.specs.Machine.{Machine, IsReady, a32}
 use Rattle.a32_step.specs.Passages.{IsCarriedOn}
 use Rattle.guest_thread.specs.Ports.{IsAtRest, IsRunning}
 use Rattle.guest_thread.specs.Progress.{progress_of}
 use Rattle.guest_thread.specs.ThreadState.{ThreadState}
-use Rattle.guest_thread.proofs.Carried.{after_one, after_part, at_rest_on, leads_counted, no_way, part_ends, replies_counted, running_at, Ways, way_on}
-use Rattle.guest_thread.proofs.guests.Guest.carry_on.Goals as goal
+use Rattle.guest_thread.proofs.Carried.{after_one, after_part, at_rest_on, leads_counted, part_ends, replies_counted, running_at}
+use Rattle.guest_thread.proofs.Ways.{no_way, Ways, way_on}
+use Rattle.guest_thread.proofs.ports.Guest+Cpu.carry_on.Goals as goal
 
 pub returns-then-not-is_at_rest-clause-comes : goal.returns-then-not-is_at_rest-clause-comes
-returns-then-not-is_at_rest-clause-comes g c = λ stocked. no_way g.P.Port.replies stocked c.args.code.now.program c.args.budget c.args.self.now c.args.port.now
+returns-then-not-is_at_rest-clause-comes g c = λ stocked. no_way a32 g.P.Port.replies stocked c.args.code.now.program c.args.budget c.args.self.now c.args.port.now
 
 pub loop-steps-init : goal.loop-steps-init
 loop-steps-init g c =
@@ -23,8 +24,8 @@ loop-steps-init g c =
       mem = refl;
       counted = subst (λ s. g.P.Port.counted c.args.port.now ≤ progress_of s) seen c.requires.counted;
       later = subst (λ s. progress_of c.args.self.now ≤ progress_of s) seen (omega arith);
-      way = λ stocked. subst (λ s. Ways g.P.Port.replies stocked c.args.code.now.program c.args.budget c.args.self.now c.args.port.now s c.args.port.now) seen
-          (no_way g.P.Port.replies stocked c.args.code.now.program c.args.budget c.args.self.now c.args.port.now);
+      way = λ stocked. subst (λ s. Ways a32 g.P.Port.replies stocked c.args.code.now.program c.args.budget c.args.self.now c.args.port.now s c.args.port.now) seen
+          (no_way a32 g.P.Port.replies stocked c.args.code.now.program c.args.budget c.args.self.now c.args.port.now);
     }
 
 pub loop-steps-preserved : goal.loop-steps-preserved
@@ -49,7 +50,7 @@ loop-steps-preserved g c =
       mem = c.carry.ensures.mem ∙ inv.mem;
       counted = omega (arith, inv.counted, c.carry.ensures.counted, none);
       later = omega (arith, inv.later, none);
-      way = λ stocked. way_on g.P.Port.replies stocked program c.args.budget c.args.self.now old new c.args.port.now c.loop-steps.port c.carry.new.port (inv.way stocked)
+      way = λ stocked. way_on a32 g.P.Port.replies stocked program c.args.budget c.args.self.now old new c.args.port.now c.loop-steps.port c.carry.new.port (inv.way stocked)
           (after_one g.P.Port.replies program c.args.budget old new c.loop-steps.port c.carry.new.port inv.rest within refl inv.rest.printing carried refl stocked);
     }
 
@@ -76,7 +77,7 @@ returns-in-AtStart g c =
       program = c.carry.ensures.program ∙ inv.program;
       mem = c.carry.ensures.mem ∙ inv.mem;
       counted = omega (arith, inv.counted, made, had, none);
-      comes = λ stocked. way_on g.P.Port.replies stocked program c.args.budget c.args.self.now old new c.args.port.now c.loop-steps.port c.carry.new.port (inv.way stocked)
+      comes = λ stocked. way_on a32 g.P.Port.replies stocked program c.args.budget c.args.self.now old new c.args.port.now c.loop-steps.port c.carry.new.port (inv.way stocked)
           (after_part g.P.Port.replies program c.args.budget old new c.loop-steps.port c.carry.new.port inv.rest within refl inv.rest.printing
           carried.machine carried.pairs carried.leads carried.comes ends.0 refl stocked);
     }

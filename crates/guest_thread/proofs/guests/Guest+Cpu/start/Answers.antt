@@ -2,7 +2,7 @@ use Rattle.std.proofs.Common.{ℕ, [], subst}
 use Rattle.a32_step.specs.Machine.{Machine}
 use Rattle.guest_thread.specs.Start.{thread_start}
 use Rattle.guest_thread.specs.Under.{HasCome}
-use Rattle.guest_thread.proofs.guests.Guest.start.Goals as goal
+use Rattle.guest_thread.proofs.guests.Guest+Cpu.start.Goals as goal
 
 pub returns-clause-comes : goal.returns-clause-comes
 returns-clause-comes c budget =

@@ -1,0 +1,116 @@
+//! The core of a guest thread, of whatever instruction set.
+ghost use Rattle.std.specs.Prelude.{◌≡◌, ◌<◌, ◌≤◌, ◌+◌, ℕ, length, IsTrue};
+ghost use Rattle.llsc_base.specs.Images.{Program};
+ghost use Rattle.a32_instr.specs.declared.outside.Ask.{Ask};
+ghost use Rattle.a32_instr.specs.declared.outside.Stop.{Stop};
+ghost use Rattle.a32_instr.specs.State.{asks, stops};
+ghost use Rattle.a32_step.specs.Phase as phase;
+ghost use Rattle.a32_step.specs.Machine.{MachineOf, InstructionSet, after_of, between, given, next_of, returned_of, wanted_of, Follows, GoesOn, GoesOnWith, IsAwaiting, IsCalling, IsOwn, IsReady, IsTested, PassesTests};
+
+use crate::cpu::Cpu;
+use crate::phases::Wanted;
+use a32_instr::CallAsk;
+use llsc_base::Image;
+
+/// A core that carries out the instructions of a set one access at a time. What it stands for is a machine of that set.
+pub trait Core: Drop {
+    /// The instructions.
+    ghost Instr: { Type 0 };
+
+    /// Registers and PC.
+    ghost State: { Type 0 };
+
+    /// What each instruction does.
+    ghost set: { InstructionSet Instr State };
+
+    /// The machine that a core stands for.
+    ghost machine: { Self → MachineOf Instr State };
+
+    /// Goes on until something is wanted from outside; neither a reply nor an answer may be awaited.
+    fn next(&mut self, image: &Image) -> Wanted
+        requires { IsReady (machine self.old).phase }
+        ensures wanted { result ≡ wanted_of (next_of set image.now (machine self.old)) }
+        ensures state { machine self.new ≡ after_of set image.now (machine self.old) }
+        ensures follows { Follows (machine self.old) result (machine self.new) }
+        ensures tested { IsTested image.now (machine self.old).replies result };
+
+    /// The reply to the access that is awaited; one must be.
+    fn give(&mut self, reply: u64)
+        requires { IsAwaiting (machine self.old).phase }
+        ensures state { machine self.new ≡ given (machine self.old) reply }
+        ensures ready { IsReady (machine self.new).phase }
+        ensures one_more { length (machine self.new).replies ≡ length (machine self.old).replies + 1 }
+        ensures room { length (machine self.new).replies ≤ 16 };
+
+    /// The guest call whose answer is awaited; one must be.
+    fn asked_call(&self) -> CallAsk
+        requires { IsCalling (machine self.now).phase }
+        ensures { (machine self.now).phase ≡ phase.Calling result };
+
+    /// The answer of the guest call that is awaited, which is over then; one must be.
+    fn answer(&mut self, value: u32)
+        requires { IsCalling (machine self.old).phase }
+        ensures { machine self.new ≡ returned_of set (machine self.old) value };
+
+    /// Whether it is between two instructions.
+    fn is_between(&self) -> bool
+        ensures { IsTrue result → machine self.now ≡ between (machine self.now).state };
+
+    /// The call of the table of guest calls that a call of this core is.
+    fn numbered(ask: &CallAsk) -> CallAsk
+        ensures { result ≡ set.call_of ask.now };
+
+    /// The law that an access which is asked for next has passed its tests, and that its instruction has had fewer than 16
+    /// replies; and that a stop is one that an instruction makes.
+    fn is_sound()
+        ensures passes { (program : Program) (core : MachineOf Instr State) (asked : Ask) → GoesOn core.phase →
+            next_of set program core ≡ asks asked → PassesTests program asked }
+        ensures room { (program : Program) (core : MachineOf Instr State) (asked : Ask) → GoesOnWith core.phase core.replies →
+            next_of set program core ≡ asks asked → length core.replies < 16 }
+        ensures own { (program : Program) (core : MachineOf Instr State) (why : Stop) → GoesOn core.phase →
+            next_of set program core ≡ stops why → IsOwn why };
+}
+
+impl Core for Cpu {
+    ghost use Rattle.a32_instr.specs.declared.instructions.Instr.{Instr as A32Instr};
+    ghost use Rattle.a32_instr.specs.State.{State as A32State};
+    ghost use Rattle.a32_step.specs.Machine.{a32};
+
+    ghost Instr = { A32Instr };
+
+    ghost State = { A32State };
+
+    ghost set = { a32 };
+
+    ghost machine = { λ m. m };
+
+    #[inline(always)]
+    fn next(&mut self, image: &Image) -> Wanted {
+        Cpu::next(self, image)
+    }
+
+    #[inline(always)]
+    fn give(&mut self, reply: u64) {
+        Cpu::give(self, reply);
+    }
+
+    fn asked_call(&self) -> CallAsk {
+        Cpu::asked_call(self)
+    }
+
+    fn answer(&mut self, value: u32) {
+        Cpu::answer(self, value);
+    }
+
+    #[inline(always)]
+    fn is_between(&self) -> bool {
+        Cpu::is_between(self)
+    }
+
+    fn numbered(ask: &CallAsk) -> CallAsk {
+        *ask
+    }
+
+    #[tactic(auto, using(crate::proofs::Tested::next_passes, crate::proofs::Tested::next_own))]
+    fn is_sound() {}
+}

@@ -1,0 +1,19 @@
+-- Each access leads the thread on, and nearer to the most that it can have come.
+use Rattle.std.proofs.Common.{◌≡◌, ◌≤◌, ◌+◌, ◌-◌, ◌*◌, false, length}
+use Rattle.guest_calls.specs.Calls.{most_output}
+use Rattle.guest_thread.specs.Ports.{IsRunning}
+use Rattle.guest_thread.specs.Progress.{progress_of}
+use Rattle.guest_thread.specs.ThreadState.{thread_in}
+use Rattle.guest_thread.proofs.Ways.{Ways}
+use Rattle.guest_thread.proofs.guests.Guest.run_by_turns.Given as goal
+
+abbrev pub invariant-loop-rest : goal.invariant-loop-rest
+invariant-loop-rest g l = record {
+  running : IsRunning (length l.image.bytes) l.budget (thread_in g.C.Core.machine l.self);
+  mem : g.P.Port.mem l.port ≡ length l.image.bytes;
+  counted : g.P.Port.counted l.port ≤ progress_of (thread_in g.C.Core.machine l.self);
+  way : Ways g.C.Core.set g.P.Port.replies false l.image l.budget (thread_in g.C.Core.machine l.fn.self) l.fn.port (thread_in g.C.Core.machine l.self) l.port;
+}
+
+abbrev pub decreases-loop-rest : goal.decreases-loop-rest
+decreases-loop-rest g l = 17 * l.budget + most_output + 17 - progress_of (thread_in g.C.Core.machine l.self)
