@@ -1,0 +1,47 @@
+-- The thread of a RISC-V guest, which may be in the middle of an instruction.
+use Rattle.std.specs.Prelude.{ℕ, [], ◌∷◌, Option, Some, None, Result, Ok, Err}
+use Rattle.llsc_base.specs.Images.{Program, word_at}
+use Rattle.a32_instr.specs.declared.instructions.DecodeFault.{DecodeFault}
+use Rattle.a32_instr.specs.declared.instructions.DecodeFault.TheVariants as fault
+use Rattle.a32_instr.specs.declared.outside.Stop.{Stop}
+use Rattle.a32_instr.specs.declared.outside.Stop.TheVariants as stop
+use Rattle.a32_step.specs.Machine.{MachineOf, InstructionSet, between}
+use Rattle.rv32_guest.specs.declared.instructions.RvInstr.{RvInstr}
+use Rattle.rv32_guest.specs.State.{RvState, answered}
+use Rattle.rv32_guest.specs.Calls.{call_of}
+use Rattle.rv32_guest.specs.Table.{table, meaning}
+use Rattle.rv32_guest.specs.Effect.{acts}
+
+abbrev pub Machine : Type 0
+Machine = MachineOf RvInstr RvState
+
+-- the instruction that a decoded word means, or the stop at a word that means none
+abbrev pub decoded : ℕ → Result RvInstr DecodeFault → Result RvInstr Stop
+decoded pc (Ok instr) = Ok instr
+decoded pc (Err fault.Undefined) = Err (stop.Undefined pc)
+decoded pc (Err fault.Unpredictable) = Err (stop.Unpredictable pc)
+
+-- the instruction at an address, or the stop where there is none
+abbrev pub instr_of_word : ℕ → Option ℕ → Result RvInstr Stop
+instr_of_word pc None = Err (stop.Outside pc)
+instr_of_word pc (Some word) = decoded pc (meaning table word)
+
+abbrev pub instr_at : Program → ℕ → Result RvInstr Stop
+instr_at program pc = instr_of_word pc (word_at program pc)
+
+-- the instructions of RV32I and Zalrsc
+abbrev pub rv32 : InstructionSet RvInstr RvState
+rv32 = record {
+  found = λ program state. instr_at program state.pc;
+  begins = λ instr program state. acts instr program [] state;
+  acts = acts;
+  answered = answered;
+  call_of = call_of;
+}
+
+-- The start of thread t of n: x10 has t, x11 has n, x2 has the top of the stack, and every other register is 0.
+abbrev pub start_of : ℕ → ℕ → ℕ → ℕ → Machine
+start_of entry t n sp = between (record {
+  regs = 0 ∷ 0 ∷ sp ∷ 0 ∷ 0 ∷ 0 ∷ 0 ∷ 0 ∷ 0 ∷ 0 ∷ t ∷ n ∷ 0 ∷ 0 ∷ 0 ∷ 0 ∷ 0 ∷ 0 ∷ 0 ∷ 0 ∷ 0 ∷ 0 ∷ 0 ∷ 0 ∷ 0 ∷ 0 ∷ 0 ∷ 0 ∷ 0 ∷ 0 ∷ 0 ∷ 0 ∷ [];
+  pc = entry;
+})

@@ -1,0 +1,76 @@
+//! Jumps, branches and guest calls ("Control Transfer Instructions", "Environment Call and Breakpoints").
+ghost use Rattle.std.specs.Prelude.{◌≡◌, ◌%◌, ℕ, List};
+ghost use Rattle.llsc_base.specs.Images.{Program};
+ghost use Rattle.rv32_guest.specs.Classes.{instr_class, branching};
+ghost use Rattle.rv32_guest.specs.State.{jumps};
+ghost use Rattle.rv32_guest.specs.Effect.{acts, branches, call_in};
+ghost use Rattle.rv32_guest.specs.Outcome.{effect_by, replies_of, IsQuiet};
+
+use crate::arithmetic::{is_less_signed, moved};
+use crate::instructions::RvInstr;
+use crate::outcomes::Outcome;
+use crate::registers::Registers;
+use a32_instr::{CallAsk, Stop};
+
+impl Registers {
+    /// A jump, with the address of the next instruction in a register.
+    pub(super) fn jump(&self, rd: u8, target: u32) -> Outcome
+        ensures effect { effect_by self.now result ≡ jumps self.now rd target }
+        ensures quiet { IsQuiet result }
+    {
+        if target % 4 != 0 {
+            return Outcome::Stops(Stop::Alignment(target));
+        }
+        Outcome::Completes {
+            rd,
+            value: self.next_pc(),
+            pc: target,
+        }
+    }
+
+    /// A branch.
+    fn branch(&self, taken: bool, distance: i32) -> Outcome
+        ensures effect { effect_by self.now result ≡ branches self.now taken distance }
+        ensures quiet { IsQuiet result }
+    {
+        if taken {
+            self.jump(0, moved(self.pc(), distance))
+        } else {
+            self.write(0, 0)
+        }
+    }
+
+    /// The guest call that an ECALL makes.
+    pub(super) fn call(&self) -> CallAsk
+        ensures { result ≡ call_in self.now }
+    {
+        CallAsk {
+            imm: 0,
+            number: self.x(17),
+            a: self.x(10),
+            b: self.x(11),
+            c: self.x(12),
+        }
+    }
+
+    /// BEQ, BNE, BLT, BGE, BLTU and BGEU.
+    pub(super) fn branch_by(&self, instr: RvInstr) -> Outcome
+        requires { instr_class instr ≡ branching }
+        ensures effect { (program : Program) (replies : List ℕ) → effect_by self.now result ≡ acts instr program replies self.now }
+        ensures quiet { IsQuiet result }
+    {
+        match instr {
+            RvInstr::Beq { rs1, rs2, imm } => self.branch(self.x(rs1) == self.x(rs2), imm),
+            RvInstr::Bne { rs1, rs2, imm } => self.branch(self.x(rs1) != self.x(rs2), imm),
+            RvInstr::Blt { rs1, rs2, imm } => {
+                self.branch(is_less_signed(self.x(rs1), self.x(rs2)), imm)
+            }
+            RvInstr::Bge { rs1, rs2, imm } => {
+                self.branch(!is_less_signed(self.x(rs1), self.x(rs2)), imm)
+            }
+            RvInstr::Bltu { rs1, rs2, imm } => self.branch(self.x(rs1) < self.x(rs2), imm),
+            RvInstr::Bgeu { rs1, rs2, imm } => self.branch(self.x(rs1) >= self.x(rs2), imm),
+            _ => unreachable!(),
+        }
+    }
+}

@@ -1,0 +1,6 @@
+use Rattle.a32_step.specs.Machine.{IsReady}
+use Rattle.rv32_trials.proofs.tests.guests.printed.Given as goal
+
+-- neither a reply nor an answer is awaited where the core goes on
+abbrev pub invariant-loop : goal.invariant-loop
+invariant-loop l = IsReady l.cpu.phase

@@ -1,0 +1,181 @@
+//! One instruction at a time, against what a RISC-V processor's emulator did, `qemu-riscv32`, which ran it in a program for Linux.
+use llsc_base::{Image, MachineSize};
+use rv32_guest::{RvCpu, Wanted};
+use std::alloc::Global;
+use std::test::Fail;
+
+/// In each line a word, x10 and x11 before it, and x12 and the PC after it, which was 1000, all in hexadecimal.
+const ROWS: &str = "00b50633 8000 80000001 80008001 1004
+00b50633 0 12345678 12345678 1004
+00b50633 ff 1 100 1004
+00b50633 7f 1f 9e 1004
+00b50633 80000001 deadbeef 5eadbef0 1004
+00b50633 ff fffffffe fd 1004
+40b50633 1f ff ffffff20 1004
+40b50633 0 80 ffffff80 1004
+40b50633 ffffffff 8000 ffff7fff 1004
+40b50633 7f fffffffe 81 1004
+40b50633 7f 2 7d 1004
+40b50633 20 12345678 edcba9a8 1004
+00b51633 20 20 20 1004
+00b51633 0 0 0 1004
+00b51633 80 80 80 1004
+00b51633 7f 7f 80000000 1004
+00b51633 7fffffff 80000000 7fffffff 1004
+00b51633 80 80 80 1004
+00b52633 7f 80 1 1004
+00b52633 fffffffe 7fffffff 1 1004
+00b52633 0 80000001 0 1004
+00b52633 ffffffff 7f 1 1004
+00b52633 20 8000 1 1004
+00b52633 2 80000000 0 1004
+00b53633 7fffffff 0 0 1004
+00b53633 80000000 2 0 1004
+00b53633 7fffffff 80000001 1 1004
+00b53633 7fffffff deadbeef 1 1004
+00b53633 80000000 7f 0 1004
+00b53633 deadbeef deadbeef 0 1004
+00b54633 7f 1 7e 1004
+00b54633 8000 0 8000 1004
+00b54633 80000001 fffffffe 7fffffff 1004
+00b54633 0 ffffffff ffffffff 1004
+00b54633 80000001 fffffffe 7fffffff 1004
+00b54633 0 12345678 12345678 1004
+00b55633 1 7f 0 1004
+00b55633 80 1f 0 1004
+00b55633 ff 12345678 0 1004
+00b55633 80000001 80000001 40000000 1004
+00b55633 8000 12345678 0 1004
+00b55633 1f 80000001 f 1004
+40b55633 7fffffff 1 3fffffff 1004
+40b55633 ffffffff 2 ffffffff 1004
+40b55633 80 80000000 80 1004
+40b55633 80000001 20 80000001 1004
+40b55633 80000000 8000 80000000 1004
+40b55633 2 7fffffff 0 1004
+00b56633 80000000 7fffffff ffffffff 1004
+00b56633 7f 2 7f 1004
+00b56633 20 7fffffff 7fffffff 1004
+00b56633 deadbeef 7f deadbeff 1004
+00b56633 1 2 3 1004
+00b56633 fffffffe 1 ffffffff 1004
+00b57633 ff 80000001 1 1004
+00b57633 8000 12345678 0 1004
+00b57633 ffffffff 20 20 1004
+00b57633 1 1 1 1004
+00b57633 deadbeef 80000000 80000000 1004
+00b57633 80 20 0 1004
+00050613 20 ffffffff 20 1004
+00150613 1f 7f 20 1004
+fff50613 ffffffff 80000001 fffffffe 1004
+7ff50613 20 1 81f 1004
+80050613 ffffffff 7fffffff fffff7ff 1004
+00550613 20 12345678 25 1004
+00052613 7f 12345678 0 1004
+00152613 deadbeef 80000000 1 1004
+fff52613 deadbeef 8000 1 1004
+7ff52613 7fffffff deadbeef 0 1004
+80052613 fffffffe 20 0 1004
+00552613 1f fffffffe 0 1004
+00053613 7f deadbeef 0 1004
+00153613 80000000 7f 0 1004
+fff53613 2 deadbeef 1 1004
+7ff53613 8000 80000001 0 1004
+80053613 2 80000001 1 1004
+00553613 1 7fffffff 1 1004
+00054613 80000001 8000 80000001 1004
+00154613 deadbeef 8000 deadbeee 1004
+fff54613 7fffffff 80000000 80000000 1004
+7ff54613 7f 0 780 1004
+80054613 deadbeef 8000 215246ef 1004
+00554613 80000000 8000 80000005 1004
+00056613 12345678 7fffffff 12345678 1004
+00156613 80000001 80000001 80000001 1004
+fff56613 8000 80000001 ffffffff 1004
+7ff56613 ffffffff 80000001 ffffffff 1004
+80056613 7f 12345678 fffff87f 1004
+00556613 80000001 80000000 80000005 1004
+00057613 20 7f 0 1004
+00157613 80 80000001 0 1004
+fff57613 deadbeef 7fffffff deadbeef 1004
+7ff57613 2 ffffffff 2 1004
+80057613 7f ffffffff 0 1004
+00557613 7fffffff 8000 5 1004
+00051613 0 0 0 1004
+00151613 80 0 100 1004
+00751613 7f 0 3f80 1004
+01f51613 12345678 0 0 1004
+00055613 7f 0 7f 1004
+00155613 ff 0 7f 1004
+00755613 7f 0 0 1004
+01f55613 1 0 0 1004
+40055613 deadbeef 0 deadbeef 1004
+40155613 ff 0 7f 1004
+40755613 7f 0 0 1004
+41f55613 1 0 0 1004
+02b50063 20 1f 0 1004
+02b50063 80000000 7f 0 1004
+02b50063 deadbeef 80 0 1004
+02b50063 1 ffffffff 0 1004
+02b50063 12345678 80000001 0 1004
+02b50063 7 7 0 1020
+02b51063 fffffffe 2 0 1020
+02b51063 80 ff 0 1020
+02b51063 80000001 0 0 1020
+02b51063 80000001 fffffffe 0 1020
+02b51063 8000 ffffffff 0 1020
+02b51063 7 7 0 1004
+02b54063 1f 80000001 0 1004
+02b54063 1 7fffffff 0 1020
+02b54063 1f 7fffffff 0 1020
+02b54063 80000000 7fffffff 0 1020
+02b54063 80000001 20 0 1020
+02b54063 7 7 0 1004
+02b55063 ffffffff ffffffff 0 1020
+02b55063 80000001 12345678 0 1004
+02b55063 20 7f 0 1004
+02b55063 fffffffe deadbeef 0 1020
+02b55063 80 20 0 1020
+02b55063 7 7 0 1020
+02b56063 2 80000001 0 1020
+02b56063 0 fffffffe 0 1020
+02b56063 1f 80000000 0 1020
+02b56063 20 80000000 0 1020
+02b56063 fffffffe ffffffff 0 1020
+02b56063 7 7 0 1004
+02b57063 ffffffff ff 0 1020
+02b57063 deadbeef 7fffffff 0 1020
+02b57063 deadbeef fffffffe 0 1004
+02b57063 fffffffe 7f 0 1020
+02b57063 8000 7fffffff 0 1004
+02b57063 7 7 0 1020";
+
+/// The number that the next of these words is.
+fn number(text: Option<&str>) -> Result<u32, Fail> {
+    Ok(u32::from_str_radix(text.ok_or("a row is short")?, 16)?)
+}
+
+/// x12 and the PC after the row's instruction, and what they are to be.
+fn results(alloc: Global, row: &str) -> Result<[(u32, u32); 2], Fail> {
+    let mut words = row.split_whitespace();
+    let word = number(words.next())?;
+    let x10 = number(words.next())?;
+    let x11 = number(words.next())?;
+    let wanted = (number(words.next())?, number(words.next())?);
+    let size = MachineSize::new(65_536, 1, 1, 1)?;
+    let image = Image::flat(alloc, &word.to_le_bytes(), &size)?;
+    let mut cpu = RvCpu::start(0x1000, x10, x11, 0);
+    if cpu.next(&image) != Wanted::Done {
+        return Err("the instruction isn't complete")?;
+    }
+    Ok([(cpu.reg(12), cpu.pc()), wanted])
+}
+
+#[test]
+fn computing_and_branches(rt: HostRuntime) -> Result<(), Fail> {
+    for row in ROWS.lines() {
+        let [got, wanted] = results(rt.alloc(), row)?;
+        assert_eq!(rt; got, wanted, "{row}");
+    }
+    Ok(())
+}
