@@ -9,7 +9,7 @@ use Rattle.elf32.specs.declared.units.Unit.{Unit}
 use Rattle.elf32.specs.Units.{IsWithin, code_end, data_of, data_size, end_of, unit_image}
 use Rattle.elf32.specs.Written.{code_offset, written_file}
 use Rattle.elf32.specs.Headers.{entry_field, headers_of, is_segment, segments_of}
-use Rattle.elf32.specs.Faults.{first_fault, header_fault, program_fault}
+use Rattle.elf32.specs.Faults.{first_fault, first_fault_as, header_fault, program_fault}
 use Rattle.elf32.specs.Image.{byte_at, image_of, span_of}
 use Rattle.elf32.proofs.WrittenHeaders.{code_at, data_at, code_segment, data_segment, headers_are, entry_is, length_is, no_header_fault}
 use Rattle.elf32.proofs.WrittenFaults.{no_fault_alone, no_fault_both}
@@ -34,8 +34,8 @@ segments_by file headers segments e f = ap (filter is_segment) e ∙ f
 
 -- the first fault and the image by their parts
 
-no_fault_by : (file : List ℕ) (size : Numbers) → header_fault file ≡ None → program_fault (room_of size) file ≡ None → first_fault file size ≡ None
-unfolding first_fault
+no_fault_by : (file : List ℕ) (size : Numbers) → header_fault 40 file ≡ None → program_fault (room_of size) file ≡ None → first_fault file size ≡ None
+unfolding first_fault_as
 no_fault_by file size e f = rw (e, f) refl
 
 image_by : (file : List ℕ) (size : Numbers) (segments : List ProgramHeader) (bytes : List ℕ) (spans : List Span)

@@ -1,16 +1,14 @@
--- What holds of a file that has no fault.
-use Rattle.std.proofs.Common.{◌≡◌, ℕ, ◌-◌, ◌%◌, map, ◌≤◌, Bool, true, false, List, length, refl, arith, ◌==◌, ◌&&◌, ◌||◌, not, nat_lt, Option, Some, None, if◌then◌else◌}
+-- What holds of a file that has a header, and no fault of its program headers.
+use Rattle.std.proofs.Common.{◌≡◌, ℕ, ◌-◌, ◌%◌, map, ◌≤◌, Bool, true, false, List, length, refl, arith, ◌==◌, ◌&&◌, ◌||◌, not, Option, Some, None, if◌then◌else◌}
 use Rattle.std.specs.List.{list_any}
-use Rattle.std.specs.Option.{option_or}
 use Rattle.std.specs.Prelude.{All}
 use Rattle.llsc_base.specs.Sizes.{Numbers, room_of}
 use Rattle.llsc_base.specs.Flat.{values_below}
 use Rattle.llsc_base.specs.Images.{IsProgram, program_of}
 use Rattle.llsc_base.proofs.Values.{length-values_below}
 use Rattle.elf32.specs.declared.faults.ElfFault.{ElfFault}
-use Rattle.elf32.specs.declared.faults.ElfFault.TheVariants as fault
 use Rattle.elf32.specs.Headers.{header_size, entry_field, entry_address, headers_of, segments_of}
-use Rattle.elf32.specs.Faults.{first_fault, header_fault, program_fault, is_past, is_unstored, is_writable_code, overlap}
+use Rattle.elf32.specs.Faults.{program_fault, is_past, is_unstored, is_writable_code, overlap}
 use Rattle.elf32.specs.Image.{IsPlaced, byte_at, span_of}
 use Rattle.elf32.proofs.Sound.{all-placed, all-spans, spans-apart}
 
@@ -29,24 +27,15 @@ passed : (test : Bool) (named : ElfFault) (rest : Option ElfFault)
 passed true named rest e = absurd (let h : ⊥ = cc in h)
 passed false named rest e = (refl, e)
 
-both_none : (one other : Option ElfFault) → option_or one other ≡ None → (one ≡ None) × (other ≡ None)
-both_none (Some named) other e = absurd (let h : ⊥ = cc in h)
-both_none None other e = (refl, e)
-
-whole : (file : List ℕ) → header_fault file ≡ None → header_size ≤ length file
-unfolding header_fault
-whole file e = let long = (passed (nat_lt (length file) header_size) fault.Short _ e).0 in grind arith
-
 word : (held : Bool) (field : ℕ) → (not held || ((field % 2 == 0) && not ((field - field % 2) % 4 == 0))) ≡ false
     → (field % 2 == 1) ≡ false → field % 4 ≡ 0
 word held field e f = grind arith
 
--- a file without a fault passes them
-pub loadable : (file : List ℕ) (size : Numbers) → first_fault file size ≡ None → IsLoadable file size
-unfolding first_fault program_fault
-loadable file size e =
-    let parts = both_none (header_fault file) _ e in
-    let dynamic = passed _ _ _ parts.1 in
+-- such a file passes them
+pub loadable : (file : List ℕ) (size : Numbers) → header_size ≤ length file → program_fault (room_of size) file ≡ None → IsLoadable file size
+unfolding program_fault
+loadable file size whole e =
+    let dynamic = passed _ _ _ e in
     let writable = passed _ _ _ dynamic.1 in
     let code = passed _ _ _ writable.1 in
     let past = passed _ _ _ code.1 in
@@ -55,7 +44,7 @@ loadable file size e =
     let entry = passed _ _ _ apart.1 in
     let thumb = passed _ _ _ entry.1 in
     record {
-      header = whole file parts.0;
+      header = whole;
       writable = writable.0;
       past = past.0;
       unstored = unstored.0;

@@ -68,7 +68,7 @@ pub length_is : (unit : Unit) → length (written_file unit) ≡ code_offset + 4
 unfolding written_file bytes_of
 length_is unit = omega (arith, length-append (code_bytes unit.words) unit.bytes, length-code_bytes unit.words)
 
-pub no_header_fault : (unit : Unit) → header_fault (written_file unit) ≡ None
+pub no_header_fault : (unit : Unit) → header_fault 40 (written_file unit) ≡ None
 unfolding written_file bytes_of header_fault
 no_header_fault unit = grind (arith, common_steps)
 

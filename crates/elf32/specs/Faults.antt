@@ -1,5 +1,6 @@
 -- What stands against an ELF file, in the order in which it is looked for. The values are those of the System V gABI: a
--- file of 32 bits (ELFCLASS32), least significant byte first (ELFDATA2LSB), an executable (ET_EXEC), for Arm (EM_ARM).
+-- file of 32 bits (ELFCLASS32), least significant byte first (ELFDATA2LSB), an executable (ET_EXEC), for the processor of a
+-- given number (e_machine).
 use Rattle.std.specs.Prelude.{ℕ, ◌+◌, ◌*◌, ◌%◌, ◌==◌, ◌&&◌, ◌||◌, not, nat_eq, nat_le, nat_lt, max, min, if◌then◌else◌, Bool, false, List, [], ◌∷◌, length, slice_index, Option, Some, None, codes}
 use Rattle.std.specs.List.{list_any, starts_with}
 use Rattle.std.specs.Option.{option_or}
@@ -58,15 +59,15 @@ is_bad_entry file segments =
     not (list_any (has_code_at (entry_address file)) segments)
     || ((entry_field file % 2 == 0) && not (entry_address file % 4 == 0))
 
--- the faults of the file's header
-unfoldable pub header_fault : List ℕ → Option ElfFault
-header_fault file = first_of (
+-- the faults of the file's header, where it is to be for the processor of this number
+unfoldable pub header_fault : ℕ → List ℕ → Option ElfFault
+header_fault number file = first_of (
     (nat_lt (length file) header_size, fault.Short) ∷
     (not (starts_with nat_eq file elf_magic), fault.Magic) ∷
     (not (slice_index file 4 == 1), fault.Class) ∷
     (not (slice_index file 5 == 1), fault.DataOrder) ∷
     (not (file_type file == 2), fault.FileType) ∷
-    (not (machine file == 40), fault.Machine) ∷
+    (not (machine file == number), fault.Machine) ∷
     (has_bad_table file, fault.Headers) ∷
     [])
 
@@ -83,9 +84,13 @@ program_fault room file = first_of (
     (entry_field file % 2 == 1, fault.ThumbEntry) ∷
     [])
 
--- the first fault of a file for a machine of this size
-unfoldable pub first_fault : List ℕ → Numbers → Option ElfFault
-first_fault file size = option_or (header_fault file) (program_fault (room_of size) file)
+-- the first fault of a file for the processor of this number, and for a machine of this size
+unfoldable pub first_fault_as : ℕ → List ℕ → Numbers → Option ElfFault
+first_fault_as number file size = option_or (header_fault number file) (program_fault (room_of size) file)
+
+-- the same for Arm (EM_ARM)
+abbrev pub first_fault : List ℕ → Numbers → Option ElfFault
+first_fault file size = first_fault_as 40 file size
 
 -- a fault's name
 abbrev pub elf_fault_name : ElfFault → List ℕ

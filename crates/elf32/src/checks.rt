@@ -25,10 +25,10 @@ pub(crate) const EXECUTABLE: u16 = 2;
 /// For Arm (EM_ARM).
 pub(crate) const ARM: u16 = 40;
 
-/// The first fault of a file's header.
+/// The first fault of a file's header, where it is to be for the processor of this number.
 #[tactic(auto, unfolding(crate::specs::Faults::header_fault))]
-pub(crate) fn header_fault(bytes: &[u8]) -> Option<ElfFault>
-    ensures fault { result ≡ header_fault bytes.now }
+pub(crate) fn header_fault(number: u32, bytes: &[u8]) -> Option<ElfFault>
+    ensures fault { result ≡ header_fault number bytes.now }
     ensures table { result ≡ None → HasTable bytes.now }
 {
     if bytes.len() < HEADER_SIZE {
@@ -46,7 +46,7 @@ pub(crate) fn header_fault(bytes: &[u8]) -> Option<ElfFault>
     if file_type(bytes) != EXECUTABLE {
         return Some(ElfFault::FileType);
     }
-    if machine(bytes) != ARM {
+    if u32::from(machine(bytes)) != number {
         return Some(ElfFault::Machine);
     }
     if has_bad_table(bytes) {

@@ -23,8 +23,8 @@ pub enum ElfFault {
     /// It is no executable.
     #[error("the file is not an executable")]
     FileType,
-    /// It is not for Arm.
-    #[error("the file is not for Arm")]
+    /// It is not for the processor that is asked for.
+    #[error("the file is for another processor")]
     Machine,
     /// The program headers don't have 32 bytes each, there are none of them or more than 64, or their table reaches past
     /// the file.

@@ -1,9 +1,9 @@
-//! Program files: 32-bit ELF executables for Arm, and programs as an assembler makes them.
+//! Program files: 32-bit ELF executables for Arm or another processor, and programs as an assembler makes them.
 //!
-//! [`load`] makes the image of an ELF file on a machine, or names the first of the file's faults in the order of
-//! [`ElfFault`]; [`write`] makes the ELF file of a [`Unit`]. The format is that of the System V gABI (ELF Header, Program
-//! Header), with the machine number of Arm. What a file's numbers are stands in `specs/Headers`, what stands against it in
-//! `specs/Faults`, and what it makes of memory, byte by byte, in `specs/Image`.
+//! [`load`] makes the image of an ELF file for Arm on a machine, or names the first of the file's faults in the order of
+//! [`ElfFault`]; [`load_as`] does the same for the processor of a given number. [`write`] makes the ELF file of a [`Unit`],
+//! for Arm. The format is that of the System V gABI (ELF Header, Program Header). What a file's numbers are stands in
+//! `specs/Headers`, what stands against it in `specs/Faults`, and what it makes of memory, byte by byte, in `specs/Image`.
 #![tactic(auto)]
 
 mod checks;
@@ -17,6 +17,6 @@ mod units;
 mod writer;
 
 pub use faults::ElfFault;
-pub use loader::load;
+pub use loader::{load, load_as};
 pub use units::{Bytes, Unit, Words};
 pub use writer::write;

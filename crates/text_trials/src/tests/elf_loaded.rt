@@ -1,6 +1,6 @@
 //! An ELF file that is loaded.
 use super::same;
-use elf32::load;
+use elf32::{ElfFault, load, load_as};
 use llsc_base::{Bar, Image, MachineSize, Place, Size, SizeFault};
 use std::alloc::{AllocError, Global};
 use std::test::Fail;
@@ -66,6 +66,22 @@ fn linked(alloc: Global) -> Result<Vec<u8>, AllocError> {
     Ok(file)
 }
 
+/// The same file for RISC-V, with its attributes (PT_RISCV_ATTRIBUTES) in place of the exception table.
+fn linked_for_riscv(alloc: Global) -> Result<Vec<u8>, Fail> {
+    let mut file = linked(alloc)?;
+    *file.get_mut(18).ok_or("there is no machine")? = 243;
+    *file.get_mut(52).ok_or("there is no type")? = 3;
+    Ok(file)
+}
+
+/// Numbers of processors, with the fault of the file for Arm and that of the one for RISC-V.
+const PROCESSORS: [(u32, Option<ElfFault>, Option<ElfFault>); 4] = [
+    (0, Some(ElfFault::Machine), Some(ElfFault::Machine)),
+    (40, None, Some(ElfFault::Machine)),
+    (243, Some(ElfFault::Machine), None),
+    (65_779, Some(ElfFault::Machine), Some(ElfFault::Machine)),
+];
+
 /// Addresses with the words that may be run there.
 const WORDS: [(u32, Option<u32>); 6] = [
     (0x1_0000, Some(0x464c_457f)),
@@ -121,5 +137,28 @@ fn a_linked_file(rt: HostRuntime) -> Result<(), Fail> {
     for &(addr, bar) in &BARS {
         assert!(rt; is_barred(&image, addr, bar), "at {addr}");
     }
+    Ok(())
+}
+
+#[test]
+fn files_for_a_processor(rt: HostRuntime) -> Result<(), Fail> {
+    let arm = linked(rt.alloc())?;
+    let riscv = linked_for_riscv(rt.alloc())?;
+    let size = size()?;
+    for &(number, of_arm, of_riscv) in &PROCESSORS {
+        same(&rt, load_as(rt.alloc(), &arm, &size, number).err(), of_arm);
+        same(
+            &rt,
+            load_as(rt.alloc(), &riscv, &size, number).err(),
+            of_riscv,
+        );
+    }
+    same(
+        &rt,
+        load(rt.alloc(), &riscv, &size).err(),
+        Some(ElfFault::Machine),
+    );
+    let image = load_as(rt.alloc(), &riscv, &size, 243)?;
+    same(&rt, image.entry(), 0x1_00b4);
     Ok(())
 }
