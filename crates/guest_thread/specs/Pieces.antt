@@ -17,6 +17,7 @@ use Rattle.guest_calls.specs.Pairs.{pairs_of}
 use Rattle.guest_calls.specs.Run.{Pair, Point, ReachesBy, EndsOnFrom}
 use Rattle.guest_thread.specs.Counting.{AreCounts, accesses_counted, counts_in}
 use Rattle.guest_thread.specs.Outcome.{IsSpent}
+use Rattle.guest_thread.specs.ThreadState.{ThreadState}
 use Rattle.guest_thread.specs.Under.{CallsToStart}
 use Rattle.guest_thread.specs.declared.counts.Counts.{Counts}
 use Rattle.guest_thread.specs.declared.pieces.Part.{Part}
@@ -33,6 +34,11 @@ counts_by part = record { reads = part.reads; writes = part.writes; fails = part
 -- how far a part has come
 abbrev pub point_of : {P : Type 0} → Part P → Point
 point_of part = record { machine = part.cpu; steps = part.steps; output = part.out }
+
+-- a thread that has come so far, with its pass and its counts
+abbrev pub part_at : {P : Type 0} → ThreadState → P → Counts → Part P
+part_at standing pass counts =
+    record { cpu = standing.cpu; pass = pass; out = standing.output; steps = standing.steps; reads = counts.reads; writes = counts.writes; fails = counts.fails }
 
 -- the end of a thread that has come so far
 abbrev pub ended_at : {P : Type 0} → (thread : ℕ) → Stop → Part P → Finished P

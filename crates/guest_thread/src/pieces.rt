@@ -7,7 +7,7 @@ ghost use Rattle.a32_instr.specs.declared.outside.CallAsk.{CallAsk};
 ghost use Rattle.a32_instr.specs.declared.outside.Stop.{Stop};
 ghost use Rattle.a32_step.specs.Machine.{between, IsCalling};
 ghost use Rattle.a32_step.specs.Phase.{Calling};
-ghost use Rattle.guest_thread.specs.Pieces.{CountFew, IsPiece, counts_by, ended_at};
+ghost use Rattle.guest_thread.specs.Pieces.{CountFew, IsPiece, counts_by, ended_at, part_at};
 
 use crate::counts::Counts;
 use crate::ends::GuestEnd;
@@ -135,13 +135,12 @@ pub fn go_on<M: SharedMemory, R: Wait>(
     let rest = guest.run_on(code, upto, &mut sharing, starts);
     let counts = sharing.counts();
     let pass = sharing.into_pass();
-    let part = part_of(guest, pass, counts);
-    rested(rest, thread, part, upto, budget)
+    rested(rest, thread, guest, pass, counts, upto, budget)
 }
 
 /// A thread as it may go on.
 fn part_of<P>(guest: Guest<Cpu>, pass: P, counts: Counts) -> Part<P>
-    ensures { result ≡ record { cpu = guest.cpu; pass = pass; out = guest.output; steps = guest.steps; reads = counts.reads; writes = counts.writes; fails = counts.fails } }
+    ensures { result ≡ part_at guest pass counts }
 {
     let (cpu, out, steps) = guest.into_parts();
     Part {
@@ -157,39 +156,47 @@ fn part_of<P>(guest: Guest<Cpu>, pass: P, counts: Counts) -> Part<P>
 
 /// Where a thread has come to that was to make so many steps, by how it rests. With all of them made it may go on, where they
 /// aren't its budget.
-fn rested<P>(rest: Rest, thread: u32, part: Part<P>, upto: u64, budget: u64) -> Paused<P>
-    requires { rest ≡ Rest.Starts → IsCalling part.cpu.phase }
-    ensures stopped { (stop : Stop) → rest ≡ Rest.Stopped stop → result ≡ Paused.Ended (ended_at thread stop part) }
-    ensures called { rest ≡ Rest.Starts → (call : CallAsk) × (part.cpu.phase ≡ Calling call) × (result ≡ Paused.Start part call.a call.b) }
-    ensures pauses { rest ≡ Rest.Spent → upto < budget → result ≡ Paused.Pause part }
-    ensures spent { rest ≡ Rest.Spent → budget ≤ upto → result ≡ Paused.Ended (ended_at thread Stop.Budget part) }
+fn rested<P>(
+    rest: Rest,
+    thread: u32,
+    guest: Guest<Cpu>,
+    pass: P,
+    counts: Counts,
+    upto: u64,
+    budget: u64,
+) -> Paused<P>
+    requires { rest ≡ Rest.Starts → IsCalling guest.cpu.phase }
+    ensures stopped { (stop : Stop) → rest ≡ Rest.Stopped stop → result ≡ Paused.Ended (ended_at thread stop (part_at guest pass counts)) }
+    ensures called { rest ≡ Rest.Starts → (call : CallAsk) × (guest.cpu.phase ≡ Calling call) × (result ≡ Paused.Start (part_at guest pass counts) call.a call.b) }
+    ensures pauses { rest ≡ Rest.Spent → upto < budget → result ≡ Paused.Pause (part_at guest pass counts) }
+    ensures spent { rest ≡ Rest.Spent → budget ≤ upto → result ≡ Paused.Ended (ended_at thread Stop.Budget (part_at guest pass counts)) }
 {
     match rest {
-        Rest::Stopped(stop) => Paused::Ended(ended(thread, stop, part)),
-        Rest::Starts => called(part),
+        Rest::Stopped(stop) => Paused::Ended(ended(thread, stop, guest, pass, counts)),
+        Rest::Starts => called(part_of(guest, pass, counts)),
         Rest::Spent => {
             if upto < budget {
-                return Paused::Pause(part);
+                return Paused::Pause(part_of(guest, pass, counts));
             }
-            Paused::Ended(ended(thread, Stop::Budget, part))
+            Paused::Ended(ended(thread, Stop::Budget, guest, pass, counts))
         }
     }
 }
 
 /// A thread that has ended.
-fn ended<P>(thread: u32, stop: Stop, part: Part<P>) -> Finished<P>
-    ensures { result ≡ ended_at thread stop part }
+fn ended<P>(thread: u32, stop: Stop, guest: Guest<Cpu>, pass: P, counts: Counts) -> Finished<P>
+    ensures { result ≡ ended_at thread stop (part_at guest pass counts) }
 {
     Finished {
-        pass: part.pass,
+        pass,
         end: GuestEnd {
             thread,
             stop,
-            steps: part.steps,
-            reads: part.reads,
-            writes: part.writes,
-            fails: part.fails,
-            out: part.out,
+            steps: guest.steps(),
+            reads: counts.reads,
+            writes: counts.writes,
+            fails: counts.fails,
+            out: guest.into_output(),
         },
     }
 }

@@ -1,13 +1,12 @@
-use Rattle.std.proofs.Common.{◌≡◌, ◌≤◌, [], length, sym, subst, arith}
+use Rattle.std.proofs.Common.{◌≡◌, ◌≤◌, [], length, refl, sym, subst, arith}
 use Rattle.history.specs.Started.{MayAct}
 use Rattle.a32_step.specs.Machine.{IsCalling}
 use Rattle.guest_calls.specs.Calls.{most_output}
 use Rattle.guest_calls.specs.Run.{begins}
-use Rattle.guest_thread.specs.Pieces.{IsPiece, point_of}
+use Rattle.guest_thread.specs.Pieces.{IsPiece, part_at, point_of}
 use Rattle.guest_thread.specs.Ports.{RestsBy}
 use Rattle.guest_thread.specs.Sharing.{RefusesAt}
 use Rattle.guest_thread.specs.Under.{HasComeFrom}
-use Rattle.guest_thread.specs.declared.pieces.Part.{Part}
 use Rattle.guest_thread.proofs.Answered.{calling_of, gone_by, rested_at}
 use Rattle.guest_thread.proofs.pieces.go_on.Goals as goal
 
@@ -27,7 +26,7 @@ rested-requires g c = λ is.
     let stood = c.run_on-rest.new.self in
     let comes = subst (λ how. RestsBy c.args.starts (RefusesAt c.run_on-rest.new.port) program upto (point_of c.args.part) ran.0 how stood) is ran.1.1 in
     let calling = calling_of c.args.starts program upto (point_of c.args.part) ran.0 stood comes in
-    subst (λ (p : Part _). IsCalling p.cpu.phase) (sym c.part_of-part.ensures) (subst IsCalling (sym calling) tt)
+    subst IsCalling (sym calling) tt
 
 pub returns-clause-piece : goal.returns-clause-piece
 returns-clause-piece g c =
@@ -54,7 +53,7 @@ returns-clause-piece g c =
     let made = c.rested.ensures in
     let piece = rested_at g.M.SharedMemory.home g.M.SharedMemory.numbers g.M.SharedMemory.seen id origin program starts c.args.upto c.args.budget own_t part
     last ran.0 may_act c.requires.between short c.requires.upto.1 c.run_on-rest.new.self pass c.counts-counts-2.result gone c.counts-counts-2.ensures
-    c.run_on-rest.result c.part_of-part.result c.rested.result c.part_of-part.ensures made.stopped made.called made.pauses made.spent
+    c.run_on-rest.result (part_at c.run_on-rest.new.self pass c.counts-counts-2.result) c.rested.result refl made.stopped made.called made.pauses made.spent
     c.run_on-rest.ensures.starts c.run_on-rest.ensures.within c.run_on-rest.ensures.counted c.run_on-rest.ensures.bounded.replies ran.1.1 in
     subst (λ u. IsPiece g.M.SharedMemory.home g.M.SharedMemory.numbers g.M.SharedMemory.seen id origin program starts c.args.upto c.args.budget u part c.rested.result)
     (sym (c.thread-thread.ensures.only t single.has)) piece
