@@ -57,7 +57,7 @@ ended_later program origin budget old new t end front same is = record {
   few = is.few;
 }
 
-all_later : (program : Program) (origin : Origin) (budget : ℕ) (old new : List Entry) (numbers : ℕ → Bool) (ts : List ℕ) (ends : List GuestEnd)
+pub all_later : (program : Program) (origin : Origin) (budget : ℕ) (old new : List Entry) (numbers : ℕ → Bool) (ts : List ℕ) (ends : List GuestEnd)
     → IsFront old new → SaysAllOf numbers old new → AreTaken numbers ts → AreEndsOf program origin budget old ts ends → AreEndsOf program origin budget new ts ends
 all_later program origin budget old new numbers [] [] front says taken are = tt
 all_later program origin budget old new numbers [] (end ∷ ends) front says taken are = absurd are
@@ -69,7 +69,7 @@ all_later program origin budget old new numbers (t ∷ ts) (end ∷ ends) front 
 
 -- ---- one thread more
 
-one_more : (program : Program) (origin : Origin) (budget : ℕ) (history : List Entry) (t : ℕ) (end : GuestEnd) (ts : List ℕ) (ends : List GuestEnd)
+pub one_more : (program : Program) (origin : Origin) (budget : ℕ) (history : List Entry) (t : ℕ) (end : GuestEnd) (ts : List ℕ) (ends : List GuestEnd)
     → AreEndsOf program origin budget history ts ends → IsEndOf program origin budget history t end
     → AreEndsOf program origin budget history (ts ++ t ∷ []) (ends ++ end ∷ [])
 one_more program origin budget history t end [] [] are is = (is, tt)
@@ -85,7 +85,7 @@ or_right : (a b : Bool) → b ≡ true → (a || b) ≡ true
 or_right true b is = refl
 or_right false b is = is
 
-taken_more : (old other new : ℕ → Bool) (t : ℕ) (ts : List ℕ) → new ≡ joint old other → AreTaken old ts → IsOneOf t other → AreTaken new (ts ++ t ∷ [])
+pub taken_more : (old other new : ℕ → Bool) (t : ℕ) (ts : List ℕ) → new ≡ joint old other → AreTaken old ts → IsOneOf t other → AreTaken new (ts ++ t ∷ [])
 taken_more old other new t [] is taken last =
     All-cons (λ u. IsOneOf u new) t [] (ap (λ f. f t) is ∙ or_right (old t) (other t) last) (All-nil (λ u. IsOneOf u new))
 taken_more old other new t (u ∷ ts) is taken last =

@@ -64,7 +64,7 @@ module _ {P : Type 0} (home : P → TableId) (numbers : P → ℕ → Bool) (see
       → IsFresh home numbers seen mem origin program job → AreFresh home numbers seen mem origin program new
   fresh_pushed jobs new job pushed all is = subst (AreFresh home numbers seen mem origin program) (sym pushed) (fresh_more jobs job all is)
 
-range_more : (n count : ℕ) → range_with_len n count ++ (n + count) ∷ [] ≡ range_with_len n (suc count)
+pub range_more : (n count : ℕ) → range_with_len n count ++ (n + count) ∷ [] ≡ range_with_len n (suc count)
 range_more n zero = ap (λ k. k ∷ []) (omega arith)
 range_more n (suc count) =
     let number : n + suc count ≡ n + 1 + count = omega arith in

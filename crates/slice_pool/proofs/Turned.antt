@@ -1,0 +1,111 @@
+-- One slice of a guest.
+use Rattle.std.proofs.Common.{◌≡◌, ℕ, suc, ◌+◌, ◌++◌, ◌-◌, ◌*◌, ◌<◌, ◌≤◌, Bool, false, List, ap, arith, refl, subst, sym, ◌∙◌, suc-mul}
+use Rattle.atomic_table.specs.Seated.{TableId}
+use Rattle.llsc_base.specs.Images.{Program}
+use Rattle.llsc_base.specs.Limits.{most_budget}
+use Rattle.history.specs.declared.entry.Entry.{Entry}
+use Rattle.shared_memory.specs.Origin.{Origin}
+use Rattle.shared_memory.specs.Seen.{IsSingle}
+use Rattle.guest_calls.specs.Pairs.{pairs_of}
+use Rattle.guest_calls.specs.Run.{EndsOn, Reaches, first_point}
+use Rattle.guest_thread.specs.Counting.{AreCounts, counts_in}
+use Rattle.guest_thread.specs.Crews.{IsEndOf}
+use Rattle.guest_thread.specs.Outcome.{IsEndOn}
+use Rattle.guest_thread.specs.Pieces.{IsPiece}
+use Rattle.guest_thread.specs.Start.{thread_start}
+use Rattle.guest_thread.specs.declared.pieces.Part.{Part}
+use Rattle.guest_thread.specs.declared.pieces.Paused.TheVariants.{Ended, Pause}
+use Rattle.guest_thread.specs.declared.running.Finished.{Finished}
+use Rattle.a32_step.specs.Machine.{a32}
+use Rattle.a32_step.proofs.Tested.{next_room}
+use Rattle.guest_thread.proofs.FewAccesses.{few_counted, few_in_history}
+use Rattle.slice_pool.specs.Hands.{key_of}
+use Rattle.slice_pool.specs.Over.{AreTurnsOf, IsGoneFrom, IsUpto}
+use Rattle.slice_pool.specs.Rule.{IsUnderWay}
+use Rattle.slice_pool.specs.declared.queue.Waiting.{Waiting}
+use Rattle.slice_pool.specs.declared.views.Key.{Key}
+
+-- one slice more
+one_turn : (slice turns : ℕ) → (turns + 1) * slice ≡ turns * slice + slice
+one_turn slice turns = let more : turns + 1 ≡ suc turns = omega arith in ap (λ n. n * slice) more ∙ (let s = suc-mul turns slice in omega (arith, s))
+
+-- the slices of one that has ended within its last
+turns_to : (slice turns steps last : ℕ) → steps ≡ turns * slice → steps ≤ last → last ≤ steps + slice → AreTurnsOf slice (turns + 1) last
+turns_to slice turns steps last were least most = record {
+  some_turn = omega arith;
+  least =
+      let one : turns + 1 - 1 ≡ turns = omega arith in
+      let e : (turns + 1 - 1) * slice ≡ turns * slice = ap (λ n. n * slice) one in
+      omega (arith, e, were, least);
+  most = let o = one_turn slice turns in omega (arith, o, were, most);
+}
+
+module _ {P : Type 0} (home : P → TableId) (numbers : P → ℕ → Bool) (seen : P → List Entry) (mem : TableId) (origin : Origin) (program : Program) (slice budget : ℕ) where
+  abbrev key : Key
+  key = key_of mem program origin.size slice budget
+
+  -- it pauses
+  pub paused : (x : Waiting P) (upto : ℕ) (part : Part P) → IsUpto slice budget x.part.steps upto → IsUnderWay home numbers seen key x
+      → IsPiece home numbers seen mem origin program false upto budget x.thread x.part (Pause part)
+      → IsUnderWay home numbers seen key (record { part = part; thread = x.thread; turns = x.turns + 1 })
+  paused x upto part to was goes =
+      let start = thread_start program origin.size origin.size.threads x.thread in
+      let comes : Reaches program budget start (pairs_of x.thread (seen x.part.pass) ++ goes.pairs) part.cpu part.steps part.out =
+      goes.comes (first_point start) (pairs_of x.thread (seen x.part.pass)) was.reached in
+      let steps : part.steps ≡ x.part.steps + slice = goes.stands.steps ∙ to.whole goes.stands.within in
+      record {
+        memory = goes.memory;
+        single = goes.single;
+        known = was.known;
+        between = goes.stands.between;
+        reached = subst (λ pairs. Reaches program budget start pairs part.cpu part.steps part.out) (sym goes.added) comes;
+        counts = goes.counts was.counts;
+        few = goes.stands.few;
+        turns = steps ∙ ap (λ n. n + slice) was.turns ∙ sym (one_turn slice x.turns);
+        within = let s = goes.stands.steps in let w = goes.stands.within in omega (arith, s, w);
+      }
+
+  -- how it ended, by what its pass has seen
+  ended_on : (x : Waiting P) (upto : ℕ) (done : Finished P) → IsUnderWay home numbers seen key x
+      → IsPiece home numbers seen mem origin program false upto budget x.thread x.part (Ended done)
+      → IsEndOn program origin.size budget (thread_start program origin.size origin.size.threads x.thread) (seen done.pass) done.end
+  ended_on x upto done was goes =
+      let start = thread_start program origin.size origin.size.threads x.thread in
+      let comes : EndsOn program budget start (pairs_of x.thread (seen x.part.pass) ++ goes.pairs) done.end.stop done.end.steps done.end.out =
+      goes.comes (first_point start) (pairs_of x.thread (seen x.part.pass)) was.reached in
+      let thread : x.thread ≡ done.end.thread = sym goes.stands.thread in
+      record {
+        ends = subst (λ u. EndsOn program budget start (pairs_of u (seen done.pass)) done.end.stop done.end.steps done.end.out) thread
+            (subst (λ pairs. EndsOn program budget start pairs done.end.stop done.end.steps done.end.out) (sym goes.added) comes);
+        spent = goes.stands.spent;
+        counts = subst (λ u. AreCounts u (seen done.pass) (counts_in done.end)) thread (goes.counts was.counts);
+      }
+
+  ended_as : (x : Waiting P) (upto : ℕ) (done : Finished P) → origin.first ≡ origin.size.threads → budget ≤ most_budget → IsUnderWay home numbers seen key x
+      → IsPiece home numbers seen mem origin program false upto budget x.thread x.part (Ended done)
+      → IsEndOf program origin budget (seen done.pass) x.thread done.end
+  ended_as x upto done begin small was goes =
+      let start = thread_start program origin.size origin.size.threads x.thread in
+      let on = ended_on x upto done was goes in
+      record {
+        thread = goes.stands.thread;
+        end_on = subst (λ n. IsEndOn program origin.size budget (thread_start program origin.size n x.thread) (seen done.pass) done.end) (sym begin) on;
+        spends = goes.stands.spends;
+        few = few_counted a32 program origin.size budget start (seen done.pass) done.end small on (few_in_history a32 next_room program origin.size budget start (seen done.pass) done.end refl on);
+      }
+
+  -- it ends
+  pub ended : (x : Waiting P) (upto : ℕ) (done : Finished P) → origin.first ≡ origin.size.threads → budget ≤ most_budget → IsUpto slice budget x.part.steps upto
+      → IsUnderWay home numbers seen key x → IsPiece home numbers seen mem origin program false upto budget x.thread x.part (Ended done)
+      → IsGoneFrom home numbers seen origin key x.thread (record { pass = done.pass; end = done.end; turns = x.turns + 1 })
+  ended x upto done begin small to was goes =
+      let t : x.thread ≡ done.end.thread = sym goes.stands.thread in (
+        record {
+          memory = goes.memory;
+          single = subst (λ u. IsSingle u (numbers done.pass)) t goes.single;
+          known = subst (λ u. u < origin.size.threads) t was.known;
+          end = subst (λ u. IsEndOf program origin budget (seen done.pass) u done.end) t (ended_as x upto done begin small was goes);
+          turns = turns_to slice x.turns x.part.steps done.end.steps was.turns goes.stands.least (let m = goes.stands.most in let u = to.most in omega (arith, m, u));
+        },
+        goes.stands.thread,
+      )
