@@ -3,7 +3,7 @@ use Rattle.std.specs.Prelude.{◌≡◌, true, Some, codes}
 use Rattle.clap.specs.Words.{App, Rule, Text, is_simple_and_free, new_app, new_rule, with_rule}
 use Rattle.clap.specs.declared.builder.ArgAction.TheVariants.{SetTrue}
 use Rattle.llsc_words.specs.declared.names.CommandName.{CommandName}
-use Rattle.llsc_words.specs.declared.names.CommandName.TheVariants.{Solo, Run, Asm, Dis, Trace, Check, Load}
+use Rattle.llsc_words.specs.declared.names.CommandName.TheVariants.{Solo, Run, Pool, Asm, Dis, Trace, Check, Load}
 
 -- `--NAME VALUE` or `--NAME=VALUE`, once at most
 abbrev pub option_rule : Text → Rule
@@ -54,6 +54,12 @@ run_app =
     with_rule (with_rule (with_rule (with_rule (machine_app (codes "run")) (option_rule (codes "classes"))) (option_rule (codes "limit")))
     (option_rule (codes "budget"))) (option_rule (codes "spare"))
 
+-- `pool` has FILE, `--flat`, `--threads`, `--mem`, `--granule`, `--classes`, `--limit`, `--budget`, `--workers` and `--slice`
+unfoldable pub pool_app : App
+pool_app =
+    with_rule (with_rule (with_rule (with_rule (with_rule (machine_app (codes "pool")) (option_rule (codes "classes"))) (option_rule (codes "limit")))
+    (option_rule (codes "budget"))) (option_rule (codes "workers"))) (option_rule (codes "slice"))
+
 -- `trace` has FILE, `--flat`, `--threads`, `--mem`, `--granule`, `--seed` and `--budget`
 unfoldable pub trace_app : App
 trace_app = with_rule (with_rule (machine_app (codes "trace")) (option_rule (codes "seed"))) (option_rule (codes "budget"))
@@ -73,6 +79,7 @@ load_app =
 abbrev pub app_by : CommandName → App
 app_by Solo = solo_app
 app_by Run = run_app
+app_by Pool = pool_app
 app_by Asm = asm_app
 app_by Dis = dis_app
 app_by Trace = trace_app

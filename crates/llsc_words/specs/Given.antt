@@ -17,6 +17,8 @@ pub record Given : Type 0 where
   pub granule : Option Text
   pub classes : Option Text
   pub limit : Option Text
+  pub workers : Option Text
+  pub slice : Option Text
   pub seed : Option Text
   pub rounds : Option Text
   pub budget : Option Text
@@ -38,6 +40,8 @@ given_by rows = record {
   granule = first_of (codes "granule") rows;
   classes = first_of (codes "classes") rows;
   limit = first_of (codes "limit") rows;
+  workers = first_of (codes "workers") rows;
+  slice = first_of (codes "slice") rows;
   seed = first_of (codes "seed") rows;
   rounds = first_of (codes "rounds") rows;
   budget = first_of (codes "budget") rows;
@@ -65,6 +69,8 @@ seen read = record {
   granule = option_map (λ text. text.now) read.granule;
   classes = option_map (λ text. text.now) read.classes;
   limit = option_map (λ text. text.now) read.limit;
+  workers = option_map (λ text. text.now) read.workers;
+  slice = option_map (λ text. text.now) read.slice;
   seed = option_map (λ text. text.now) read.seed;
   rounds = option_map (λ text. text.now) read.rounds;
   budget = option_map (λ text. text.now) read.budget;

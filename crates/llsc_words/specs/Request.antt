@@ -17,14 +17,15 @@ use Rattle.llsc_words.specs.Given.{Given, given_in}
 use Rattle.llsc_words.specs.Names.{command_named}
 
 -- what a call asks for: to run the file of that name, of that format, as one thread, with so many bytes of memory and so many
--- steps; to run it as so many threads of a machine beside each other, each of which may start so many more; to assemble the
--- text of that name as a file of that format; to show a file as text, in so many bytes of memory; to run a file as so many
+-- steps; to run it as so many threads of a machine beside each other, each of which may start so many more; to run it as all
+-- threads of a machine on so many workers, so many steps of each at a time; to assemble the text of that name as a file of that format; to show a file as text, in so many bytes of memory; to run a file as so many
 -- guest threads on one host thread, with rows of a granule and in the order that a seed fixes, and to record that; to check
 -- such a record, the second file, against a program; or to run the counter guest of a seed, as so many threads of so many
 -- rounds each, with so many steps for each
 pub data Request : Type 0 where
   Solo : (file : List ℕ) (format : Format) (mem budget : ℕ) → Request
   Run : (file : List ℕ) (format : Format) (first spare : ℕ) (size : Numbers) (budget : ℕ) → Request
+  Pool : (file : List ℕ) (format : Format) (size : Numbers) (workers slice budget : ℕ) → Request
   Assemble : (file : List ℕ) (format : Format) → Request
   Disassemble : (file : List ℕ) (format : Format) (mem : ℕ) → Request
   Trace : (file : List ℕ) (format : Format) (threads mem granule seed budget : ℕ) → Request
@@ -35,6 +36,7 @@ pub data Request : Type 0 where
 abbrev pub files_of : Request → List (List ℕ)
 files_of (Solo file format mem budget) = file ∷ []
 files_of (Run file format first spare size budget) = file ∷ []
+files_of (Pool file format size workers slice budget) = file ∷ []
 files_of (Assemble file format) = file ∷ []
 files_of (Disassemble file format mem) = file ∷ []
 files_of (Trace file format threads mem granule seed budget) = file ∷ []
@@ -64,6 +66,13 @@ run_classes = 4096
 
 abbrev pub run_limit : ℕ
 run_limit = 2 ^ 62
+
+-- the workers, and the steps that a guest runs at a time, where none are given for a pool; its other numbers are those of a run
+abbrev pub pool_workers : ℕ
+pool_workers = 2
+
+abbrev pub pool_slice : ℕ
+pool_slice = 1000
 
 -- the threads, the granule, the seed and the steps of a thread where none are given for a trace
 abbrev pub trace_threads : ℕ
@@ -106,11 +115,23 @@ in_range (Some budget) = if is_budget budget then Some budget else None
 abbrev pub budget_or : ℕ → Option (List ℕ) → Option ℕ
 budget_or default text = in_range (number_or default text)
 
+-- a pool has 1 to 4 workers
+abbrev pub is_workers : ℕ → Bool
+is_workers workers = nat_le 1 workers && nat_le workers 4
+
+abbrev pub some_workers : Option ℕ → Option ℕ
+some_workers None = None
+some_workers (Some workers) = if is_workers workers then Some workers else None
+
+abbrev pub workers_or : ℕ → Option (List ℕ) → Option ℕ
+workers_or default text = some_workers (number_or default text)
+
 -- the format of the file
 abbrev pub format_of : Given → Format
 format_of given = if given.flat then Flat else Elf
 
--- Each command asks for nothing where one of its numbers is none, or its budget is out of its range.
+-- Each command asks for nothing where one of its numbers is none, or its budget is out of its range; nor does a pool whose workers
+-- are out of theirs, or whose slice is out of the range of a budget.
 
 abbrev pub solo_by : Option (List ℕ) → Format → Option ℕ → Option ℕ → Option Request
 solo_by (Some file) format (Some mem) (Some budget) = Some (Solo file format mem budget)
@@ -129,6 +150,17 @@ abbrev pub run_for : Given → Option Request
 run_for given =
     run_by given.file (format_of given) (number_or run_threads given.threads) (number_or run_spare given.spare) (number_or default_mem given.mem)
     (number_or run_granule given.granule) (number_or run_classes given.classes) (number_or run_limit given.limit)
+    (budget_or default_budget given.budget)
+
+abbrev pub pool_by : Option (List ℕ) → Format → (threads mem granule classes limit workers slice budget : Option ℕ) → Option Request
+pool_by (Some file) format (Some threads) (Some mem) (Some granule) (Some classes) (Some limit) (Some workers) (Some slice) (Some budget) =
+    Some (Pool file format (record (numbers mem threads classes limit) { granule = granule }) workers slice budget)
+pool_by _ _ _ _ _ _ _ _ _ _ = None
+
+abbrev pub pool_for : Given → Option Request
+pool_for given =
+    pool_by given.file (format_of given) (number_or run_threads given.threads) (number_or default_mem given.mem) (number_or run_granule given.granule)
+    (number_or run_classes given.classes) (number_or run_limit given.limit) (workers_or pool_workers given.workers) (budget_or pool_slice given.slice)
     (budget_or default_budget given.budget)
 
 abbrev pub assemble_by : Option (List ℕ) → Format → Option Request
@@ -174,6 +206,7 @@ load_for given =
 abbrev pub request_by : CommandName → Given → Option Request
 request_by name.Solo given = solo_for given
 request_by name.Run given = run_for given
+request_by name.Pool given = pool_for given
 request_by name.Asm given = assemble_for given
 request_by name.Dis given = disassemble_for given
 request_by name.Trace given = trace_for given
@@ -201,16 +234,19 @@ size_of_run n = record (machine_by n.machine) { threads = n.machine.threads * (1
 abbrev pub asked : Call → Request
 asked (call.Solo file format mem budget) = Solo file.now format mem budget
 asked (call.Run file format n) = Run file.now format n.machine.threads n.spare (size_of_run n) n.budget
+asked (call.Pool file format n) = Pool file.now format (machine_by n.machine) n.workers n.slice n.budget
 asked (call.Assemble file format) = Assemble file.now format
 asked (call.Disassemble file format mem) = Disassemble file.now format mem
 asked (call.Trace file format numbers) = Trace file.now format numbers.threads numbers.mem numbers.granule numbers.seed numbers.budget
 asked (call.Check file recorded format mem) = Check file.now recorded.now format mem
 asked (call.Load n) = Load n.seed n.threads n.rounds n.budget
 
--- a request's budget, where it has one, is in its range
+-- a request's budget, where it has one, is in its range, and so are the workers and the slice of a pool
 abbrev pub HasBudget : Call → Type 0
 HasBudget (call.Solo file format mem budget) = (1 ≤ budget) × (budget ≤ most_budget)
 HasBudget (call.Run file format numbers) = (1 ≤ numbers.budget) × (numbers.budget ≤ most_budget)
+HasBudget (call.Pool file format numbers) =
+    ((1 ≤ numbers.budget) × (numbers.budget ≤ most_budget)) × (1 ≤ numbers.slice) × ((1 ≤ numbers.workers) × (numbers.workers ≤ 4))
 HasBudget (call.Trace file format numbers) = (1 ≤ numbers.budget) × (numbers.budget ≤ most_budget)
 HasBudget (call.Load numbers) = (1 ≤ numbers.budget) × (numbers.budget ≤ most_budget)
 HasBudget _ = Unit {0}

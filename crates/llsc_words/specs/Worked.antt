@@ -31,13 +31,13 @@ fault_in text = fault_of_run (asked_in text)
 -- each command, with all that has to be there
 abbrev pub commands : List (List ℕ)
 commands =
-    codes "solo p" ∷ codes "run p" ∷ codes "asm p" ∷ codes "dis p" ∷ codes "trace p" ∷ codes "check p r" ∷ codes "load 7" ∷ []
+    codes "solo p" ∷ codes "run p" ∷ codes "pool p" ∷ codes "asm p" ∷ codes "dis p" ∷ codes "trace p" ∷ codes "check p r" ∷ codes "load 7" ∷ []
 
 -- the names of all options
 abbrev pub option_names : List (List ℕ)
 option_names =
-    codes "flat" ∷ codes "threads" ∷ codes "spare" ∷ codes "mem" ∷ codes "granule" ∷ codes "classes" ∷ codes "limit" ∷ codes "seed" ∷ codes "rounds"
-    ∷ codes "budget" ∷ []
+    codes "flat" ∷ codes "threads" ∷ codes "spare" ∷ codes "mem" ∷ codes "granule" ∷ codes "classes" ∷ codes "limit" ∷ codes "workers"
+    ∷ codes "slice" ∷ codes "seed" ∷ codes "rounds" ∷ codes "budget" ∷ []
 
 -- an option by itself, and with a value behind it or joined to it
 abbrev pub bare : List ℕ → List ℕ

@@ -2,17 +2,20 @@
 ghost use Rattle.std.specs.Prelude.{◌≡◌, IfSome};
 ghost use Rattle.std.specs.Option.{option_map};
 ghost use Rattle.llsc_words.specs.Given.{seen};
-ghost use Rattle.llsc_words.specs.Request.{asked, assemble_for, check_for, disassemble_for, format_of, load_for, request_by, run_for, solo_for, trace_for, HasBudget};
+ghost use Rattle.llsc_words.specs.Request.{asked, assemble_for, check_for, disassemble_for, format_of, load_for, pool_for, request_by, run_for, solo_for, trace_for, HasBudget};
 
 use crate::defaults::{
-    DEFAULT_BUDGET, DEFAULT_MEM, LOAD_ROUNDS, LOAD_THREADS, RUN_CLASSES, RUN_GRANULE, RUN_LIMIT,
-    RUN_SPARE, RUN_THREADS, TRACE_BUDGET, TRACE_GRANULE, TRACE_SEED, TRACE_THREADS,
+    DEFAULT_BUDGET, DEFAULT_MEM, LOAD_ROUNDS, LOAD_THREADS, POOL_SLICE, POOL_WORKERS, RUN_CLASSES,
+    RUN_GRANULE, RUN_LIMIT, RUN_SPARE, RUN_THREADS, TRACE_BUDGET, TRACE_GRANULE, TRACE_SEED,
+    TRACE_THREADS,
 };
 use crate::formats::Format;
 use crate::given::Given;
 use crate::names::CommandName;
-use crate::numbers::{budget_or, number_in, number_or};
-use crate::requests::{LoadNumbers, MachineNumbers, Request, RunNumbers, TraceNumbers};
+use crate::numbers::{budget_or, number_in, number_or, workers_or};
+use crate::requests::{
+    LoadNumbers, MachineNumbers, PoolNumbers, Request, RunNumbers, TraceNumbers,
+};
 
 impl Given<'_> {
     /// The format of the file.
@@ -56,6 +59,29 @@ fn run<'a>(given: &Given<'a>) -> Option<Request<'a>>
                 limit: number_or(RUN_LIMIT, given.limit)?,
             },
             spare: number_or(RUN_SPARE, given.spare)?,
+            budget: budget_or(DEFAULT_BUDGET, given.budget)?,
+        },
+    })
+}
+
+/// What `pool` asks for.
+fn pool<'a>(given: &Given<'a>) -> Option<Request<'a>>
+    ensures request { option_map asked result ≡ pool_for (seen given.now) }
+    ensures budget { IfSome result HasBudget }
+{
+    Some(Request::Pool {
+        file: given.file?,
+        format: given.format(),
+        numbers: PoolNumbers {
+            machine: MachineNumbers {
+                threads: number_or(RUN_THREADS, given.threads)?,
+                mem: number_or(DEFAULT_MEM, given.mem)?,
+                granule: number_or(RUN_GRANULE, given.granule)?,
+                classes: number_or(RUN_CLASSES, given.classes)?,
+                limit: number_or(RUN_LIMIT, given.limit)?,
+            },
+            workers: workers_or(POOL_WORKERS, given.workers)?,
+            slice: budget_or(POOL_SLICE, given.slice)?,
             budget: budget_or(DEFAULT_BUDGET, given.budget)?,
         },
     })
@@ -138,6 +164,7 @@ pub fn request_by<'a>(name: CommandName, given: &Given<'a>) -> Option<Request<'a
     match name {
         CommandName::Solo => solo(given),
         CommandName::Run => run(given),
+        CommandName::Pool => pool(given),
         CommandName::Asm => assemble(given),
         CommandName::Dis => disassemble(given),
         CommandName::Trace => trace(given),

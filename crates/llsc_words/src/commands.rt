@@ -1,7 +1,7 @@
 //! The commands, each with its options and files.
 ghost use Rattle.std.specs.Prelude.{◌≡◌, IfOk, codes};
 ghost use Rattle.clap.specs.Words.{app_of, with_rule};
-ghost use Rattle.llsc_words.specs.Commands.{app_by, asm_app, check_app, dis_app, file, flat, load_app, machine_app, option_rule, plain_app, positional_rule, program_app, run_app, solo_app, trace_app};
+ghost use Rattle.llsc_words.specs.Commands.{app_by, asm_app, check_app, dis_app, file, flat, load_app, machine_app, option_rule, plain_app, pool_app, positional_rule, program_app, run_app, solo_app, trace_app};
 
 use crate::arguments::{flag, option, plain, positional};
 use crate::names::CommandName;
@@ -97,6 +97,15 @@ fn run<'a>(alloc: Global) -> Result<Command<'a>, AllocError>
     with_option(alloc, command, "spare")
 }
 
+/// `pool`: runs all threads on few workers.
+#[tactic(auto, unfolding(crate::specs::Commands::pool_app))]
+fn pool<'a>(alloc: Global) -> Result<Command<'a>, AllocError>
+    ensures { IfOk result (λ command. app_of command ≡ pool_app) }
+{
+    let command = with_three_options(alloc, machine(alloc, "pool")?, "classes", "limit", "budget")?;
+    with_two_options(alloc, command, "workers", "slice")
+}
+
 /// `trace`: records a run of all threads.
 #[tactic(auto, unfolding(crate::specs::Commands::trace_app))]
 fn trace<'a>(alloc: Global) -> Result<Command<'a>, AllocError>
@@ -139,6 +148,7 @@ pub fn command_by<'a>(alloc: Global, name: CommandName) -> Result<Command<'a>, A
     match name {
         CommandName::Solo => solo(alloc),
         CommandName::Run => run(alloc),
+        CommandName::Pool => pool(alloc),
         CommandName::Asm => asm(alloc),
         CommandName::Dis => dis(alloc),
         CommandName::Trace => trace(alloc),

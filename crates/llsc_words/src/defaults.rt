@@ -21,6 +21,12 @@ pub const RUN_CLASSES: u64 = 4096;
 /// The most writes of a class of a run.
 pub const RUN_LIMIT: u64 = 1 << 62;
 
+/// The workers of a pool.
+pub const POOL_WORKERS: u64 = 2;
+
+/// The steps that a guest of a pool runs at a time.
+pub const POOL_SLICE: u64 = 1000;
+
 /// The threads of a trace.
 pub const TRACE_THREADS: u64 = 2;
 

@@ -32,6 +32,10 @@ pub struct Given<'a> {
     pub classes: Option<&'a str>,
     /// `--limit`: the most writes of a class.
     pub limit: Option<&'a str>,
+    /// `--workers`: the workers of a pool.
+    pub workers: Option<&'a str>,
+    /// `--slice`: the steps that a guest of a pool runs at a time.
+    pub slice: Option<&'a str>,
     /// `--seed`: the number that fixes the order of the threads' turns.
     pub seed: Option<&'a str>,
     /// `--rounds`: the rounds of each thread of a load.
@@ -73,6 +77,8 @@ fn read<'a>(matches: &ArgMatches<'a>) -> Given<'a>
         granule: value(matches, "granule"),
         classes: value(matches, "classes"),
         limit: value(matches, "limit"),
+        workers: value(matches, "workers"),
+        slice: value(matches, "slice"),
         seed: value(matches, "seed"),
         rounds: value(matches, "rounds"),
         budget: value(matches, "budget"),

@@ -22,5 +22,5 @@ pub mod worked_refusals;
 
 pub use defaults::{DEFAULT_MEM, RUN_CLASSES, RUN_LIMIT};
 pub use formats::Format;
-pub use requests::{LoadNumbers, MachineNumbers, Request, RunNumbers, TraceNumbers};
+pub use requests::{LoadNumbers, MachineNumbers, PoolNumbers, Request, RunNumbers, TraceNumbers};
 pub use words::parse;

@@ -7,6 +7,7 @@ ghost use Rattle.llsc_words.specs.Names.{command_named};
 pub enum CommandName {
     Solo,
     Run,
+    Pool,
     Asm,
     Dis,
     Trace,
@@ -21,6 +22,7 @@ pub fn command_named(word: &str) -> Option<CommandName>
     match word {
         "solo" => Some(CommandName::Solo),
         "run" => Some(CommandName::Run),
+        "pool" => Some(CommandName::Pool),
         "asm" => Some(CommandName::Asm),
         "dis" => Some(CommandName::Dis),
         "trace" => Some(CommandName::Trace),

@@ -2,10 +2,13 @@
 ghost use Rattle.std.specs.Prelude.{◌≡◌, ◌≤◌, IfSome};
 ghost use Rattle.std.specs.Option.{option_map};
 ghost use Rattle.llsc_base.specs.Limits.{most_budget};
-ghost use Rattle.llsc_words.specs.Request.{budget_or, is_budget, number_in, number_or};
+ghost use Rattle.llsc_words.specs.Request.{budget_or, is_budget, is_workers, number_in, number_or, workers_or};
 
 use llsc_base::MOST_STEPS;
 use number_text::plain_number;
+
+/// The most workers of a pool.
+const MOST_WORKERS: u64 = 4;
 
 /// The number that a value is, `None` where it is none or isn't given.
 pub fn number_in(value: Option<&str>) -> Option<u64>
@@ -41,4 +44,23 @@ pub fn budget_or(default: u64, value: Option<&str>) -> Option<u64>
         return None;
     }
     Some(budget)
+}
+
+/// Whether a pool may have so many workers.
+fn is_workers(workers: u64) -> bool
+    ensures { result ≡ is_workers workers }
+{
+    1 <= workers && workers <= MOST_WORKERS
+}
+
+/// The workers that an option's value gives a pool, `None` where it is no number of workers that one may have.
+pub fn workers_or(default: u64, value: Option<&str>) -> Option<u64>
+    ensures number { result ≡ workers_or default (option_map (λ text. text.now) value.entry) }
+    ensures range { IfSome result (λ workers. (1 ≤ workers) × (workers ≤ 4)) }
+{
+    let workers = number_or(default, value)?;
+    if !is_workers(workers) {
+        return None;
+    }
+    Some(workers)
 }

@@ -54,6 +54,19 @@ impl RunNumbers {
     }
 }
 
+/// The numbers of a pool.
+#[derive(Clone, Copy)]
+pub struct PoolNumbers {
+    /// The machine, all of whose threads begin by themselves.
+    pub machine: MachineNumbers,
+    /// The workers, from 1 to 4.
+    pub workers: u64,
+    /// The steps that a guest runs at a time, at least 1.
+    pub slice: u64,
+    /// The most steps of a thread.
+    pub budget: u64,
+}
+
 /// The numbers of a trace.
 #[derive(Clone, Copy)]
 pub struct TraceNumbers {
@@ -99,6 +112,12 @@ pub enum Request<'a> {
         file: &'a str,
         format: Format,
         numbers: RunNumbers,
+    },
+    /// To run the file of that name, of that format, as several threads on few workers, by these numbers.
+    Pool {
+        file: &'a str,
+        format: Format,
+        numbers: PoolNumbers,
     },
     /// To assemble the text of that name as a file of that format.
     Assemble {

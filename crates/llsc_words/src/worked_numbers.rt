@@ -44,6 +44,10 @@ pub fn budgets()
     ensures run_least { is_some (asked_in (codes "run p --budget 1")) ≡ true }
     ensures run_greatest { is_some (asked_in (codes "run p --budget 1000000000000")) ≡ true }
     ensures run_above { asked_in (codes "run p --budget 1000000000001") ≡ None }
+    ensures pool_below { asked_in (codes "pool p --budget 0") ≡ None }
+    ensures pool_least { is_some (asked_in (codes "pool p --budget 1")) ≡ true }
+    ensures pool_greatest { is_some (asked_in (codes "pool p --budget 1000000000000")) ≡ true }
+    ensures pool_above { asked_in (codes "pool p --budget 1000000000001") ≡ None }
     ensures trace_below { asked_in (codes "trace p --budget 0") ≡ None }
     ensures trace_least { asked_in (codes "trace p --budget 1") ≡ Some (Trace (codes "p") Format.Elf 2 1048576 0 0 1) }
     ensures trace_greatest { asked_in (codes "trace p --budget 1000000000000") ≡ Some (Trace (codes "p") Format.Elf 2 1048576 0 0 1000000000000) }
@@ -52,6 +56,19 @@ pub fn budgets()
     ensures load_least { asked_in (codes "load 7 --budget 1") ≡ Some (Load 7 2 1000 1) }
     ensures load_greatest { asked_in (codes "load 7 --budget 1000000000000") ≡ Some (Load 7 2 1000 1000000000000) }
     ensures load_above { asked_in (codes "load 7 --budget 1000000000001") ≡ None }
+{}
+
+/// A pool has 1 to 4 workers, and a slice 1 to 1,000,000,000,000 steps.
+#[tactic(auto, unfolding(crate::proofs::OnLiterals::words_on_literals))]
+pub fn workers_and_slices()
+    ensures no_worker { asked_in (codes "pool p --workers 0") ≡ None }
+    ensures one_worker { is_some (asked_in (codes "pool p --workers 1")) ≡ true }
+    ensures most_workers { is_some (asked_in (codes "pool p --workers 4")) ≡ true }
+    ensures too_many_workers { asked_in (codes "pool p --workers 5") ≡ None }
+    ensures no_step { asked_in (codes "pool p --slice 0") ≡ None }
+    ensures one_step { is_some (asked_in (codes "pool p --slice 1")) ≡ true }
+    ensures most_steps { is_some (asked_in (codes "pool p --slice 1000000000000")) ≡ true }
+    ensures too_many_steps { asked_in (codes "pool p --slice 1000000000001") ≡ None }
 {}
 
 /// Memory has 65,536 to 16,777,216 bytes, in pages of 4096.

@@ -8,6 +8,8 @@ pub fn options_with_a_value()
     ensures solo { taken (with_value (codes "1")) (codes "solo p") ≡ codes "mem" ∷ codes "budget" ∷ [] }
     ensures run { taken (with_value (codes "1")) (codes "run p")
         ≡ codes "threads" ∷ codes "spare" ∷ codes "mem" ∷ codes "granule" ∷ codes "classes" ∷ codes "limit" ∷ codes "budget" ∷ [] }
+    ensures pool { taken (with_value (codes "1")) (codes "pool p")
+        ≡ codes "threads" ∷ codes "mem" ∷ codes "granule" ∷ codes "classes" ∷ codes "limit" ∷ codes "workers" ∷ codes "slice" ∷ codes "budget" ∷ [] }
     ensures assemble { taken (with_value (codes "1")) (codes "asm p") ≡ [] }
     ensures disassemble { taken (with_value (codes "1")) (codes "dis p") ≡ codes "mem" ∷ [] }
     ensures trace { taken (with_value (codes "1")) (codes "trace p")
@@ -22,6 +24,8 @@ pub fn options_with_a_value_joined_to_them()
     ensures solo { taken (joined_to (codes "1")) (codes "solo p") ≡ codes "mem" ∷ codes "budget" ∷ [] }
     ensures run { taken (joined_to (codes "1")) (codes "run p")
         ≡ codes "threads" ∷ codes "spare" ∷ codes "mem" ∷ codes "granule" ∷ codes "classes" ∷ codes "limit" ∷ codes "budget" ∷ [] }
+    ensures pool { taken (joined_to (codes "1")) (codes "pool p")
+        ≡ codes "threads" ∷ codes "mem" ∷ codes "granule" ∷ codes "classes" ∷ codes "limit" ∷ codes "workers" ∷ codes "slice" ∷ codes "budget" ∷ [] }
     ensures assemble { taken (joined_to (codes "1")) (codes "asm p") ≡ [] }
     ensures disassemble { taken (joined_to (codes "1")) (codes "dis p") ≡ codes "mem" ∷ [] }
     ensures trace { taken (joined_to (codes "1")) (codes "trace p")
@@ -35,6 +39,7 @@ pub fn options_with_a_value_joined_to_them()
 pub fn options_with_no_value()
     ensures solo { taken bare (codes "solo p") ≡ codes "flat" ∷ [] }
     ensures run { taken bare (codes "run p") ≡ codes "flat" ∷ [] }
+    ensures pool { taken bare (codes "pool p") ≡ codes "flat" ∷ [] }
     ensures assemble { taken bare (codes "asm p") ≡ codes "flat" ∷ [] }
     ensures disassemble { taken bare (codes "dis p") ≡ codes "flat" ∷ [] }
     ensures trace { taken bare (codes "trace p") ≡ codes "flat" ∷ [] }

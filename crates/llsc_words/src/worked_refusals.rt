@@ -23,6 +23,8 @@ pub fn files_too_few_or_too_many()
     ensures solo_of_two { asked_in (codes "solo p q") ≡ None }
     ensures run_of_none { asked_in (codes "run") ≡ None }
     ensures run_of_two { asked_in (codes "run p --flat q") ≡ None }
+    ensures pool_of_none { asked_in (codes "pool --workers 1") ≡ None }
+    ensures pool_of_two { asked_in (codes "pool p q") ≡ None }
     ensures assemble_none { asked_in (codes "asm") ≡ None }
     ensures assemble_two { asked_in (codes "asm p q") ≡ None }
     ensures disassemble_none { asked_in (codes "dis") ≡ None }
@@ -43,6 +45,7 @@ pub fn calls_for_help()
     ensures option { asked_in (codes "--help") ≡ None }
     ensures solo { asked_in (codes "solo p --help") ≡ None }
     ensures run { asked_in (codes "run p --help") ≡ None }
+    ensures pool { asked_in (codes "pool p --help") ≡ None }
     ensures assemble { asked_in (codes "asm p --help") ≡ None }
     ensures disassemble { asked_in (codes "dis p --help") ≡ None }
     ensures trace { asked_in (codes "trace p --help") ≡ None }
