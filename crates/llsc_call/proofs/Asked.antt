@@ -2,7 +2,7 @@
 use Rattle.std.proofs.Common.{◌≡◌, ◌≢◌, ℕ, inl, inr, List, [], ◌∷◌, Option, Some, None, refl}
 use Rattle.std.proofs.lemmas.List.Elements.{recursion_from_All}
 use Rattle.llsc_host.specs.Host.{AreBytes}
-use Rattle.llsc_words.specs.Request.{Request, Solo, Run, Assemble, Disassemble, Trace, Check, Load, files_of}
+use Rattle.llsc_words.specs.Request.{Request, Solo, Run, Pool, Assemble, Disassemble, Trace, Check, Load, files_of}
 use Rattle.llsc_call.specs.Answer.{AreFiles, AreTold, IsDue, IsNoneOf}
 
 -- files that are told
@@ -30,6 +30,7 @@ not_first name other names none is = (recursion_from_All (λ x. name ≢ x) (oth
 pub due_named : (held : List ℕ → Option (List ℕ)) (asked : Request) (name : List ℕ) → IsNoneOf (files_of asked) name → IsDue held asked name → ⊥
 due_named held (Solo file format mem budget) name none due = not_first name file [] none due.0
 due_named held (Run file format first spare size budget) name none due = not_first name file [] none due.0
+due_named held (Pool file format size workers slice budget) name none due = not_first name file [] none due.0
 due_named held (Assemble file format) name none due = not_first name file [] none due
 due_named held (Disassemble file format mem) name none due = not_first name file [] none due.0
 due_named held (Trace file format threads mem granule seed budget) name none due = not_first name file [] none due.0

@@ -12,7 +12,7 @@ use Rattle.llsc_host.specs.Said.{refusal_text}
 use Rattle.llsc_host.specs.Writes.{KeepsReads, KeepsWrites}
 use Rattle.llsc_host.proofs.Kept.{reads_kept, writes_kept}
 use Rattle.llsc_words.specs.declared.formats.Format.{Format}
-use Rattle.llsc_words.specs.Request.{Request, Solo, Run, Assemble, Disassemble, Trace, Check, Load, files_of}
+use Rattle.llsc_words.specs.Request.{Request, Solo, Run, Pool, Assemble, Disassemble, Trace, Check, Load, files_of}
 use Rattle.llsc_files.specs.Programs.{image_of, program_refusal}
 use Rattle.llsc_files.specs.Reads.{Had, IsHad, MayBeLong, Reads}
 use Rattle.llsc_files.specs.Refusals.{Answer, Is, machine_of, most_program, size_refusal, solo_size, too_long, unless}
@@ -43,6 +43,7 @@ are_held (Some file) = refl
 abbrev stands : Request → List ℕ → Option (List ℕ)
 stands (Solo name format mem budget) file = program_refusal format (solo_size mem) file
 stands (Run name format first spare size budget) file = program_refusal format size file
+stands (Pool name format size workers slice budget) file = program_refusal format size file
 stands (Assemble name format) file = text_refusal file
 stands (Disassemble name format mem) file = program_refusal format (solo_size mem) file
 stands (Trace name format threads mem granule seed budget) file = program_refusal format (machine_of threads mem granule) file
@@ -68,6 +69,8 @@ refused_first held (Solo name format mem budget) file against may is =
     (file ∷ [], ((may, tt), (refl, unless_refused (IsReported (image_of format file (solo_size mem)) (solo_size mem) budget) (program_refusal format (solo_size mem) file) against is)))
 refused_first held (Run name format first spare size budget) file against may is =
     (file ∷ [], ((may, tt), run_is_refused (program_refusal format size file) (ReportsRun None (image_of format file size) size first spare budget) against is))
+refused_first held (Pool name format size workers slice budget) file against may is =
+    (file ∷ [], ((may, tt), run_is_refused (program_refusal format size file) (ReportsRun None (image_of format file size) size size.threads 0 budget) against is))
 refused_first held (Assemble name format) file against may is =
     (file ∷ [], ((may, tt), (refl, is_refused (text_refusal file) (text_answer format (unit_of file)) against is)))
 refused_first held (Disassemble name format mem) file against may is =
@@ -97,6 +100,9 @@ refused_barred held (Solo name format mem budget) against is =
 refused_barred held (Run name format first spare size budget) against is =
     let file = held_bytes (held name) in
     refused_first held (Run name format first spare size budget) file against (are_held (held name)) (unsized format size file against is)
+refused_barred held (Pool name format size workers slice budget) against is =
+    let file = held_bytes (held name) in
+    refused_first held (Pool name format size workers slice budget) file against (are_held (held name)) (unsized format size file against is)
 refused_barred held (Disassemble name format mem) against is =
     let file = held_bytes (held name) in
     refused_first held (Disassemble name format mem) file against (are_held (held name)) (unsized format (solo_size mem) file against is)
@@ -154,6 +160,10 @@ first_unread host old new (Run name format first spare size budget) f none read 
     let asked : Request = Run name format first spare size budget in
     one_unread host old new asked name most_program f (refl, none)
     (λ may. refused_first (host.file old) asked may.0 (codes "FileTooLong") may.1.0 (long format size may.0 none may.1.1)) read
+first_unread host old new (Pool name format size workers slice budget) f none read =
+    let asked : Request = Pool name format size workers slice budget in
+    one_unread host old new asked name most_program f (refl, none)
+    (λ may. refused_first (host.file old) asked may.0 (codes "FileTooLong") may.1.0 (long format size may.0 none may.1.1)) read
 first_unread host old new (Assemble name format) f none read =
     let asked : Request = Assemble name format in
     one_unread host old new asked name most_text f refl
@@ -187,6 +197,7 @@ pub second_unread : {S : Type 0} (host : Ghosts S) (old mid new : S) (asked : Re
     → ReadWanted host old mid (first_file asked) (Ok file) → ReadWanted host mid new (second_file asked) (Err f) → ReadFiles host old new asked (Err f)
 second_unread host old mid new (Solo name format mem budget) file f first second = absurd second
 second_unread host old mid new (Run name format heads spare size budget) file f first second = absurd second
+second_unread host old mid new (Pool name format size workers slice budget) file f first second = absurd second
 second_unread host old mid new (Assemble name format) file f first second = absurd second
 second_unread host old mid new (Disassemble name format mem) file f first second = absurd second
 second_unread host old mid new (Trace name format threads mem granule seed budget) file f first second = absurd second
@@ -201,6 +212,8 @@ pub all_had : {S : Type 0} (host : Ghosts S) (old mid new : S) (asked : Request)
 all_had host old mid new (Solo name format mem budget) files first second =
     record { had = (reads_kept host old mid new first.had.0 second.0, ((first.had.1.1, tt), (first.had.1.0, tt))); writes = writes_kept host old mid new first.writes second.1 }
 all_had host old mid new (Run name format heads spare size budget) files first second =
+    record { had = (reads_kept host old mid new first.had.0 second.0, ((first.had.1.1, tt), (first.had.1.0, tt))); writes = writes_kept host old mid new first.writes second.1 }
+all_had host old mid new (Pool name format size workers slice budget) files first second =
     record { had = (reads_kept host old mid new first.had.0 second.0, ((first.had.1.1, tt), (first.had.1.0, tt))); writes = writes_kept host old mid new first.writes second.1 }
 all_had host old mid new (Assemble name format) files first second =
     record { had = (reads_kept host old mid new first.had.0 second.0, ((first.had.1.1, tt), (first.had.1.0, tt))); writes = writes_kept host old mid new first.writes second.1 }

@@ -27,7 +27,7 @@ use Rattle.llsc_texts.specs.Disassembly.{dis_answer}
 use Rattle.llsc_report.specs.Status.{status_of, status_of_all}
 use Rattle.llsc_call.specs.Trace.{IsRecorded, Traces}
 use Rattle.llsc_call.specs.Check.{files_refusal, verdict_status, verdict_text, IsJudged, JudgesRead}
-use Rattle.llsc_words.specs.Request.{Request, Solo, Run, Assemble, Disassemble, Trace, Check, Load}
+use Rattle.llsc_words.specs.Request.{Request, Solo, Run, Pool, Assemble, Disassemble, Trace, Check, Load}
 use Rattle.llsc_call.specs.Answer.{Answers, IsReported}
 
 -- answers have one status and one text
@@ -124,6 +124,8 @@ answers_one (Solo name format mem budget) (file ∷ []) story =
     untold_one (unless_one (IsReported (image_of format file size) size budget) (program_refusal format size file) (report_one (image_of format file size) size budget))
 answers_one (Run name format first spare size budget) (file ∷ []) story =
     unless_run_one (program_refusal format size file) story (ReportsRun story (image_of format file size) size first spare budget) (run_one (image_of format file size) size first spare budget story)
+answers_one (Pool name format size workers slice budget) (file ∷ []) story =
+    unless_run_one (program_refusal format size file) story (ReportsRun story (image_of format file size) size size.threads 0 budget) (run_one (image_of format file size) size size.threads 0 budget story)
 answers_one (Assemble name format) (file ∷ []) story = untold_one (is_one (asm_answer format file))
 answers_one (Disassemble name format mem) (file ∷ []) story = untold_one (is_one (dis_answer format mem file))
 answers_one (Trace name format threads mem granule seed budget) (file ∷ []) story =
@@ -138,6 +140,8 @@ answers_one (Solo name format mem budget) [] story = λ status other text more a
 answers_one (Solo name format mem budget) (first ∷ second ∷ rest) story = λ status other text more a b. absurd a
 answers_one (Run name format first spare size budget) [] story = λ status other text more a b. absurd a
 answers_one (Run name format first spare size budget) (one ∷ two ∷ rest) story = λ status other text more a b. absurd a
+answers_one (Pool name format size workers slice budget) [] story = λ status other text more a b. absurd a
+answers_one (Pool name format size workers slice budget) (one ∷ two ∷ rest) story = λ status other text more a b. absurd a
 answers_one (Assemble name format) [] story = λ status other text more a b. absurd a
 answers_one (Assemble name format) (first ∷ second ∷ rest) story = λ status other text more a b. absurd a
 answers_one (Disassemble name format mem) [] story = λ status other text more a b. absurd a

@@ -8,7 +8,7 @@ use Rattle.guest_machine.specs.Alone.{IsSoloEnd}
 use Rattle.llsc_words.specs.declared.formats.Format.{Format}
 use Rattle.llsc_report.specs.Report.{report_of}
 use Rattle.llsc_host.specs.Host.{Rose, AreBytes, AddsFront}
-use Rattle.llsc_words.specs.Request.{Request, Solo, Run, Assemble, Disassemble, Trace, Check, Load, files_of}
+use Rattle.llsc_words.specs.Request.{Request, Solo, Run, Pool, Assemble, Disassemble, Trace, Check, Load, files_of}
 use Rattle.llsc_texts.specs.Assembly.{AnswersAsm}
 use Rattle.llsc_texts.specs.Disassembly.{AnswersDis}
 use Rattle.llsc_call.specs.Run.{AnswersRun}
@@ -36,6 +36,7 @@ AnswersSolo format mem budget file status text =
 abbrev pub Answers : Request → List (List ℕ) → Option (List Entry) → ℕ → List ℕ → Type 0
 Answers (Solo name format mem budget) (file ∷ []) story status text = (story ≡ None) × AnswersSolo format mem budget file status text
 Answers (Run name format first spare size budget) (file ∷ []) story status text = AnswersRun format first spare size budget file story status text
+Answers (Pool name format size workers slice budget) (file ∷ []) story status text = AnswersRun format size.threads 0 size budget file story status text
 Answers (Assemble name format) (file ∷ []) story status text = (story ≡ None) × AnswersAsm format file status text
 Answers (Disassemble name format mem) (file ∷ []) story status text = (story ≡ None) × AnswersDis format mem file status text
 Answers (Trace name format threads mem granule seed budget) (file ∷ []) story status text = (story ≡ None) × AnswersTrace format threads mem granule seed budget file status text
@@ -63,6 +64,7 @@ IsNoneOf names name = All (λ other. name ≢ other) names
 abbrev pub IsDue : (List ℕ → Option (List ℕ)) → Request → List ℕ → Type 0
 IsDue held (Solo file format mem budget) name = (name ≡ file) × (size_refusal (solo_size mem) ≡ None)
 IsDue held (Run file format first spare size budget) name = (name ≡ file) × (size_refusal size ≡ None)
+IsDue held (Pool file format size workers slice budget) name = (name ≡ file) × (size_refusal size ≡ None)
 IsDue held (Assemble file format) name = name ≡ file
 IsDue held (Disassemble file format mem) name = (name ≡ file) × (size_refusal (solo_size mem) ≡ None)
 IsDue held (Trace file format threads mem granule seed budget) name = (name ≡ file) × (size_refusal (machine_of threads mem granule) ≡ None)

@@ -1,4 +1,4 @@
--- What `run` answers for the bytes of a file, and with which history.
+-- What `run` answers for the bytes of a file, and with which history; and so does `pool`, whose threads start no others.
 use Rattle.std.specs.Prelude.{◌≡◌, ℕ, List, Option, Some, None}
 use Rattle.std.specs.Option.{option_map}
 use Rattle.llsc_base.specs.Images.{Program}

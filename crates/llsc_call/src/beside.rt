@@ -9,6 +9,7 @@ use guest_machine::{prepare, run_all};
 use guest_thread::{GuestEnd, Ran};
 use llsc_base::{Image, MachineSize};
 use shared_memory::{Rows, SharedMemory, StartMemory};
+use slice_pool::{Pooled, pool_crew, run_pool};
 use std::alloc::{AllocError, Global};
 use std::sync::Wait;
 use std::thread::Threads;
@@ -74,6 +75,70 @@ pub fn run_beside<R: Threads + Wait + Sync>(
 {
     let (memory, pass) = VersionMemory::new(alloc, image, size)?;
     run_over(rt, alloc, memory, pass, image, budget)
+}
+
+/// Runs an image's threads, which start no others, on few workers, a slice of steps at a time, on a memory that counts the writes of a
+/// class, and on which a store-exclusive loses to nothing but writes, with the pass of all of them, and closes it.
+fn pool_over<M: SharedMemory, R: Threads + Wait + Sync>(
+    rt: &R,
+    alloc: Global,
+    memory: M,
+    pass: M::Pass,
+    image: &Image,
+    workers: u32,
+    slice: u64,
+    budget: u64,
+) -> Result<Finished<M::Story>, AllocError>
+    requires made { M.home pass ≡ M.id memory }
+    requires all { (t : ℕ) → M.numbers pass t ≡ nat_lt t (M.origin memory).size.threads }
+    requires none { M.seen pass ≡ [] }
+    requires first { (M.origin memory).first ≡ (M.origin memory).size.threads }
+    requires spare { (M.origin memory).spare ≡ 0 }
+    requires bytes { (M.origin memory).bytes ≡ image.now.bytes }
+    requires spends { (M.origin memory).spends ≡ true }
+    requires steady { (M.origin memory).steady ≡ true }
+    requires whole { length image.now.bytes ≡ (M.origin memory).size.mem }
+    requires workers { (1 ≤ workers) × (workers ≤ 4) }
+    requires slice { 1 ≤ slice }
+    requires budget { budget ≤ most_budget }
+    ensures { IfOk result (λ done. HasRun image.now (M.origin memory).size budget (M.history done.story) done.ends.items done.rows) }
+{
+    let pool = pool_crew(alloc, &memory, image, pass, workers)?;
+    let threads = memory.size().threads();
+    prove!(threads <= 16);
+    let Pooled {
+        pass,
+        ends,
+        turns: _,
+    } = run_pool(rt, &memory, image, pool, slice, budget);
+    let (rows, story) = memory.close(pass);
+    Ok(Finished { ends, rows, story })
+}
+
+/// Runs an image's threads on a machine, each up to its stop, on one to four workers beside each other: a worker runs a slice of one
+/// thread's steps, which is at least one, before it goes on to the next thread that waits. All memory that this takes is taken before
+/// the first of them begins.
+///
+/// # Errors
+///
+/// `AllocError` is want of memory.
+pub fn run_pool_beside<R: Threads + Wait + Sync>(
+    rt: &R,
+    alloc: Global,
+    size: &MachineSize,
+    image: &Image,
+    workers: u32,
+    slice: u64,
+    budget: u64,
+) -> Result<Finished<VersionStory>, AllocError>
+    requires whole { length image.now.bytes ≡ size.now.mem }
+    requires workers { (1 ≤ workers) × (workers ≤ 4) }
+    requires slice { 1 ≤ slice }
+    requires budget { budget ≤ most_budget }
+    ensures { IfOk result (λ done. HasRun image.now size.now budget (story_history done.story) done.ends.items done.rows) }
+{
+    let (memory, pass) = VersionMemory::new(alloc, image, size)?;
+    pool_over(rt, alloc, memory, pass, image, workers, slice, budget)
 }
 
 /// Runs an image's threads, and those that they start, on a memory that counts the writes of a class, and on which a

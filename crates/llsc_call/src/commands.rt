@@ -11,6 +11,7 @@ mod asm;
 mod check;
 mod dis;
 mod load;
+mod pool;
 mod run;
 mod solo;
 mod trace;
@@ -33,6 +34,7 @@ fn machine_named(request: Request<'_>) -> Option<MachineNumbers>
             Some(numbers_of(1, mem, LEAST_GRANULE))
         }
         Request::Run { numbers, .. } => Some(numbers.whole_machine()),
+        Request::Pool { numbers, .. } => Some(numbers.machine),
         Request::Trace { numbers, .. } => {
             Some(numbers_of(numbers.threads, numbers.mem, numbers.granule))
         }
@@ -82,6 +84,11 @@ pub fn answer<R: Threads + Wait + Sync>(
             numbers,
             ..
         } => run::answer(rt, alloc, format, numbers, first),
+        Request::Pool {
+            format,
+            numbers,
+            ..
+        } => pool::answer(rt, alloc, format, numbers, first),
         Request::Assemble { format, .. } => Answer::from(asm::outcome(alloc, format, first)),
         Request::Disassemble { format, mem, .. } => {
             Answer::from(dis::outcome(alloc, format, mem, first))

@@ -37,6 +37,7 @@ fn first_file(request: Request<'_>) -> Option<Wanted<'_>>
     match request {
         Request::Solo { file, .. }
         | Request::Run { file, .. }
+        | Request::Pool { file, .. }
         | Request::Disassemble { file, .. }
         | Request::Trace { file, .. }
         | Request::Check { file, .. } => Some(Wanted {

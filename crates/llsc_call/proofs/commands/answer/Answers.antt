@@ -60,3 +60,6 @@ returns-in-Check g c =
 
 pub returns-in-Run : goal.returns-in-Run
 returns-in-Run g c = rw c.in-Run.is c.answer.ensures
+
+pub returns-in-Pool : goal.returns-in-Pool
+returns-in-Pool g c = rw c.in-Pool.is (c.answer-in-Pool).ensures
