@@ -6,6 +6,7 @@ mod families;
 mod guests;
 mod output;
 mod pieces;
+mod pools;
 mod ports;
 mod programs;
 mod record_texts;
