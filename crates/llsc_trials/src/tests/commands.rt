@@ -5,6 +5,7 @@ use super::*;
 const CALLS: &[(&str, &str)] = &[
     ("solo --flat leave", LEFT),
     ("run --flat --threads 1 leave", LEFT),
+    ("pool --flat --threads 1 leave", LEFT),
     ("asm --flat text", "abcd"),
     (
         "dis --flat leave",
