@@ -140,27 +140,39 @@ solo_by _ _ _ _ = None
 abbrev pub solo_for : Given → Option Request
 solo_for given = solo_by given.file (format_of given) (number_or default_mem given.mem) (budget_or default_budget given.budget)
 
+-- the machine of these numbers
+abbrev pub machine_by : MachineNumbers → Numbers
+machine_by n = record (numbers n.mem n.threads n.classes n.limit) { granule = n.granule }
+
+-- the machine that a run or a pool asks for, with the threads that begin by themselves
+abbrev pub machine_of : (threads mem granule classes limit : Option ℕ) → Option MachineNumbers
+machine_of (Some threads) (Some mem) (Some granule) (Some classes) (Some limit) =
+    Some (record { threads = threads; mem = mem; granule = granule; classes = classes; limit = limit })
+machine_of _ _ _ _ _ = None
+
+abbrev pub machine_for : Given → Option MachineNumbers
+machine_for given =
+    machine_of (number_or run_threads given.threads) (number_or default_mem given.mem) (number_or run_granule given.granule)
+    (number_or run_classes given.classes) (number_or run_limit given.limit)
+
 -- the threads of a run's machine are those that begin by themselves and those that each of them may start, whatever number that is
-abbrev pub run_by : Option (List ℕ) → Format → (threads spare mem granule classes limit budget : Option ℕ) → Option Request
-run_by (Some file) format (Some threads) (Some spare) (Some mem) (Some granule) (Some classes) (Some limit) (Some budget) =
-    Some (Run file format threads spare (record (numbers mem (threads * (1 + spare)) classes limit) { granule = granule }) budget)
-run_by _ _ _ _ _ _ _ _ _ = None
+abbrev pub run_by : Option (List ℕ) → Format → Option MachineNumbers → (spare budget : Option ℕ) → Option Request
+run_by (Some file) format (Some machine) (Some spare) (Some budget) =
+    Some (Run file format machine.threads spare (record (machine_by machine) { threads = machine.threads * (1 + spare) }) budget)
+run_by _ _ _ _ _ = None
 
 abbrev pub run_for : Given → Option Request
 run_for given =
-    run_by given.file (format_of given) (number_or run_threads given.threads) (number_or run_spare given.spare) (number_or default_mem given.mem)
-    (number_or run_granule given.granule) (number_or run_classes given.classes) (number_or run_limit given.limit)
-    (budget_or default_budget given.budget)
+    run_by given.file (format_of given) (machine_for given) (number_or run_spare given.spare) (budget_or default_budget given.budget)
 
-abbrev pub pool_by : Option (List ℕ) → Format → (threads mem granule classes limit workers slice budget : Option ℕ) → Option Request
-pool_by (Some file) format (Some threads) (Some mem) (Some granule) (Some classes) (Some limit) (Some workers) (Some slice) (Some budget) =
-    Some (Pool file format (record (numbers mem threads classes limit) { granule = granule }) workers slice budget)
-pool_by _ _ _ _ _ _ _ _ _ _ = None
+abbrev pub pool_by : Option (List ℕ) → Format → Option MachineNumbers → (workers slice budget : Option ℕ) → Option Request
+pool_by (Some file) format (Some machine) (Some workers) (Some slice) (Some budget) =
+    Some (Pool file format (machine_by machine) workers slice budget)
+pool_by _ _ _ _ _ _ = None
 
 abbrev pub pool_for : Given → Option Request
 pool_for given =
-    pool_by given.file (format_of given) (number_or run_threads given.threads) (number_or default_mem given.mem) (number_or run_granule given.granule)
-    (number_or run_classes given.classes) (number_or run_limit given.limit) (workers_or pool_workers given.workers) (budget_or pool_slice given.slice)
+    pool_by given.file (format_of given) (machine_for given) (workers_or pool_workers given.workers) (budget_or pool_slice given.slice)
     (budget_or default_budget given.budget)
 
 abbrev pub assemble_by : Option (List ℕ) → Format → Option Request
@@ -221,10 +233,6 @@ request_in command words = option_and_then (request_by command) (given_in (app_b
 abbrev pub request_of : List (List ℕ) → Option Request
 request_of [] = None
 request_of (word ∷ words) = option_and_then (λ command. request_in command words) (command_named word)
-
--- the machine of these numbers
-abbrev pub machine_by : MachineNumbers → Numbers
-machine_by n = record (numbers n.mem n.threads n.classes n.limit) { granule = n.granule }
 
 -- the machine of a run, with all threads that it may have
 abbrev pub size_of_run : RunNumbers → Numbers

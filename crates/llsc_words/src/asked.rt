@@ -2,7 +2,7 @@
 ghost use Rattle.std.specs.Prelude.{◌≡◌, IfSome};
 ghost use Rattle.std.specs.Option.{option_map};
 ghost use Rattle.llsc_words.specs.Given.{seen};
-ghost use Rattle.llsc_words.specs.Request.{asked, assemble_for, check_for, disassemble_for, format_of, load_for, pool_for, request_by, run_for, solo_for, trace_for, HasBudget};
+ghost use Rattle.llsc_words.specs.Request.{asked, assemble_for, check_for, disassemble_for, format_of, load_for, machine_for, pool_for, request_by, run_for, solo_for, trace_for, HasBudget};
 
 use crate::defaults::{
     DEFAULT_BUDGET, DEFAULT_MEM, LOAD_ROUNDS, LOAD_THREADS, POOL_SLICE, POOL_WORKERS, RUN_CLASSES,
@@ -42,6 +42,19 @@ fn solo<'a>(given: &Given<'a>) -> Option<Request<'a>>
     })
 }
 
+/// The machine that `run` or `pool` asks for, with the threads that begin by themselves.
+fn machine(given: &Given) -> Option<MachineNumbers>
+    ensures { result ≡ machine_for (seen given.now) }
+{
+    Some(MachineNumbers {
+        threads: number_or(RUN_THREADS, given.threads)?,
+        mem: number_or(DEFAULT_MEM, given.mem)?,
+        granule: number_or(RUN_GRANULE, given.granule)?,
+        classes: number_or(RUN_CLASSES, given.classes)?,
+        limit: number_or(RUN_LIMIT, given.limit)?,
+    })
+}
+
 /// What `run` asks for.
 fn run<'a>(given: &Given<'a>) -> Option<Request<'a>>
     ensures request { option_map asked result ≡ run_for (seen given.now) }
@@ -51,13 +64,7 @@ fn run<'a>(given: &Given<'a>) -> Option<Request<'a>>
         file: given.file?,
         format: given.format(),
         numbers: RunNumbers {
-            machine: MachineNumbers {
-                threads: number_or(RUN_THREADS, given.threads)?,
-                mem: number_or(DEFAULT_MEM, given.mem)?,
-                granule: number_or(RUN_GRANULE, given.granule)?,
-                classes: number_or(RUN_CLASSES, given.classes)?,
-                limit: number_or(RUN_LIMIT, given.limit)?,
-            },
+            machine: machine(given)?,
             spare: number_or(RUN_SPARE, given.spare)?,
             budget: budget_or(DEFAULT_BUDGET, given.budget)?,
         },
@@ -73,13 +80,7 @@ fn pool<'a>(given: &Given<'a>) -> Option<Request<'a>>
         file: given.file?,
         format: given.format(),
         numbers: PoolNumbers {
-            machine: MachineNumbers {
-                threads: number_or(RUN_THREADS, given.threads)?,
-                mem: number_or(DEFAULT_MEM, given.mem)?,
-                granule: number_or(RUN_GRANULE, given.granule)?,
-                classes: number_or(RUN_CLASSES, given.classes)?,
-                limit: number_or(RUN_LIMIT, given.limit)?,
-            },
+            machine: machine(given)?,
             workers: workers_or(POOL_WORKERS, given.workers)?,
             slice: budget_or(POOL_SLICE, given.slice)?,
             budget: budget_or(DEFAULT_BUDGET, given.budget)?,
