@@ -15,7 +15,7 @@ use Rattle.a32_step.specs.Phase.{Phase}
 use Rattle.a32_step.specs.Phase as phase
 use Rattle.a32_step.specs.Ports.{Leads, goes, refused, stays}
 use Rattle.a32_step.specs.Acting.{IsGiven, begins, none_made, one_more, StandsAt, IsActed}
-use Rattle.a32_step.specs.Passages.{Comes, starts, replied, EndsAt, IsCarriedOn, in_hand, passage_of}
+use Rattle.a32_step.specs.Passages.{Comes, ComesOf, IsCarriedOnOf, starts, replied, EndsAt, IsCarriedOn, in_hand, passage_of}
 use Rattle.a32_step.specs.declared.phases.Progress.{Progress}
 use Rattle.a32_step.specs.declared.phases.Progress.TheVariants as progress
 use Rattle.a32_step.specs.Progress.{progress_of}

@@ -23,10 +23,11 @@ pub record MachineOf (I S : Type 0) : Type 0 where
   pub phase : PhaseOf I
   pub replies : List ℕ
 
--- An instruction set: the instruction at a state's PC, or the stop where there is none; what an instruction does first,
--- and what it does with its replies so far; the state after a guest call with its answer; and the call of the table of
--- guest calls that a call of this set is.
+-- An instruction set: the state in which thread t of n starts at an entry with a stack pointer; the instruction at a state's PC,
+-- or the stop where there is none; what an instruction does first, and what it does with its replies so far; the state after a
+-- guest call with its answer; and the call of the table of guest calls that a call of this set is.
 pub record InstructionSet (I S : Type 0) : Type 0 where
+  pub start : (entry t n sp : ℕ) → S
   pub found : Program → S → Result I Stop
   pub begins : I → Program → S → EffectOf S
   pub acts : I → Program → List ℕ → S → EffectOf S
@@ -118,9 +119,19 @@ instr_of_word pc (Some word) = decoded pc (meaning table word)
 abbrev pub instr_at : Program → ℕ → Result Instr Stop
 instr_at program pc = instr_of_word pc (word_at program pc)
 
+-- The start of thread t of n: r0 has t, r1 has n, r13 has the top of the stack, every other register is 0 and every
+-- flag is clear.
+abbrev pub state_at_start : (entry t n sp : ℕ) → State
+state_at_start entry t n sp = record {
+  regs = t ∷ n ∷ 0 ∷ 0 ∷ 0 ∷ 0 ∷ 0 ∷ 0 ∷ 0 ∷ 0 ∷ 0 ∷ 0 ∷ 0 ∷ sp ∷ 0 ∷ [];
+  flags = record { n = false; z = false; c = false; v = false };
+  pc = entry;
+}
+
 -- the A32 instructions
 abbrev pub a32 : InstructionSet Instr State
 a32 = record {
+  start = state_at_start;
   found = λ program state. instr_at program state.pc;
   begins = λ instr program state. effect_of instr program [] state;
   acts = acts;
@@ -241,11 +252,9 @@ Follows old (wanted.Call call) new = IsCalling new.phase
 Follows old wanted.Done new = new ≡ between new.state
 Follows old (wanted.Stopped stop) new = Unit {0}
 
--- The start of thread t of n: r0 has t, r1 has n, r13 has the top of the stack, every other register is 0 and every
--- flag is clear.
+-- the machine of a set's thread t of n at its start
+abbrev pub start_in : {I S : Type 0} → InstructionSet I S → ℕ → ℕ → ℕ → ℕ → MachineOf I S
+start_in set entry t n sp = between (set.start entry t n sp)
+
 abbrev pub start_of : ℕ → ℕ → ℕ → ℕ → Machine
-start_of entry t n sp = between (record {
-  regs = t ∷ n ∷ 0 ∷ 0 ∷ 0 ∷ 0 ∷ 0 ∷ 0 ∷ 0 ∷ 0 ∷ 0 ∷ 0 ∷ 0 ∷ sp ∷ 0 ∷ [];
-  flags = record { n = false; z = false; c = false; v = false };
-  pc = entry;
-})
+start_of = start_in a32

@@ -1,12 +1,8 @@
 //! A program's instructions, each decoded where it is met first.
 ghost use Rattle.std.specs.Prelude.{◌≡◌, ◌%◌, IfOk, IsTrue, Ok};
-ghost use Rattle.a32_instr.specs.Effect.{condition_of};
 ghost use Rattle.a32_step.specs.Known.{IsKnown};
-ghost use Rattle.a32_step.specs.Machine.{instr_at};
 
-use a32_compute::conditions::condition;
-use a32_decode::decode;
-use a32_instr::{Cond, Instr};
+use crate::ready::Ready;
 use llsc_base::Image;
 use std::alloc::{AllocError, Global};
 use std::marker::Model;
@@ -17,46 +13,54 @@ const SLOTS: usize = 4096;
 /// An address at which no word stands.
 const NOWHERE: u32 = 1;
 
-/// An instruction that was met, with its address and its condition.
-#[derive(Clone, Copy)]
-pub struct Known {
+/// An instruction that was met, with its address.
+#[derive(Copy)]
+pub struct Known<I: Copy> {
     pub addr: u32,
-    pub cond: Cond,
-    pub instr: Instr,
+    pub ready: I,
+}
+
+impl<I: Copy> Clone for Known<I> {
+    ghost use Rattle.std.specs.Prelude.{◌≡◌};
+
+    ghost is_clone = { λ known copied. copied ≡ known };
+
+    fn clone(&self) -> Result<Known<I>, AllocError> {
+        Ok(*self)
+    }
 }
 
 /// A program as a thread runs it: its image, and the instructions that were met, each in a slot by its address. The image is
 /// one for all of them, so an instruction that is known is neither fetched nor decoded again.
 #[derive(Drop)]
-pub struct Code<'i> {
+pub struct Code<'i, I: Ready> {
     image: &'i Image,
-    slots: Vec<Known>,
+    slots: Vec<Known<I>>,
 }
 
-impl<'i> Model for Code<'i> {
+impl<'i, I: Ready> Model for Code<'i, I> {
     ghost use Rattle.std.specs.Prelude.{◌≡◌, All, length};
     ghost use Rattle.a32_step.specs.Known.{KnownCode, IsRight};
 
-    ghost Value = { KnownCode };
+    ghost Value = { KnownCode I };
 
     ghost view = { λ code. record { program = code.image.now; slots = code.slots.items } };
 
-    ghost invariant = { λ code. (length code.slots.items ≡ 4096) × All (IsRight code.image.now) code.slots.items };
+    ghost invariant = { λ code. (length code.slots.items ≡ 4096) × All (IsRight I.found I.instr I.is_right code.image.now) code.slots.items };
 }
 
-impl<'i> Code<'i> {
+impl<'i, I: Ready> Code<'i, I> {
     /// A program none of whose instructions was met.
     ///
     /// # Errors
     ///
     /// `AllocError` is want of memory.
-    pub fn new(alloc: Global, image: &'i Image) -> Result<Code<'i>, AllocError>
+    pub fn new(alloc: Global, image: &'i Image) -> Result<Code<'i, I>, AllocError>
         ensures { IfOk result (λ code. code.program ≡ image.now) }
     {
         let unknown = Known {
             addr: NOWHERE,
-            cond: Cond::ALWAYS,
-            instr: Instr::Nop { cond: Cond::ALWAYS },
+            ready: I::any(),
         };
         Ok(Code {
             image,
@@ -74,7 +78,7 @@ impl<'i> Code<'i> {
 
     /// Sees to it that the instruction at an address, a multiple of 4, is known. Whether there is one.
     #[inline(always)]
-    pub(crate) fn find(&mut self, addr: u32) -> bool
+    pub fn find(&mut self, addr: u32) -> bool
         requires { addr % 4 ≡ 0 }
         ensures program { self.new.program ≡ self.old.program }
         ensures known { IsTrue result → IsKnown self.new.slots addr }
@@ -92,13 +96,13 @@ impl<'i> Code<'i> {
 
     /// The known instruction at an address, which is a multiple of 4.
     #[inline(always)]
-    pub(crate) fn at(&self, addr: u32) -> &Known
+    pub fn at(&self, addr: u32) -> &I
         requires known { IsKnown self.now.slots addr }
         requires aligned { addr % 4 ≡ 0 }
-        ensures instr { instr_at self.now.program addr ≡ Ok result.now.instr }
-        ensures cond { result.now.cond ≡ condition_of result.now.instr }
+        ensures instr { I.found self.now.program addr ≡ Ok (I.instr result.now) }
+        ensures right { I.is_right result.now }
     {
-        &self.slots[(addr / 4) as usize % SLOTS]
+        &self.slots[(addr / 4) as usize % SLOTS].ready
     }
 
     /// Gets to know the instruction at an address, a multiple of 4. Whether there is one.
@@ -112,14 +116,10 @@ impl<'i> Code<'i> {
         let Some(word) = self.image.fetch(addr) else {
             return false;
         };
-        let Ok(instr) = decode(word) else {
+        let Some(ready) = I::of_word(word) else {
             return false;
         };
-        self.slots[(addr / 4) as usize % SLOTS] = Known {
-            addr,
-            cond: condition(&instr),
-            instr,
-        };
+        self.slots[(addr / 4) as usize % SLOTS] = Known { addr, ready };
         true
     }
 }

@@ -1,19 +1,26 @@
 //! The core of a guest thread, of whatever instruction set.
-ghost use Rattle.std.specs.Prelude.{◌≡◌, ◌<◌, ◌≤◌, ◌+◌, ℕ, length, IsTrue};
+ghost use Rattle.std.specs.Prelude.{◌≡◌, ◌<◌, ◌≤◌, ◌%◌, ◌+◌, ◌^◌, ℕ, length, IsTrue};
 ghost use Rattle.llsc_base.specs.Images.{Program};
 ghost use Rattle.a32_instr.specs.declared.outside.Ask.{Ask};
 ghost use Rattle.a32_instr.specs.declared.outside.Stop.{Stop};
 ghost use Rattle.a32_instr.specs.State.{asks, stops};
 ghost use Rattle.a32_step.specs.Phase as phase;
-ghost use Rattle.a32_step.specs.Machine.{MachineOf, InstructionSet, after_of, between, given, next_of, returned_of, wanted_of, Follows, GoesOn, GoesOnWith, IsAwaiting, IsCalling, IsOwn, IsReady, IsTested, PassesTests};
+ghost use Rattle.a32_step.specs.Machine.{MachineOf, InstructionSet, after_of, between, given, next_of, returned_of, start_in, wanted_of, Follows, GoesOn, GoesOnWith, IsAwaiting, IsCalling, IsOwn, IsReady, IsTested, PassesTests};
+ghost use Rattle.a32_step.specs.Passages.{IsCarriedOnOf};
 
+use crate::code::Code;
 use crate::cpu::Cpu;
-use crate::phases::Wanted;
+use crate::phases::{Passage, Wanted};
+use crate::ports::Port;
+use crate::ready::{Conditional, Ready};
 use a32_instr::CallAsk;
 use llsc_base::Image;
 
 /// A core that carries out the instructions of a set one access at a time. What it stands for is a machine of that set.
-pub trait Core: Drop {
+pub trait Core: Send + Drop {
+    /// An instruction as it is kept ready.
+    type Ready: Ready;
+
     /// The instructions.
     ghost Instr: { Type 0 };
 
@@ -26,6 +33,11 @@ pub trait Core: Drop {
     /// The machine that a core stands for.
     ghost machine: { Self → MachineOf Instr State };
 
+    /// The start of guest thread `t` of `n` at `entry`, a multiple of 4, with this stack pointer.
+    fn start(entry: u32, t: u32, n: u32, sp: u32) -> Self
+        requires { entry % 4 ≡ 0 }
+        ensures { machine result ≡ start_in set entry t n sp };
+
     /// Goes on until something is wanted from outside; neither a reply nor an answer may be awaited.
     fn next(&mut self, image: &Image) -> Wanted
         requires { IsReady (machine self.old).phase }
@@ -33,6 +45,21 @@ pub trait Core: Drop {
         ensures state { machine self.new ≡ after_of set image.now (machine self.old) }
         ensures follows { Follows (machine self.old) result (machine self.new) }
         ensures tested { IsTested image.now (machine self.old).replies result };
+
+    /// Carries the next instruction through, over a port that replies to its accesses at once. The core is between two
+    /// instructions, and the port's memory has as many bytes as the program.
+    ///
+    /// The instruction is complete; or the core is between two instructions as it was, or under way with the replies that it had,
+    /// and [`Core::next`] goes on from there.
+    fn carry<P: Port>(&mut self, code: &mut Code<Self::Ready>, port: &mut P) -> Passage
+        requires rest { machine self.old ≡ between (machine self.old).state }
+        requires mem { P.mem port.old ≡ length code.old.program.bytes }
+        requires few { P.counted port.old + 16 ≤ 2 ^ 63 }
+        ensures carried { IsCarriedOnOf set P.replies code.old.program (machine self.old) port.old result (machine self.new) port.new }
+        ensures program { code.new.program ≡ code.old.program }
+        ensures room { length (machine self.new).replies ≤ 16 }
+        ensures mem { P.mem port.new ≡ P.mem port.old }
+        ensures counted { P.counted port.new ≤ P.counted port.old + 16 };
 
     /// The reply to the access that is awaited; one must be.
     fn give(&mut self, reply: u64)
@@ -72,6 +99,8 @@ pub trait Core: Drop {
 }
 
 impl Core for Cpu {
+    type Ready = Conditional;
+
     ghost use Rattle.a32_instr.specs.declared.instructions.Instr.{Instr as A32Instr};
     ghost use Rattle.a32_instr.specs.State.{State as A32State};
     ghost use Rattle.a32_step.specs.Machine.{a32};
@@ -84,9 +113,18 @@ impl Core for Cpu {
 
     ghost machine = { λ m. m };
 
+    fn start(entry: u32, t: u32, n: u32, sp: u32) -> Cpu {
+        Cpu::start(entry, t, n, sp)
+    }
+
     #[inline(always)]
     fn next(&mut self, image: &Image) -> Wanted {
         Cpu::next(self, image)
+    }
+
+    #[inline(always)]
+    fn carry<P: Port>(&mut self, code: &mut Code<Conditional>, port: &mut P) -> Passage {
+        Cpu::carry(self, code, port)
     }
 
     #[inline(always)]

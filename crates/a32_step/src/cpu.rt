@@ -12,6 +12,7 @@ use crate::decoded::Decoded;
 use crate::execution::Execution;
 use crate::phases::{Passage, Point, Progress, Wanted};
 use crate::ports::Port;
+use crate::ready::Conditional;
 use crate::sources::Nobody;
 use a32_instr::{CallAsk, Flags};
 use llsc_base::Image;
@@ -207,7 +208,7 @@ impl Cpu {
     /// call, a stop, or a store for which memory has no write left. Or it is under way with the replies that it had, where
     /// memory has no write left for a later store of its block, or where it loads a PC that may not be; [`Cpu::next`] goes on from there.
     #[inline(always)]
-    pub fn carry<P: Port>(&mut self, code: &mut Code, port: &mut P) -> Passage
+    pub fn carry<P: Port>(&mut self, code: &mut Code<Conditional>, port: &mut P) -> Passage
         requires rest { self.old ≡ between self.old.state }
         requires mem { P.mem port.old ≡ length code.old.program.bytes }
         requires few { P.counted port.old + 16 ≤ 2 ^ 63 }

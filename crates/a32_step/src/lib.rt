@@ -17,6 +17,7 @@ mod execution;
 pub mod laws;
 mod phases;
 mod ports;
+mod ready;
 mod replies;
 mod sources;
 
@@ -26,3 +27,4 @@ pub use cores::Core;
 pub use cpu::Cpu;
 pub use phases::{Passage, Wanted};
 pub use ports::Port;
+pub use ready::{Conditional, Ready};

@@ -6,35 +6,24 @@ use Rattle.a32_instr.specs.declared.outside.Ask.{Ask}
 use Rattle.a32_step.specs.declared.phases.Passage.{Passage}
 use Rattle.a32_step.specs.declared.phases.Passage.TheVariants.{Complete, AtStart, UnderWay}
 use Rattle.a32_step.specs.declared.phases.Wanted.TheVariants as wanted
-use Rattle.a32_step.specs.Machine.{Machine, between, IsReady, IsAwaiting, after_next, given, given_in, wanted_of, a32}
-use Rattle.a32_step.specs.Phase.{Phase, Between, Inside, Awaiting, Calling, Stopped}
-use Rattle.a32_step.specs.Passages.{Comes, starts, replied, EndsAt, IsCarriedOn}
+use Rattle.a32_step.specs.Machine.{MachineOf, InstructionSet, between, IsReady, IsAwaiting, after_of, given, given_in, next_of, wanted_of}
+use Rattle.a32_step.specs.Phase.{PhaseOf, Between, Inside, Awaiting, Calling, Stopped}
+use Rattle.a32_step.specs.Passages.{ComesOf, starts, replied, EndsAtOf, IsCarriedOnOf}
 use Rattle.a32_step.specs.Ports.{Leads, goes, refused, stays}
-use Rattle.a32_step.proofs.Follows.{next_follows}
-use Rattle.guest_calls.specs.Run.{Pair, ReachesBy, accesses, steps_on, Point}
+use Rattle.a32_step.proofs.Follows.{follows_of}
+use Rattle.guest_calls.specs.Run.{Pair, ReachesByOf, accesses, steps_on, PointOf}
 use Rattle.guest_calls.specs.Calls.{most_output}
 use Rattle.guest_calls.proofs.FewAccesses.{given_one}
 use Rattle.guest_thread.specs.Ports.{IsAtRest, IsRunning}
-use Rattle.guest_thread.specs.ThreadState.{ThreadState, IsReadyBy}
-use Rattle.guest_thread.specs.Under.{HasComeFrom}
+use Rattle.guest_thread.specs.ThreadState.{ThreadOf, IsReadyBy}
+use Rattle.guest_thread.specs.Under.{HasComeFromOf}
 use Rattle.guest_thread.proofs.Reached.{come_by, reached_at, reached_by}
 
--- ---- how far its run has come
+-- ---- how many accesses a port counts
 
-pub come_on : (stocked : Bool) (program : Program) (budget : ℕ) (point : Point) (old : Machine) (before : List Pair) (steps : ℕ) (output : List ℕ) (pairs : List Pair) (machine : Machine)
-    → ReachesBy stocked program budget point before old steps output → steps < budget → Comes program old pairs machine
-    → ReachesBy stocked program budget point (before ++ pairs) machine steps output
-come_on stocked program budget point old before steps output _ _ reached within starts =
-    subst (λ all. ReachesBy stocked program budget point all old steps output) (sym (append-nil before)) reached
-come_on stocked program budget point old before steps output _ _ reached within (replied pairs machine ask reply comes asked) =
-    subst (λ all. ReachesBy stocked program budget point all (given (after_next program machine) reply) steps output) (append_assoc before pairs ((ask, reply) ∷ []))
-    (accesses (before ++ pairs) machine steps output ask reply (come_on stocked program budget point old before steps output pairs machine reached within comes) within asked)
-
--- ---- how many accesses it made
-
-pub leads_counted : {S : Type 0} (replies : S → Ask → Option ℕ → S → Type 0) (counted : S → ℕ) (from to : S) (pairs : List Pair)
-    → ((old : S) (ask : Ask) (reply : ℕ) (new : S) → replies old ask (Some reply) new → counted new ≤ counted old + 1)
-    → ((old : S) (ask : Ask) (new : S) → replies old ask None new → counted new ≤ counted old)
+pub leads_counted : {P : Type 0} (replies : P → Ask → Option ℕ → P → Type 0) (counted : P → ℕ) (from to : P) (pairs : List Pair)
+    → ((old : P) (ask : Ask) (reply : ℕ) (new : P) → replies old ask (Some reply) new → counted new ≤ counted old + 1)
+    → ((old : P) (ask : Ask) (new : P) → replies old ask None new → counted new ≤ counted old)
     → Leads replies from pairs to → counted to ≤ counted from + length pairs
 leads_counted replies counted from _ _ one none stays = omega arith
 leads_counted replies counted from _ _ one none (goes pairs at next ask reply leads served) =
@@ -47,84 +36,98 @@ leads_counted replies counted from _ _ one none (refused pairs at next ask leads
     let here : counted next ≤ counted at = none at ask next served in
     omega (arith, before, here)
 
-given_ready : (machine : Machine) (reply : ℕ) (phase : Phase) → IsAwaiting phase → IsReady (given_in machine reply phase).phase
-given_ready machine reply Between awaits = absurd awaits
-given_ready machine reply (Inside instr) awaits = absurd awaits
-given_ready machine reply (Awaiting instr ask) awaits = tt
-given_ready machine reply (Calling call) awaits = absurd awaits
-given_ready machine reply (Stopped stop) awaits = absurd awaits
+module _ {I S : Type 0} (set : InstructionSet I S) where
+  -- ---- how far its run has come
 
--- each reply is one of its instruction's
-record HasReplies (old machine : Machine) (pairs : List Pair) : Type 0 where
-  ready : IsReady machine.phase
-  count : length machine.replies ≡ length old.replies + length pairs
+  pub come_on : (stocked : Bool) (program : Program) (budget : ℕ) (point : PointOf I S) (old : MachineOf I S) (before : List Pair) (steps : ℕ) (output : List ℕ) (pairs : List Pair) (machine : MachineOf I S)
+      → ReachesByOf set stocked program budget point before old steps output → steps < budget → ComesOf set program old pairs machine
+      → ReachesByOf set stocked program budget point (before ++ pairs) machine steps output
+  come_on stocked program budget point old before steps output _ _ reached within starts =
+      subst (λ all. ReachesByOf set stocked program budget point all old steps output) (sym (append-nil before)) reached
+  come_on stocked program budget point old before steps output _ _ reached within (replied pairs machine ask reply comes asked) =
+      subst (λ all. ReachesByOf set stocked program budget point all (given (after_of set program machine) reply) steps output) (append_assoc before pairs ((ask, reply) ∷ []))
+      (accesses (before ++ pairs) machine steps output ask reply (come_on stocked program budget point old before steps output pairs machine reached within comes) within asked)
 
-comes_counted : (program : Program) (old machine : Machine) (pairs : List Pair) → IsReady old.phase → Comes program old pairs machine → HasReplies old machine pairs
-comes_counted program old _ _ first starts = record { ready = first; count = omega arith }
-comes_counted program old _ _ first (replied pairs machine ask reply comes asked) =
-    let before = comes_counted program old machine pairs first comes in
-    let follows = next_follows program machine (wanted.Access ask) (after_next program machine) before.ready (ap wanted_of (sym asked)) refl in
-    let one : length (given (after_next program machine) reply).replies ≡ length machine.replies + 1 =
-    ap (λ rs. length rs) (given_one (after_next program machine) reply (after_next program machine).phase follows.0 ∙ ap (λ rs. rs ++ reply ∷ []) follows.1)
-    ∙ length-append machine.replies (reply ∷ []) in
-    let longer : length (pairs ++ (ask, reply) ∷ []) ≡ length pairs + 1 = length-append pairs ((ask, reply) ∷ []) in
-    record {
-      ready = given_ready (after_next program machine) reply (after_next program machine).phase follows.0;
-      count = omega (arith, before.count, one, longer);
-    }
+  -- ---- how many accesses it made
 
-pub replies_counted : (program : Program) (old machine : Machine) (pairs : List Pair) → old ≡ between old.state → Comes program old pairs machine
-    → length machine.replies ≡ length pairs
-replies_counted program old machine pairs rest comes =
-    let none : length old.replies ≡ 0 = ap (λ (m : Machine). length m.replies) rest in
-    let all = comes_counted program old machine pairs (subst (λ (m : Machine). IsReady m.phase) (sym rest) tt) comes in
-    omega (arith, none, all.count)
+  given_ready : (machine : MachineOf I S) (reply : ℕ) (phase : PhaseOf I) → IsAwaiting phase → IsReady (given_in machine reply phase).phase
+  given_ready machine reply Between awaits = absurd awaits
+  given_ready machine reply (Inside instr) awaits = absurd awaits
+  given_ready machine reply (Awaiting instr ask) awaits = tt
+  given_ready machine reply (Calling call) awaits = absurd awaits
+  given_ready machine reply (Stopped stop) awaits = absurd awaits
 
--- ---- one instruction more, or a part of it
+  -- each reply is one of its instruction's
+  record HasReplies (old machine : MachineOf I S) (pairs : List Pair) : Type 0 where
+    ready : IsReady machine.phase
+    count : length machine.replies ≡ length old.replies + length pairs
 
-pub part_ends : (program : Program) (machine new : Machine) (way : Passage) → (way ≡ AtStart) ⊎ (way ≡ UnderWay) → EndsAt program machine way new
-    → (new ≡ machine) × IsReady machine.phase
-part_ends program machine new way (inl is) ends = subst (λ w. EndsAt program machine w new) is ends
-part_ends program machine new way (inr is) ends = subst (λ w. EndsAt program machine w new) is ends
+  comes_counted : (program : Program) (old machine : MachineOf I S) (pairs : List Pair) → IsReady old.phase → ComesOf set program old pairs machine → HasReplies old machine pairs
+  comes_counted program old _ _ first starts = record { ready = first; count = omega arith }
+  comes_counted program old _ _ first (replied pairs machine ask reply comes asked) =
+      let before = comes_counted program old machine pairs first comes in
+      let follows = follows_of set program machine (wanted.Access ask) (after_of set program machine) before.ready (ap wanted_of (sym asked)) refl in
+      let one : length (given (after_of set program machine) reply).replies ≡ length machine.replies + 1 =
+      ap (λ rs. length rs) (given_one (after_of set program machine) reply (after_of set program machine).phase follows.0 ∙ ap (λ rs. rs ++ reply ∷ []) follows.1)
+      ∙ length-append machine.replies (reply ∷ []) in
+      let longer : length (pairs ++ (ask, reply) ∷ []) ≡ length pairs + 1 = length-append pairs ((ask, reply) ∷ []) in
+      record {
+        ready = given_ready (after_of set program machine) reply (after_of set program machine).phase follows.0;
+        count = omega (arith, before.count, one, longer);
+      }
 
--- a thread at rest, one instruction on
-pub at_rest_on : (program : Program) (machine : Machine) (new : ThreadState) → new.printing ≡ None → EndsAt program machine Complete new.cpu → IsAtRest new
-at_rest_on program machine new still ends =
-    record { printing = still; between = ends.3 ∙ ap between (sym (ap (λ (m : Machine). m.state) ends.3)) }
+  pub replies_counted : (program : Program) (old machine : MachineOf I S) (pairs : List Pair) → old ≡ between old.state → ComesOf set program old pairs machine
+      → length machine.replies ≡ length pairs
+  replies_counted program old machine pairs rest comes =
+      let none : length old.replies ≡ 0 = ap (λ (m : MachineOf I S). length m.replies) rest in
+      let all = comes_counted program old machine pairs (subst (λ (m : MachineOf I S). IsReady m.phase) (sym rest) tt) comes in
+      omega (arith, none, all.count)
 
-pub running_at : (mem budget : ℕ) (new : ThreadState) → new.printing ≡ None → IsReady new.cpu.phase → new.steps ≤ budget
-    → length new.cpu.replies ≤ 16 → length new.output ≤ most_output → IsRunning mem budget new
-running_at mem budget new still ready within few short = record {
-  ready = subst (λ p. IsReadyBy mem budget new p) (sym still) (ready, within);
-  bounded = record { replies = few; output = short };
-}
+  -- ---- one instruction more, or a part of it
 
-module _ {S : Type 0} (replies : S → Ask → Option ℕ → S → Type 0) (program : Program) (budget : ℕ) (old new : ThreadState) (from to : S)
-    (rest : IsAtRest old) (within : old.steps < budget) (same : new.output ≡ old.output) (still : new.printing ≡ None) where
-  -- it was complete
-  pub after_one : IsCarriedOn replies program old.cpu from Complete new.cpu to → new.steps ≡ old.steps + 1 → (stocked : Bool) (point : Point) (before : List Pair)
-      → HasComeFrom stocked program budget point before old → (pairs : List Pair) × (Leads replies from pairs to × HasComeFrom stocked program budget point (before ++ pairs) new)
-  after_one carried more stocked point before come =
-      let reached = come_on stocked program budget point old.cpu before old.steps old.output carried.pairs carried.machine (reached_by a32 stocked program budget point before old rest.printing come) within carried.comes in (
-        carried.pairs,
-        (
-          carried.leads,
-          come_by a32 stocked program budget point (before ++ carried.pairs) new still
-              (reached_at a32 stocked program budget point new.cpu (after_next program carried.machine) (before ++ carried.pairs) new.steps (old.steps + 1) new.output old.output
-              carried.ends.2 more same (steps_on (before ++ carried.pairs) carried.machine old.steps old.output carried.ends.0 reached within carried.ends.1)),
-        ),
-      )
+  pub part_ends : (program : Program) (machine new : MachineOf I S) (way : Passage) → (way ≡ AtStart) ⊎ (way ≡ UnderWay) → EndsAtOf set program machine way new
+      → (new ≡ machine) × IsReady machine.phase
+  part_ends program machine new way (inl is) ends = subst (λ w. EndsAtOf set program machine w new) is ends
+  part_ends program machine new way (inr is) ends = subst (λ w. EndsAtOf set program machine w new) is ends
 
-  -- it wasn't
-  pub after_part : (machine : Machine) (pairs : List Pair) → Leads replies from pairs to → Comes program old.cpu pairs machine → new.cpu ≡ machine → new.steps ≡ old.steps
-      → (stocked : Bool) (point : Point) (before : List Pair) → HasComeFrom stocked program budget point before old
-      → (pairs : List Pair) × (Leads replies from pairs to × HasComeFrom stocked program budget point (before ++ pairs) new)
-  after_part machine pairs leads comes is steps stocked point before come = (
-    pairs,
-    (
-      leads,
-      come_by a32 stocked program budget point (before ++ pairs) new still
-          (reached_at a32 stocked program budget point new.cpu machine (before ++ pairs) new.steps old.steps new.output old.output is steps same
-          (come_on stocked program budget point old.cpu before old.steps old.output pairs machine (reached_by a32 stocked program budget point before old rest.printing come) within comes)),
-    ),
-  )
+  -- a thread at rest, one instruction on
+  pub at_rest_on : (program : Program) (machine : MachineOf I S) (new : ThreadOf I S) → new.printing ≡ None → EndsAtOf set program machine Complete new.cpu → IsAtRest new
+  at_rest_on program machine new still ends =
+      record { printing = still; between = ends.3 ∙ ap between (sym (ap (λ (m : MachineOf I S). m.state) ends.3)) }
+
+  pub running_at : (mem budget : ℕ) (new : ThreadOf I S) → new.printing ≡ None → IsReady new.cpu.phase → new.steps ≤ budget
+      → length new.cpu.replies ≤ 16 → length new.output ≤ most_output → IsRunning mem budget new
+  running_at mem budget new still ready within few short = record {
+    ready = subst (λ p. IsReadyBy mem budget new p) (sym still) (ready, within);
+    bounded = record { replies = few; output = short };
+  }
+
+  module _ {P : Type 0} (replies : P → Ask → Option ℕ → P → Type 0) (program : Program) (budget : ℕ) (old new : ThreadOf I S) (from to : P)
+      (rest : IsAtRest old) (within : old.steps < budget) (same : new.output ≡ old.output) (still : new.printing ≡ None) where
+    -- it was complete
+    pub after_one : IsCarriedOnOf set replies program old.cpu from Complete new.cpu to → new.steps ≡ old.steps + 1 → (stocked : Bool) (point : PointOf I S) (before : List Pair)
+        → HasComeFromOf set stocked program budget point before old → (pairs : List Pair) × (Leads replies from pairs to × HasComeFromOf set stocked program budget point (before ++ pairs) new)
+    after_one carried more stocked point before come =
+        let reached = come_on stocked program budget point old.cpu before old.steps old.output carried.pairs carried.machine (reached_by set stocked program budget point before old rest.printing come) within carried.comes in (
+          carried.pairs,
+          (
+            carried.leads,
+            come_by set stocked program budget point (before ++ carried.pairs) new still
+                (reached_at set stocked program budget point new.cpu (after_of set program carried.machine) (before ++ carried.pairs) new.steps (old.steps + 1) new.output old.output
+                carried.ends.2 more same (steps_on (before ++ carried.pairs) carried.machine old.steps old.output carried.ends.0 reached within carried.ends.1)),
+          ),
+        )
+
+    -- it wasn't
+    pub after_part : (machine : MachineOf I S) (pairs : List Pair) → Leads replies from pairs to → ComesOf set program old.cpu pairs machine → new.cpu ≡ machine → new.steps ≡ old.steps
+        → (stocked : Bool) (point : PointOf I S) (before : List Pair) → HasComeFromOf set stocked program budget point before old
+        → (pairs : List Pair) × (Leads replies from pairs to × HasComeFromOf set stocked program budget point (before ++ pairs) new)
+    after_part machine pairs leads comes is steps stocked point before come = (
+      pairs,
+      (
+        leads,
+        come_by set stocked program budget point (before ++ pairs) new still
+            (reached_at set stocked program budget point new.cpu machine (before ++ pairs) new.steps old.steps new.output old.output is steps same
+            (come_on stocked program budget point old.cpu before old.steps old.output pairs machine (reached_by set stocked program budget point before old rest.printing come) within comes)),
+      ),
+    )

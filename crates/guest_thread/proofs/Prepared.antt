@@ -8,6 +8,7 @@ use Rattle.history.specs.declared.entry.Entry.{Entry}
 use Rattle.atomic_table.specs.Seated.{TableId}
 use Rattle.shared_memory.specs.Origin.{Origin}
 use Rattle.shared_memory.specs.Seen.{IsOneOf, all_but}
+use Rattle.a32_step.specs.Machine.{MachineOf, InstructionSet}
 use Rattle.guest_thread.specs.Crews.{AreFresh, IsFresh, threads_of}
 use Rattle.guest_thread.specs.declared.crews.Job.{Job}
 
@@ -54,15 +55,16 @@ one_less count t old new above is left = record {
         true_false : true ≡ false → ⊥
         true_false same = cc
 
-module _ {P : Type 0} (home : P → TableId) (numbers : P → ℕ → Bool) (seen : P → List Entry) (mem : TableId) (origin : Origin) (program : Program) where
-  fresh_more : (jobs : List (Job P)) (job : Job P) → AreFresh home numbers seen mem origin program jobs → IsFresh home numbers seen mem origin program job
-      → AreFresh home numbers seen mem origin program (jobs ++ job ∷ [])
+module _ {I S C R P : Type 0} (set : InstructionSet I S) (machine : C → MachineOf I S) (home : P → TableId) (numbers : P → ℕ → Bool) (seen : P → List Entry)
+    (mem : TableId) (origin : Origin) (program : Program) where
+  fresh_more : (jobs : List (Job P C R)) (job : Job P C R) → AreFresh set machine home numbers seen mem origin program jobs → IsFresh set machine home numbers seen mem origin program job
+      → AreFresh set machine home numbers seen mem origin program (jobs ++ job ∷ [])
   fresh_more [] job all is = (is, tt)
   fresh_more (one ∷ jobs) job all is = (all.0, fresh_more jobs job all.1 is)
 
-  pub fresh_pushed : (jobs new : List (Job P)) (job : Job P) → new ≡ jobs ++ job ∷ [] → AreFresh home numbers seen mem origin program jobs
-      → IsFresh home numbers seen mem origin program job → AreFresh home numbers seen mem origin program new
-  fresh_pushed jobs new job pushed all is = subst (AreFresh home numbers seen mem origin program) (sym pushed) (fresh_more jobs job all is)
+  pub fresh_pushed : (jobs new : List (Job P C R)) (job : Job P C R) → new ≡ jobs ++ job ∷ [] → AreFresh set machine home numbers seen mem origin program jobs
+      → IsFresh set machine home numbers seen mem origin program job → AreFresh set machine home numbers seen mem origin program new
+  fresh_pushed jobs new job pushed all is = subst (AreFresh set machine home numbers seen mem origin program) (sym pushed) (fresh_more jobs job all is)
 
 pub range_more : (n count : ℕ) → range_with_len n count ++ (n + count) ∷ [] ≡ range_with_len n (suc count)
 range_more n zero = ap (λ k. k ∷ []) (omega arith)
@@ -70,15 +72,15 @@ range_more n (suc count) =
     let number : n + suc count ≡ n + 1 + count = omega arith in
     ap (λ k. n ∷ (range_with_len (n + 1) count ++ k ∷ [])) number ∙ ap (λ l. n ∷ l) (range_more (n + 1) count)
 
-pub threads_more : {P : Type 0} (jobs new : List (Job P)) (job : Job P) (len more t : ℕ) → new ≡ jobs ++ job ∷ [] → job.thread ≡ t → len + 1 ≡ t → more ≡ len + 1
+pub threads_more : {P C R : Type 0} (jobs new : List (Job P C R)) (job : Job P C R) (len more t : ℕ) → new ≡ jobs ++ job ∷ [] → job.thread ≡ t → len + 1 ≡ t → more ≡ len + 1
     → threads_of jobs ≡ range_with_len 1 len → threads_of new ≡ range_with_len 1 more
-threads_more {P = P} jobs new job len more t is thread next longer threads =
+threads_more {P = P} {C = C} {R = R} jobs new job len more t is thread next longer threads =
     let number : job.thread ≡ 1 + len = omega (arith, thread, next) in
     let count : suc len ≡ more = omega (arith, longer) in
-    ap threads_of is ∙ map-append (λ (j : Job P). j.thread) jobs (job ∷ [])
+    ap threads_of is ∙ map-append (λ (j : Job P C R). j.thread) jobs (job ∷ [])
     ∙ ap (λ l. l ++ job.thread ∷ []) threads ∙ ap (λ k. range_with_len 1 len ++ k ∷ []) number ∙ range_more 1 len ∙ ap (range_with_len 1) count
 
-pub all_threads : {P : Type 0} (first : Job P) (jobs : List (Job P)) (len count : ℕ) → first.thread ≡ 0 → threads_of jobs ≡ range_with_len 1 len → len + 1 ≡ count
+pub all_threads : {P C R : Type 0} (first : Job P C R) (jobs : List (Job P C R)) (len count : ℕ) → first.thread ≡ 0 → threads_of jobs ≡ range_with_len 1 len → len + 1 ≡ count
     → threads_of (first ∷ jobs) ≡ range_with_len 0 count
 all_threads first jobs len count zeroth threads many =
     let all : suc len ≡ count = omega (arith, many) in

@@ -8,67 +8,73 @@ use Rattle.history.specs.declared.entry.Entry.{Entry}
 use Rattle.shared_memory.specs.Origin.{Origin}
 use Rattle.shared_memory.specs.Seen.{IsOneOf, IsSingle}
 use Rattle.a32_instr.specs.declared.outside.Stop.TheVariants.{TagLimit}
+use Rattle.a32_step.specs.Machine.{MachineOf, InstructionSet}
 use Rattle.guest_thread.specs.Counting.{accesses_counted, counts_in}
-use Rattle.guest_thread.specs.Outcome.{IsEndOn}
-use Rattle.guest_thread.specs.Start.{thread_start}
+use Rattle.guest_thread.specs.Outcome.{IsEndOnOf}
+use Rattle.guest_thread.specs.Start.{thread_start_of}
 use Rattle.guest_thread.specs.declared.ends.GuestEnd.{GuestEnd}
 use Rattle.guest_thread.specs.declared.crews.Crew.{Crew}
 use Rattle.guest_thread.specs.declared.crews.Job.{Job}
 use Rattle.guest_thread.specs.declared.gathering.Ran.{Ran}
 
--- what a memory says of a pass: which memory made it, which numbers it holds, and what it has seen
-module _ {P : Type 0} (home : P → TableId) (numbers : P → ℕ → Bool) (seen : P → List Entry) where
+-- the threads of an instruction set on cores that stand for its machines; and what a memory says of a pass: which memory made it, which
+-- numbers it holds, and what it has seen
+module _ {I S : Type 0} (set : InstructionSet I S) {C : Type 0} (machine : C → MachineOf I S)
+    {P : Type 0} (home : P → TableId) (numbers : P → ℕ → Bool) (seen : P → List Entry) where
   -- a thread that begins by itself is at its start, and has a pass of the memory that holds its number alone, with no access
-  pub record IsFresh (mem : TableId) (origin : Origin) (program : Program) (job : Job P) : Type 0 where
+  pub record IsFresh {R : Type 0} (mem : TableId) (origin : Origin) (program : Program) (job : Job P C R) : Type 0 where
     pub memory : home job.pass ≡ mem
     pub single : IsSingle job.thread (numbers job.pass)
     pub first : job.thread < origin.first
     pub none : entries_of job.thread (seen job.pass) ≡ []
     pub code : job.code.program ≡ program
-    pub start : job.cpu ≡ thread_start program origin.size origin.first job.thread
+    pub start : machine job.cpu ≡ thread_start_of set program origin.size origin.first job.thread
     pub empty : job.out ≡ []
 
   -- each of them is
-  abbrev pub AreFresh : TableId → Origin → Program → List (Job P) → Type 0
+  abbrev pub AreFresh : {R : Type 0} → TableId → Origin → Program → List (Job P C R) → Type 0
   AreFresh mem origin program [] = Unit {0}
   AreFresh mem origin program (job ∷ jobs) = IsFresh mem origin program job × AreFresh mem origin program jobs
 
 -- whose jobs they are
-abbrev pub threads_of : {P : Type 0} → List (Job P) → List ℕ
+abbrev pub threads_of : {P C R : Type 0} → List (Job P C R) → List ℕ
 threads_of jobs = map (λ job. job.thread) jobs
 
--- how a thread ended that began by itself, in a history; where it was stopped at a store, the memory counts a class's writes
-pub record IsEndOf (program : Program) (origin : Origin) (budget : ℕ) (history : List Entry) (t : ℕ) (end : GuestEnd) : Type 0 where
-  pub thread : end.thread ≡ t
-  pub end_on : IsEndOn program origin.size budget (thread_start program origin.size origin.first t) history end
-  pub spends : (addr : ℕ) → end.stop ≡ TagLimit addr → origin.spends ≡ true
-  pub few : accesses_counted (counts_in end) < 2 ^ 45
+module _ {I S : Type 0} (set : InstructionSet I S) where
+  -- how a thread ended that began by itself, in a history; where it was stopped at a store, the memory counts a class's writes
+  pub record IsEndOf (program : Program) (origin : Origin) (budget : ℕ) (history : List Entry) (t : ℕ) (end : GuestEnd) : Type 0 where
+    pub thread : end.thread ≡ t
+    pub end_on : IsEndOnOf set program origin.size budget (thread_start_of set program origin.size origin.first t) history end
+    pub spends : (addr : ℕ) → end.stop ≡ TagLimit addr → origin.spends ≡ true
+    pub few : accesses_counted (counts_in end) < 2 ^ 45
 
--- the ends of these threads, one of each, in this order
-abbrev pub AreEndsOf : Program → Origin → ℕ → List Entry → List ℕ → List GuestEnd → Type 0
-AreEndsOf program origin budget history [] [] = Unit {0}
-AreEndsOf program origin budget history [] (end ∷ ends) = ⊥
-AreEndsOf program origin budget history (t ∷ ts) [] = ⊥
-AreEndsOf program origin budget history (t ∷ ts) (end ∷ ends) = IsEndOf program origin budget history t end × AreEndsOf program origin budget history ts ends
+  -- the ends of these threads, one of each, in this order
+  abbrev pub AreEndsOf : Program → Origin → ℕ → List Entry → List ℕ → List GuestEnd → Type 0
+  AreEndsOf program origin budget history [] [] = Unit {0}
+  AreEndsOf program origin budget history [] (end ∷ ends) = ⊥
+  AreEndsOf program origin budget history (t ∷ ts) [] = ⊥
+  AreEndsOf program origin budget history (t ∷ ts) (end ∷ ends) = IsEndOf program origin budget history t end × AreEndsOf program origin budget history ts ends
 
 -- each of these numbers is one that a test takes
 abbrev pub AreTaken : (ℕ → Bool) → List ℕ → Type 0
 AreTaken numbers ts = All (λ t. IsOneOf t numbers) ts
 
-module _ {P : Type 0} (home : P → TableId) (numbers : P → ℕ → Bool) (seen : P → List Entry) where
-  -- jobs of these threads were run: the pass is the memory's and holds all of their numbers, and by what it has seen they have
+module _ {I S : Type 0} (set : InstructionSet I S) {P : Type 0} (home : P → TableId) (numbers : P → ℕ → Bool) (seen : P → List Entry) where
+  -- the threads of these numbers were run: the pass is the memory's and holds all of their numbers, and by what it has seen they have
   -- these ends
-  pub record HaveEnded (mem : TableId) (origin : Origin) (program : Program) (budget : ℕ) (jobs : List (Job P)) (ran : Ran P) : Type 0 where
+  pub record HaveEnded (mem : TableId) (origin : Origin) (program : Program) (budget : ℕ) (threads : List ℕ) (ran : Ran P) : Type 0 where
     pub memory : home ran.pass ≡ mem
-    pub taken : AreTaken (numbers ran.pass) (threads_of jobs)
-    pub ends : AreEndsOf program origin budget (seen ran.pass) (threads_of jobs) ran.ends.items
+    pub taken : AreTaken (numbers ran.pass) threads
+    pub ends : AreEndsOf set program origin budget (seen ran.pass) threads ran.ends.items
 
+module _ {I S : Type 0} (set : InstructionSet I S) {C : Type 0} (machine : C → MachineOf I S)
+    {P : Type 0} (home : P → TableId) (numbers : P → ℕ → Bool) (seen : P → List Entry) where
   -- the jobs of all threads of the memory, each of which begins by itself and is at its start, in order of number, with room for
   -- their ends
-  pub record IsReady (mem : TableId) (origin : Origin) (program : Program) (crew : Crew P) : Type 0 where
+  pub record IsReady {R : Type 0} (mem : TableId) (origin : Origin) (program : Program) (crew : Crew P C R) : Type 0 where
     pub begin : origin.first ≡ origin.size.threads
-    pub first : IsFresh home numbers seen mem origin program crew.first
-    pub others : AreFresh home numbers seen mem origin program crew.jobs.items
+    pub first : IsFresh set machine home numbers seen mem origin program crew.first
+    pub others : AreFresh set machine home numbers seen mem origin program crew.jobs.items
     pub threads : threads_of (crew.first ∷ crew.jobs.items) ≡ range_with_len 0 origin.size.threads
     pub empty : (crew.ends.items ≡ []) × (vec_len crew.ends ≡ 0)
     pub room : vec_len crew.jobs < vec_capacity crew.ends

@@ -13,7 +13,7 @@ use Rattle.a32_step.specs.Machine.{MachineOf, Machine, InstructionSet, a32}
 use Rattle.guest_calls.specs.Run.{EndsOnOf}
 use Rattle.guest_calls.specs.Pairs.{pairs_of}
 use Rattle.guest_thread.specs.Counting.{AreCounts, counts_in}
-use Rattle.guest_thread.specs.Start.{thread_start}
+use Rattle.guest_thread.specs.Start.{thread_start_of}
 use Rattle.guest_thread.specs.declared.ends.GuestEnd.{GuestEnd}
 
 -- the class of an address's row has had as many Writes in a history as it may have
@@ -30,19 +30,28 @@ pub record IsEndOnOf {I S : Type 0} (set : InstructionSet I S) (program : Progra
 abbrev pub IsEndOn : Program → Numbers → ℕ → Machine → List Entry → GuestEnd → Type 0
 IsEndOn = IsEndOnOf a32
 
--- the ends of all threads, each of which began by itself, in order of number
-pub record AreEndsOn (program : Program) (size : Numbers) (budget : ℕ) (history : List Entry) (all : List GuestEnd) : Type 0 where
-  pub many : length all ≡ size.threads
-  pub numbers : (t : ℕ) (end : GuestEnd) → slice_get all t ≡ Some end → end.thread ≡ t
-  pub each : (t : ℕ) (end : GuestEnd) → slice_get all t ≡ Some end
-      → IsEndOn program size budget (thread_start program size size.threads t) history end
+module _ {I S : Type 0} (set : InstructionSet I S) where
+  -- the ends of all threads, each of which began by itself, in order of number
+  pub record AreEndsOnOf (program : Program) (size : Numbers) (budget : ℕ) (history : List Entry) (all : List GuestEnd) : Type 0 where
+    pub many : length all ≡ size.threads
+    pub numbers : (t : ℕ) (end : GuestEnd) → slice_get all t ≡ Some end → end.thread ≡ t
+    pub each : (t : ℕ) (end : GuestEnd) → slice_get all t ≡ Some end
+        → IsEndOnOf set program size budget (thread_start_of set program size size.threads t) history end
 
--- these are the ends of all threads in a legal and complete history, from the program's memory on, in which no thread starts another
-pub record IsOutcome (program : Program) (size : Numbers) (budget : ℕ) (history : List Entry) (all : List GuestEnd) : Type 0 where
-  pub legal : IsLegal size program.bytes history
-  pub complete : IsComplete history
-  pub born : AreBorn size.threads 0 history
-  pub ends : AreEndsOn program size budget history all
+  -- these are the ends of all threads in a legal and complete history, from the program's memory on, in which no thread starts another
+  pub record IsOutcomeOf (program : Program) (size : Numbers) (budget : ℕ) (history : List Entry) (all : List GuestEnd) : Type 0 where
+    pub legal : IsLegal size program.bytes history
+    pub complete : IsComplete history
+    pub born : AreBorn size.threads 0 history
+    pub ends : AreEndsOnOf program size budget history all
+
+-- The same of A32.
+
+abbrev pub AreEndsOn : Program → Numbers → ℕ → List Entry → List GuestEnd → Type 0
+AreEndsOn = AreEndsOnOf a32
+
+abbrev pub IsOutcome : Program → Numbers → ℕ → List Entry → List GuestEnd → Type 0
+IsOutcome = IsOutcomeOf a32
 
 -- each thread left by an exit call with code 0
 abbrev pub HaveLeft : List GuestEnd → Type 0

@@ -7,7 +7,7 @@ ghost use Rattle.guest_thread.specs.Crews.{AreFresh, IsFresh, IsReady, threads_o
 
 use crate::ends::GuestEnd;
 use crate::starts::start_cpu;
-use a32_step::{Code, Cpu};
+use a32_step::{Code, Core, Ready};
 use guest_calls::Output;
 use llsc_base::Image;
 use shared_memory::SharedMemory;
@@ -15,19 +15,19 @@ use std::alloc::{AllocError, Global};
 
 /// What a thread runs with: its number, its core, its pass of the memory, where its output goes, and its program.
 #[derive(Drop)]
-pub struct Job<'i, P> {
+pub struct Job<'i, P, C, I: Ready> {
     pub thread: u32,
-    pub cpu: Cpu,
+    pub cpu: C,
     pub pass: P,
     pub out: Output,
-    pub code: Code<'i>,
+    pub code: Code<'i, I>,
 }
 
 /// The jobs of all threads in order of number, with room for their ends.
 #[derive(Drop)]
-pub struct Crew<'i, P> {
-    pub first: Job<'i, P>,
-    pub jobs: Vec<Job<'i, P>>,
+pub struct Crew<'i, P, C, I: Ready> {
+    pub first: Job<'i, P, C, I>,
+    pub jobs: Vec<Job<'i, P, C, I>>,
     pub ends: Vec<GuestEnd>,
 }
 
@@ -36,18 +36,18 @@ pub struct Crew<'i, P> {
 /// # Errors
 ///
 /// `AllocError` is want of memory. Then the pass is gone.
-pub fn job_of<'i, M: SharedMemory>(
+pub fn job_of<'i, M: SharedMemory, C: Core>(
     alloc: Global,
     mem: &M,
     image: &'i Image,
     thread: u32,
     pass: M::Pass,
-) -> Result<Job<'i, M::Pass>, AllocError>
+) -> Result<Job<'i, M::Pass, C, C::Ready>, AllocError>
     requires memory { M.home pass ≡ M.id mem.now }
     requires single { IsSingle thread (M.numbers pass) }
     requires begins { thread < (M.origin mem.now).first }
     requires none { entries_of thread (M.seen pass) ≡ [] }
-    ensures fresh { IfOk result (IsFresh M.home M.numbers M.seen (M.id mem.now) (M.origin mem.now) image.now) }
+    ensures fresh { IfOk result (IsFresh C.set C.machine M.home M.numbers M.seen (M.id mem.now) (M.origin mem.now) image.now) }
     ensures thread { IfOk result (λ job. job.thread ≡ thread) }
     ensures seen { IfOk result (λ job. M.seen job.pass ≡ M.seen pass) }
 {
@@ -64,19 +64,19 @@ pub fn job_of<'i, M: SharedMemory>(
 }
 
 /// The jobs of all threads but thread 0, whose number the pass keeps.
-fn other_jobs<'i, M: SharedMemory>(
+fn other_jobs<'i, M: SharedMemory, C: Core>(
     alloc: Global,
     mem: &M,
     image: &'i Image,
     first: &mut M::Pass,
     count: u32,
-) -> Result<Vec<Job<'i, M::Pass>>, AllocError>
+) -> Result<Vec<Job<'i, M::Pass, C, C::Ready>>, AllocError>
     requires count { (count ≡ (M.origin mem.now).size.threads) × (0 < count) }
     requires memory { M.home first.old ≡ M.id mem.now }
     requires numbers { (t : ℕ) → M.numbers first.old t ≡ nat_lt t (M.origin mem.now).size.threads }
     requires begin { (M.origin mem.now).first ≡ (M.origin mem.now).size.threads }
     requires none { (t : ℕ) → entries_of t (M.seen first.old) ≡ [] }
-    ensures fresh { IfOk result (λ jobs. AreFresh M.home M.numbers M.seen (M.id mem.now) (M.origin mem.now) image.now jobs.items) }
+    ensures fresh { IfOk result (λ jobs. AreFresh C.set C.machine M.home M.numbers M.seen (M.id mem.now) (M.origin mem.now) image.now jobs.items) }
     ensures threads { IfOk result (λ jobs. threads_of jobs.items ≡ range_with_len 1 (vec_len jobs)) }
     ensures len { IfOk result (λ jobs. vec_len jobs + 1 ≡ count) }
     ensures single { IfOk result (λ _. IsSingle 0 (M.numbers first.new)) }
@@ -97,17 +97,17 @@ fn other_jobs<'i, M: SharedMemory>(
 /// # Errors
 ///
 /// `AllocError` is want of memory. Then the passes are gone, and the memory can't be closed.
-pub fn prepare<'i, M: SharedMemory>(
+pub fn prepare<'i, M: SharedMemory, C: Core>(
     alloc: Global,
     mem: &M,
     image: &'i Image,
     mut first: M::Pass,
-) -> Result<Crew<'i, M::Pass>, AllocError>
+) -> Result<Crew<'i, M::Pass, C, C::Ready>, AllocError>
     requires memory { M.home first ≡ M.id mem.now }
     requires numbers { (t : ℕ) → M.numbers first t ≡ nat_lt t (M.origin mem.now).size.threads }
     requires begin { (M.origin mem.now).first ≡ (M.origin mem.now).size.threads }
     requires none { (t : ℕ) → entries_of t (M.seen first) ≡ [] }
-    ensures ready { IfOk result (IsReady M.home M.numbers M.seen (M.id mem.now) (M.origin mem.now) image.now) }
+    ensures ready { IfOk result (IsReady C.set C.machine M.home M.numbers M.seen (M.id mem.now) (M.origin mem.now) image.now) }
     ensures seen { IfOk result (λ crew. M.seen crew.first.pass ≡ M.seen first) }
 {
     let size = mem.size();

@@ -6,6 +6,7 @@ ghost use Rattle.guest_thread.specs.Crews.{AreFresh, IsFresh};
 use crate::crews::Job;
 use crate::ends::GuestEnd;
 use crate::running::Finished;
+use a32_step::Core;
 use llsc_base::Image;
 use shared_memory::SharedMemory;
 
@@ -50,14 +51,14 @@ pub fn begin<P>(done: Finished<P>, mut ends: Vec<GuestEnd>) -> Ran<P>
 }
 
 /// Takes the last of the jobs out, where there is one.
-pub fn take_last<'i, M: SharedMemory>(
+pub fn take_last<'i, M: SharedMemory, C: Core>(
     mem: &M,
     image: &Image,
-    jobs: &mut Vec<Job<'i, M::Pass>>,
-) -> Option<Job<'i, M::Pass>>
-    requires fresh { AreFresh M.home M.numbers M.seen (M.id mem.now) (M.origin mem.now) image.now jobs.old.items }
-    ensures others { AreFresh M.home M.numbers M.seen (M.id mem.now) (M.origin mem.now) image.now jobs.new.items }
-    ensures last { IfSome result (IsFresh M.home M.numbers M.seen (M.id mem.now) (M.origin mem.now) image.now) }
+    jobs: &mut Vec<Job<'i, M::Pass, C, C::Ready>>,
+) -> Option<Job<'i, M::Pass, C, C::Ready>>
+    requires fresh { AreFresh C.set C.machine M.home M.numbers M.seen (M.id mem.now) (M.origin mem.now) image.now jobs.old.items }
+    ensures others { AreFresh C.set C.machine M.home M.numbers M.seen (M.id mem.now) (M.origin mem.now) image.now jobs.new.items }
+    ensures last { IfSome result (IsFresh C.set C.machine M.home M.numbers M.seen (M.id mem.now) (M.origin mem.now) image.now) }
     ensures items { MatchOption result (jobs.old.items ≡ []) (λ last. jobs.old.items ≡ jobs.new.items ++ last ∷ []) }
     ensures len { IfSome result (λ _. vec_len jobs.old ≡ vec_len jobs.new + 1) }
     ensures empty { IfNone result (vec_len jobs.old ≡ 0) }

@@ -10,12 +10,12 @@ ghost use Rattle.guest_calls.specs.Run.{Pair, PointOf, byte_load, effect_of_call
 ghost use Rattle.guest_thread.specs.Ports.{IsAtRest};
 ghost use Rattle.guest_thread.specs.Progress.{HasKept, HasMoved, IsBounded};
 ghost use Rattle.guest_thread.specs.ThreadState.{thread_in, EndsWithin, HasLeft, IsReadyIn, IsWaitingIn, IsPendingAfter, IsPendingAfterEvent, MayGive};
-ghost use Rattle.guest_thread.specs.Start.{first_state, thread_start};
+ghost use Rattle.guest_thread.specs.Start.{first_state_of, thread_start_of};
 ghost use Rattle.guest_thread.specs.Turns.{AfterCallOf, IsAtTurn, IsOneStepOn, after_byte_of, turn_by};
-ghost use Rattle.guest_thread.specs.Under.{HasCome, HasComeOf, HasComeFromOf, AwaitsOf, AwaitsFromOf, ComesToOf, ComesToEventOf};
+ghost use Rattle.guest_thread.specs.Under.{HasComeOf, HasComeFromOf, AwaitsOf, AwaitsFromOf, ComesToOf, ComesToEventOf};
 
 use crate::starts::start_cpu;
-use a32_step::{Ask, CallAsk, Core, Cpu, Stop, Wanted};
+use a32_step::{Ask, CallAsk, Core, Stop, Wanted};
 use guest_calls::{CallStep, Output, guest_call, is_start_call};
 use llsc_base::{Image, MachineSize, Place, Size};
 use std::alloc::{AllocError, Global};
@@ -93,7 +93,7 @@ impl<C: Core> Model for Guest<C> {
     ghost view = { λ g. record { cpu = g.cpu; steps = g.steps; output = g.output; printing = g.printing } };
 }
 
-impl Guest<Cpu> {
+impl<C: Core> Guest<C> {
     /// A thread of a program at its start, whose core is [`start_cpu`]'s. `t` is below the machine's threads.
     ///
     /// # Errors
@@ -104,11 +104,11 @@ impl Guest<Cpu> {
         image: &Image,
         size: &MachineSize,
         t: u32,
-    ) -> Result<Guest<Cpu>, AllocError>
+    ) -> Result<Guest<C>, AllocError>
         requires { t < size.now.threads }
-        ensures state { IfOk result (λ guest. guest ≡ first_state image.now size.now size.now.threads t) }
-        ensures ready { IfOk result (λ guest. (mem budget : ℕ) → IsReadyIn mem budget guest) }
-        ensures comes { IfOk result (λ guest. (budget : ℕ) → HasCome image.now budget (thread_start image.now size.now size.now.threads t) [] guest) }
+        ensures state { IfOk result (λ guest. thread_in C.machine guest ≡ first_state_of C.set image.now size.now size.now.threads t) }
+        ensures ready { IfOk result (λ guest. (mem budget : ℕ) → IsReadyIn mem budget (thread_in C.machine guest)) }
+        ensures comes { IfOk result (λ guest. (budget : ℕ) → HasComeOf C.set image.now budget (thread_start_of C.set image.now size.now size.now.threads t) [] (thread_in C.machine guest)) }
     {
         let output = Output::new(alloc)?;
         Ok(Guest::new(start_cpu(image, size, size.threads(), t), output))
@@ -117,7 +117,7 @@ impl Guest<Cpu> {
     /// Whether it is between two instructions, and no write is under way.
     #[inline]
     pub(crate) fn is_at_rest(&self) -> bool
-        ensures { IsTrue result → IsAtRest self.now }
+        ensures { IsTrue result → IsAtRest (thread_in C.machine self.now) }
     {
         self.printing.is_none() && self.cpu.is_between()
     }

@@ -15,7 +15,7 @@ use crate::guests::Guest;
 use crate::ports::Rest;
 use crate::running::Finished;
 use crate::sharing::Sharing;
-use a32_step::{Code, Cpu, Stop};
+use a32_step::{Code, Conditional, Cpu, Stop};
 use guest_calls::Output;
 use shared_memory::SharedMemory;
 use std::sync::Wait;
@@ -108,7 +108,7 @@ pub enum Paused<P> {
 pub fn go_on<M: SharedMemory, R: Wait>(
     rt: &R,
     mem: &M,
-    code: &mut Code,
+    code: &mut Code<Conditional>,
     part: Part<M::Pass>,
     upto: u64,
     budget: u64,

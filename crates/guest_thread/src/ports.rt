@@ -3,16 +3,16 @@ ghost use Rattle.std.specs.Prelude.{◌≡◌, ◌<◌, ◌≤◌, ◌+◌, ◌*
 ghost use Rattle.llsc_base.specs.Images.{Program};
 ghost use Rattle.llsc_base.specs.Limits.{most_budget};
 ghost use Rattle.guest_calls.specs.Calls.{most_output};
-ghost use Rattle.a32_step.specs.Machine.{Machine, MachineOf};
+ghost use Rattle.a32_step.specs.Machine.{MachineOf};
 ghost use Rattle.a32_step.specs.Ports.{Leads};
-ghost use Rattle.guest_calls.specs.Run.{Pair, Point, PointOf};
-ghost use Rattle.guest_thread.specs.Ports.{EndsBy, EndsByOf, IsRunning, RestsBy, RestsByOf, RestsWithin};
+ghost use Rattle.guest_calls.specs.Run.{Pair, PointOf};
+ghost use Rattle.guest_thread.specs.Ports.{EndsByOf, IsRunning, RestsByOf, RestsWithin};
 ghost use Rattle.guest_thread.specs.Progress.{IsBounded, progress_of};
 ghost use Rattle.guest_thread.specs.ThreadState.{thread_in};
-ghost use Rattle.guest_thread.specs.Under.{HasCome, HasComeFrom, HasComeOf, HasComeFromOf};
+ghost use Rattle.guest_thread.specs.Under.{HasComeOf, HasComeFromOf};
 
 use crate::guests::{Event, Guest, Turn};
-use a32_step::{Ask, Code, Core, Cpu, Passage, Port, Stop};
+use a32_step::{Ask, Code, Core, Passage, Port, Stop};
 use llsc_base::Image;
 
 /// How a thread that may start others comes to rest.
@@ -77,47 +77,24 @@ impl<C: Core> Guest<C> {
             _ => unreachable!(),
         }
     }
-
-    /// Goes on up to the thread's stop, one access after another, as [`Guest::run`] does; the port replies to each access.
-    pub fn run_by_turns<P: Port>(&mut self, image: &Image, budget: u64, port: &mut P) -> Stop
-        requires running { IsRunning (length image.now.bytes) budget (thread_in C.machine self.old) }
-        requires mem { P.mem port.old ≡ length image.now.bytes }
-        requires counted { P.counted port.old ≤ progress_of (thread_in C.machine self.old) }
-        requires small { length image.now.bytes < 2 ^ 32 }
-        requires budget { budget ≤ most_budget }
-        ensures mem { P.mem port.new ≡ P.mem port.old }
-        ensures few { P.counted port.new ≤ 17 * budget + most_output + 16 }
-        ensures ends { (start : MachineOf C.Instr C.State) → HasComeOf C.set image.now budget start [] (thread_in C.machine self.old)
-            → (pairs : List Pair) × (Leads P.replies port.old pairs port.new × EndsByOf C.set (P.refuses port.new) image.now budget start pairs result self.new.steps self.new.output) }
-    {
-        loop {
-            if let Some(rest) = self.pass(image, budget, port, false) {
-                return match rest {
-                    Rest::Stopped(stop) => stop,
-                    Rest::Spent => Stop::Budget,
-                    Rest::Starts => unreachable!(),
-                };
-            }
-        }
-    }
 }
 
-impl Guest<Cpu> {
+impl<C: Core> Guest<C> {
     /// Instructions are carried through over the port, one after another, as long as each is complete at once and the budget
     /// lasts; none is where one is under way already.
     #[inline(always)]
-    fn carry_on<P: Port>(&mut self, code: &mut Code, budget: u64, port: &mut P)
-        requires running { IsRunning (length code.old.program.bytes) budget self.old }
+    fn carry_on<P: Port>(&mut self, code: &mut Code<C::Ready>, budget: u64, port: &mut P)
+        requires running { IsRunning (length code.old.program.bytes) budget (thread_in C.machine self.old) }
         requires mem { P.mem port.old ≡ length code.old.program.bytes }
-        requires counted { P.counted port.old ≤ progress_of self.old }
+        requires counted { P.counted port.old ≤ progress_of (thread_in C.machine self.old) }
         requires budget { budget ≤ most_budget }
-        ensures running { IsRunning (length code.old.program.bytes) budget self.new }
-        ensures later { progress_of self.old ≤ progress_of self.new }
+        ensures running { IsRunning (length code.old.program.bytes) budget (thread_in C.machine self.new) }
+        ensures later { progress_of (thread_in C.machine self.old) ≤ progress_of (thread_in C.machine self.new) }
         ensures program { code.new.program ≡ code.old.program }
         ensures mem { P.mem port.new ≡ P.mem port.old }
-        ensures counted { P.counted port.new ≤ progress_of self.new }
-        ensures comes { (stocked : Bool) (from : Point) (before : List Pair) → HasComeFrom stocked code.old.program budget from before self.old
-            → (pairs : List Pair) × (Leads P.replies port.old pairs port.new × HasComeFrom stocked code.old.program budget from (before ++ pairs) self.new) }
+        ensures counted { P.counted port.new ≤ progress_of (thread_in C.machine self.new) }
+        ensures comes { (stocked : Bool) (from : PointOf C.Instr C.State) (before : List Pair) → HasComeFromOf C.set stocked code.old.program budget from before (thread_in C.machine self.old)
+            → (pairs : List Pair) × (Leads P.replies port.old pairs port.new × HasComeFromOf C.set stocked code.old.program budget from (before ++ pairs) (thread_in C.machine self.new)) }
     {
         if !self.is_at_rest() {
             return;
@@ -142,17 +119,17 @@ impl Guest<Cpu> {
     /// The core waits for no reply, the code is of the image of the start, whose length 32 bits hold, and the port's memory has
     /// as many bytes. An instruction makes 16 accesses at most, and a byte of output is loaded by one, so that the port counts
     /// no more than these.
-    pub fn run<P: Port>(&mut self, code: &mut Code, budget: u64, port: &mut P) -> Stop
-        requires running { IsRunning (length code.old.program.bytes) budget self.old }
+    pub fn run<P: Port>(&mut self, code: &mut Code<C::Ready>, budget: u64, port: &mut P) -> Stop
+        requires running { IsRunning (length code.old.program.bytes) budget (thread_in C.machine self.old) }
         requires mem { P.mem port.old ≡ length code.old.program.bytes }
-        requires counted { P.counted port.old ≤ progress_of self.old }
+        requires counted { P.counted port.old ≤ progress_of (thread_in C.machine self.old) }
         requires small { length code.old.program.bytes < 2 ^ 32 }
         requires budget { budget ≤ most_budget }
         ensures program { code.new.program ≡ code.old.program }
         ensures mem { P.mem port.new ≡ P.mem port.old }
         ensures few { P.counted port.new ≤ 17 * budget + most_output + 16 }
-        ensures ends { (start : Machine) → HasCome code.old.program budget start [] self.old
-            → (pairs : List Pair) × (Leads P.replies port.old pairs port.new × EndsBy (P.refuses port.new) code.old.program budget start pairs result self.new.steps self.new.output) }
+        ensures ends { (start : MachineOf C.Instr C.State) → HasComeOf C.set code.old.program budget start [] (thread_in C.machine self.old)
+            → (pairs : List Pair) × (Leads P.replies port.old pairs port.new × EndsByOf C.set (P.refuses port.new) code.old.program budget start pairs result self.new.steps self.new.output) }
     {
         match self.run_on(code, budget, port, false) {
             Rest::Stopped(stop) => stop,
@@ -164,24 +141,24 @@ impl Guest<Cpu> {
     /// Goes on as [`Guest::run`] does; where `starts` holds, also up to a call that starts a thread.
     pub(crate) fn run_on<P: Port>(
         &mut self,
-        code: &mut Code,
+        code: &mut Code<C::Ready>,
         budget: u64,
         port: &mut P,
         starts: bool,
     ) -> Rest
-        requires running { IsRunning (length code.old.program.bytes) budget self.old }
+        requires running { IsRunning (length code.old.program.bytes) budget (thread_in C.machine self.old) }
         requires mem { P.mem port.old ≡ length code.old.program.bytes }
-        requires counted { P.counted port.old ≤ progress_of self.old }
+        requires counted { P.counted port.old ≤ progress_of (thread_in C.machine self.old) }
         requires small { length code.old.program.bytes < 2 ^ 32 }
         requires budget { budget ≤ most_budget }
         ensures program { code.new.program ≡ code.old.program }
         ensures mem { P.mem port.new ≡ P.mem port.old }
-        ensures counted { P.counted port.new ≤ progress_of self.new }
+        ensures counted { P.counted port.new ≤ progress_of (thread_in C.machine self.new) }
         ensures few { P.counted port.new ≤ 17 * budget + most_output + 16 }
-        ensures bounded { IsBounded self.new }
-        ensures comes { (from : Point) (before : List Pair) → HasComeFrom starts code.old.program budget from before self.old
-            → (pairs : List Pair) × (Leads P.replies port.old pairs port.new × RestsBy starts (P.refuses port.new) code.old.program budget from (before ++ pairs) result self.new) }
-        ensures within { RestsWithin budget result self.new }
+        ensures bounded { IsBounded (thread_in C.machine self.new) }
+        ensures comes { (from : PointOf C.Instr C.State) (before : List Pair) → HasComeFromOf C.set starts code.old.program budget from before (thread_in C.machine self.old)
+            → (pairs : List Pair) × (Leads P.replies port.old pairs port.new × RestsByOf C.set starts (P.refuses port.new) code.old.program budget from (before ++ pairs) result (thread_in C.machine self.new)) }
+        ensures within { RestsWithin budget result (thread_in C.machine self.new) }
         ensures starts { result ≡ Rest.Starts → starts ≡ true }
     {
         let image = code.image();

@@ -6,12 +6,12 @@ ghost use Rattle.history.specs.Started.{MayAct};
 ghost use Rattle.shared_memory.specs.Seen.{IsFront, IsSingle};
 ghost use Rattle.a32_step.specs.Machine.{between};
 ghost use Rattle.guest_calls.specs.Bound.{most_accesses_in};
-ghost use Rattle.guest_thread.specs.Outcome.{IsEndOn};
+ghost use Rattle.guest_thread.specs.Outcome.{IsEndOnOf};
 
 use crate::ends::GuestEnd;
 use crate::guests::Guest;
 use crate::sharing::Sharing;
-use a32_step::{Code, Cpu, Stop};
+use a32_step::{Code, Core, Stop};
 use guest_calls::Output;
 use shared_memory::SharedMemory;
 use std::sync::Wait;
@@ -28,11 +28,11 @@ pub struct Finished<P> {
 ///
 /// What it did is in what the pass has seen of the history: its accesses there are those of a run of the core, with this end.
 /// They are at most 16 for each of its steps, and at most 65,552 besides.
-pub fn run_thread<M: SharedMemory, R: Wait>(
+pub fn run_thread<M: SharedMemory, C: Core, R: Wait>(
     rt: &R,
     mem: &M,
-    mut code: Code,
-    cpu: Cpu,
+    mut code: Code<C::Ready>,
+    cpu: C,
     pass: M::Pass,
     out: Output,
     budget: u64,
@@ -41,10 +41,10 @@ pub fn run_thread<M: SharedMemory, R: Wait>(
     requires single { (t : ℕ) × IsSingle t (M.numbers pass) × (MayAct (M.origin mem.now).first t (M.seen pass)) }
     requires none { (t : ℕ) → IsSingle t (M.numbers pass) → entries_of t (M.seen pass) ≡ [] }
     requires whole { length code.program.bytes ≡ (M.origin mem.now).size.mem }
-    requires between { cpu ≡ between cpu.state }
+    requires between { C.machine cpu ≡ between (C.machine cpu).state }
     requires empty { out ≡ [] }
     requires budget { budget ≤ most_budget }
-    ensures end { IsEndOn code.entry.program (M.origin mem.now).size budget cpu (M.seen result.pass) result.end }
+    ensures end { IsEndOnOf C.set code.entry.program (M.origin mem.now).size budget (C.machine cpu) (M.seen result.pass) result.end }
     ensures spends { (addr : ℕ) → result.end.stop ≡ Stop.TagLimit addr → (M.origin mem.now).spends ≡ true }
     ensures thread { IsSingle result.end.thread (M.numbers pass) }
     ensures single { IsSingle result.end.thread (M.numbers result.pass) }
@@ -54,6 +54,7 @@ pub fn run_thread<M: SharedMemory, R: Wait>(
 {
     let most = mem.size().mem();
     prove!(most <= 16_777_216);
+    C::is_sound();
     let thread = mem.thread(&pass);
     let mut sharing = Sharing::new(rt, mem, pass, thread);
     let mut guest = Guest::new(cpu, out);

@@ -11,7 +11,7 @@ loop-t-preserved g c =
       memory = c.split-pass.ensures.memory.0 ∙ c.loop-t.invariant.memory;
       seen = c.split-pass.ensures.seen.0 ∙ c.loop-t.invariant.seen;
       left = one_less c.args.count c.loop-t.t (g.M.SharedMemory.numbers c.loop-t.first) (g.M.SharedMemory.numbers c.split-pass.new.pass) above c.split-pass.ensures.rest c.loop-t.invariant.left;
-      fresh = fresh_pushed g.M.SharedMemory.home g.M.SharedMemory.numbers g.M.SharedMemory.seen (g.M.SharedMemory.id c.args.mem.now) (g.M.SharedMemory.origin c.args.mem.now) c.args.image.now
+      fresh = fresh_pushed g.C.Core.set g.C.Core.machine g.M.SharedMemory.home g.M.SharedMemory.numbers g.M.SharedMemory.seen (g.M.SharedMemory.id c.args.mem.now) (g.M.SharedMemory.origin c.args.mem.now) c.args.image.now
           c.loop-t.jobs.items c.push.new.self.items job c.in_ok-push.ensures.items c.loop-t.invariant.fresh c.in_ok-job_of.ensures.fresh;
       len = omega (arith, longer, c.loop-t.invariant.len);
       threads = threads_more c.loop-t.jobs.items c.push.new.self.items job (vec_len c.loop-t.jobs) (vec_len c.push.new.self) c.loop-t.t c.in_ok-push.ensures.items c.in_ok-job_of.ensures.thread

@@ -10,7 +10,7 @@ invariant-loop-t g l = record {
   memory : g.M.SharedMemory.home l.first ≡ g.M.SharedMemory.home l.fn.first;
   seen : g.M.SharedMemory.seen l.first ≡ g.M.SharedMemory.seen l.fn.first;
   left : AreLeft l.count l.t (g.M.SharedMemory.numbers l.first);
-  fresh : AreFresh g.M.SharedMemory.home g.M.SharedMemory.numbers g.M.SharedMemory.seen (g.M.SharedMemory.id l.mem) (g.M.SharedMemory.origin l.mem) l.image l.jobs.items;
+  fresh : AreFresh g.C.Core.set g.C.Core.machine g.M.SharedMemory.home g.M.SharedMemory.numbers g.M.SharedMemory.seen (g.M.SharedMemory.id l.mem) (g.M.SharedMemory.origin l.mem) l.image l.jobs.items;
   len : vec_len l.jobs + 1 ≡ l.t;
   threads : threads_of l.jobs.items ≡ range_with_len 1 (vec_len l.jobs);
 }

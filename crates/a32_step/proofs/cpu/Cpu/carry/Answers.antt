@@ -7,26 +7,26 @@ returns-then-not-found-clause-carried g c = not_on c.requires.rest
 
 pub returns-then-not-meets-clause-carried : goal.returns-then-not-meets-clause-carried
 returns-then-not-meets-clause-carried g c =
-    let it = found _ _ _ c.self.view_is c.requires.rest c.pc-pc.ensures.pc c.find-found.ensures.program c.at-known.ensures.instr c.at-known.ensures.cond c.meets.ensures in
+    let it = found _ _ _ c.self.view_is c.requires.rest c.pc-pc.ensures.pc c.find-found.ensures.program c.at-known.ensures.instr c.at-known.ensures.right c.meets.ensures in
     passed_over it _ c.if-not-meets.true c.advance.ensures.state
 
 pub put_back-requires : goal.put_back-requires
 put_back-requires g c =
-    let it = found _ _ _ c.self.view_is c.requires.rest c.pc-pc.ensures.pc c.find-found.ensures.program c.at-known.ensures.instr c.at-known.ensures.cond c.meets.ensures in
+    let it = found _ _ _ c.self.view_is c.requires.rest c.pc-pc.ensures.pc c.find-found.ensures.program c.at-known.ensures.instr c.at-known.ensures.right c.meets.ensures in
     (c.at-known.result.now.instr, known_still it c.if-not-meets.false (c.image-image.ensures ∙ c.find-found.ensures.program) c.act.ensures.acted c.in-Held.is)
 
 pub returns-in-Complete-clause-carried : goal.returns-in-Complete-clause-carried
 returns-in-Complete-clause-carried g c =
-    let it = found _ _ _ c.self.view_is c.requires.rest c.pc-pc.ensures.pc c.find-found.ensures.program c.at-known.ensures.instr c.at-known.ensures.cond c.meets.ensures in
+    let it = found _ _ _ c.self.view_is c.requires.rest c.pc-pc.ensures.pc c.find-found.ensures.program c.at-known.ensures.instr c.at-known.ensures.right c.meets.ensures in
     carried_through it c.if-not-meets.false (c.image-image.ensures ∙ c.find-found.ensures.program) c.act.ensures.acted _ c.in-Complete.is
 
 pub returns-in-Complete-clause-room : goal.returns-in-Complete-clause-room
 returns-in-Complete-clause-room g c =
-    let it = found _ _ _ c.self.view_is c.requires.rest c.pc-pc.ensures.pc c.find-found.ensures.program c.at-known.ensures.instr c.at-known.ensures.cond c.meets.ensures in
+    let it = found _ _ _ c.self.view_is c.requires.rest c.pc-pc.ensures.pc c.find-found.ensures.program c.at-known.ensures.instr c.at-known.ensures.right c.meets.ensures in
     subst (λ (rs : List ℕ). length rs ≤ 16)
     (sym (none_left it c.if-not-meets.false (c.image-image.ensures ∙ c.find-found.ensures.program) c.act.ensures.acted c.in-Complete.is)) (search rules)
 
 pub returns-in-Held-clause-carried : goal.returns-in-Held-clause-carried
 returns-in-Held-clause-carried g c =
-    let it = found _ _ _ c.self.view_is c.requires.rest c.pc-pc.ensures.pc c.find-found.ensures.program c.at-known.ensures.instr c.at-known.ensures.cond c.meets.ensures in
+    let it = found _ _ _ c.self.view_is c.requires.rest c.pc-pc.ensures.pc c.find-found.ensures.program c.at-known.ensures.instr c.at-known.ensures.right c.meets.ensures in
     carried_on it c.if-not-meets.false (c.image-image.ensures ∙ c.find-found.ensures.program) c.act.ensures.acted c.in-Held.is c.put_back.ensures.passage c.put_back.ensures.machine
