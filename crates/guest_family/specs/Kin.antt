@@ -8,6 +8,7 @@ use Rattle.history.specs.Started.{child_of}
 use Rattle.history.specs.declared.entry.Entry.{Entry}
 use Rattle.shared_memory.specs.Origin.{Origin}
 use Rattle.shared_memory.specs.Seen.{IsSingle}
+use Rattle.a32_step.specs.Machine.{a32}
 use Rattle.guest_thread.specs.Crews.{IsFresh}
 use Rattle.guest_family.specs.declared.kin.Kin.{Kin}
 use Rattle.guest_family.specs.declared.kin.Spare.{Spare}
@@ -41,7 +42,7 @@ module _ {P : Type 0} (home : P → TableId) (numbers : P → ℕ → Bool) (see
   -- a thread that begins by itself is at its start, with all threads that it may start, in order of number, and with room for the
   -- ends of all of them
   pub record IsStarter (mem : TableId) (origin : Origin) (program : Program) (starter : Starter P) : Type 0 where
-    pub job : IsFresh home numbers seen mem origin program starter.job
+    pub job : IsFresh a32 (λ m. m) home numbers seen mem origin program starter.job
     pub spares : AreSpares mem program starter.spares.items
     pub threads : spares_of starter.spares.items ≡ own_numbers origin.first origin.spare starter.job.thread
     pub empty : (starter.ends.items ≡ []) × (vec_len starter.ends ≡ 0)

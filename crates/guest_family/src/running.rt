@@ -8,7 +8,7 @@ ghost use Rattle.guest_thread.specs.Begun.{stock_of};
 ghost use Rattle.guest_family.specs.Next.{HasNoneLeft, IsAligned, IsNext, after_answer, refusal_of};
 ghost use Rattle.guest_family.specs.UnderWay.{HasEnded, IsUnderWay};
 
-use a32_step::Code;
+use a32_step::{Code, Conditional};
 use guest_thread::{Finished, Part, Paused, go_on};
 use shared_memory::StartMemory;
 use std::sync::Wait;
@@ -31,7 +31,7 @@ pub(crate) enum Next<P> {
 pub(crate) fn to_next<M: StartMemory, R: Wait>(
     rt: &R,
     mem: &M,
-    code: &mut Code,
+    code: &mut Code<Conditional>,
     part: Part<M::Pass>,
     budget: u64,
 ) -> Next<M::Pass>
@@ -74,7 +74,7 @@ pub(crate) fn answered<P>(mut part: Part<P>, value: u32) -> Part<P>
 pub(crate) fn run_out<M: StartMemory, R: Wait>(
     rt: &R,
     mem: &M,
-    code: &mut Code,
+    code: &mut Code<Conditional>,
     mut part: Part<M::Pass>,
     budget: u64,
 ) -> Finished<M::Pass>
@@ -102,7 +102,7 @@ pub(crate) fn run_out<M: StartMemory, R: Wait>(
 pub(crate) fn to_start<M: StartMemory, R: Wait>(
     rt: &R,
     mem: &M,
-    code: &mut Code,
+    code: &mut Code<Conditional>,
     mut part: Part<M::Pass>,
     budget: u64,
 ) -> Next<M::Pass>

@@ -17,7 +17,7 @@ ghost use denote.Param.Send.{IsSync, IsSend};
 
 use crate::kin::Spare;
 use crate::running::{Next, answered, run_out, to_start};
-use a32_step::{Code, Cpu};
+use a32_step::{Code, Conditional, Cpu};
 use guest_calls::Output;
 use guest_thread::{Finished, GuestEnd, Part, Ran, gather};
 use llsc_base::{Image, MachineSize};
@@ -30,7 +30,7 @@ use std::thread::{Threads, join};
 #[derive(Drop)]
 pub(crate) struct StarterPart<'i, P> {
     pub(crate) part: Part<P>,
-    pub(crate) code: Code<'i>,
+    pub(crate) code: Code<'i, Conditional>,
     pub(crate) spares: Vec<Spare<'i, P>>,
     pub(crate) ends: Vec<GuestEnd>,
 }

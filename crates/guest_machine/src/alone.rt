@@ -4,7 +4,7 @@ ghost use Rattle.llsc_base.specs.Limits.{most_budget};
 ghost use Rattle.guest_machine.specs.Alone.{IsSoloEnd};
 
 use crate::serving::serve;
-use a32_step::{Ask, Code, Port};
+use a32_step::{Ask, Code, Cpu, Port};
 use guest_calls::reply_of;
 use guest_thread::{Counts, Guest, GuestEnd};
 use history::PlainMemory;
@@ -63,7 +63,7 @@ pub fn solo(
 {
     let mem = size.mem();
     prove!(mem <= 16_777_216);
-    let mut guest = Guest::start(alloc, image, size, 0)?;
+    let mut guest = Guest::<Cpu>::start(alloc, image, size, 0)?;
     let mut alone = Alone {
         memory: PlainMemory::sized(alloc, image.bytes(), size)?,
         counts: Counts::none(),

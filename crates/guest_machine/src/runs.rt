@@ -2,13 +2,13 @@
 ghost use Rattle.std.specs.Prelude.{◌≡◌, ◌<◌, ◌≤◌, ◌+◌, ℕ, [], ◌∷◌, ◌++◌, ◌^◌, All, IfNone, IfSome, MatchOption, true, length, vec_len, vec_capacity};
 ghost use Rattle.llsc_base.specs.Limits.{most_budget};
 ghost use Rattle.shared_memory.specs.Seen.{IsFront, IsOneOf, SaysAllOf, joint};
-ghost use Rattle.guest_thread.specs.Crews.{AreFresh, HaveEnded, IsEndOf, IsFresh, IsReady};
+ghost use Rattle.guest_thread.specs.Crews.{AreFresh, HaveEnded, IsEndOf, IsFresh, IsReady, threads_of};
 ghost use Rattle.guest_thread.specs.Counting.{accesses_counted, counts_in};
-ghost use Rattle.guest_thread.specs.Outcome.{AreEndsOn};
+ghost use Rattle.guest_thread.specs.Outcome.{AreEndsOnOf};
 ghost use Rattle.guest_thread.specs.declared.ends.GuestEnd.{GuestEnd};
 ghost use denote.Param.Send.{IsSync, IsSend};
 
-use a32_step::Stop;
+use a32_step::{Core, Stop};
 use guest_thread::{Crew, Finished, GuestEnd, Job, Ran, begin, gather, run_thread, take_last};
 use llsc_base::Image;
 use shared_memory::SharedMemory;
@@ -16,17 +16,17 @@ use std::sync::Wait;
 use std::thread::{Threads, join};
 
 /// Runs one job.
-fn run_job<M: SharedMemory, R: Wait>(
+fn run_job<M: SharedMemory, C: Core, R: Wait>(
     rt: &R,
     mem: &M,
     image: &Image,
-    job: Job<M::Pass>,
+    job: Job<M::Pass, C, C::Ready>,
     budget: u64,
 ) -> Finished<M::Pass>
-    requires fresh { IsFresh M.home M.numbers M.seen (M.id mem.now) (M.origin mem.now) image.now job }
+    requires fresh { IsFresh C.set C.machine M.home M.numbers M.seen (M.id mem.now) (M.origin mem.now) image.now job }
     requires whole { length image.now.bytes ≡ (M.origin mem.now).size.mem }
     requires budget { budget ≤ most_budget }
-    ensures end { IsEndOf image.now (M.origin mem.now) budget (M.seen result.pass) job.entry.thread result.end }
+    ensures end { IsEndOf C.set image.now (M.origin mem.now) budget (M.seen result.pass) job.entry.thread result.end }
     ensures number { IsOneOf job.entry.thread (M.numbers result.pass) }
     ensures begins { IsFront (M.seen job.entry.pass) (M.seen result.pass) }
     ensures memory { M.home result.pass ≡ M.id mem.now }
@@ -43,22 +43,22 @@ fn run_job<M: SharedMemory, R: Wait>(
 
 /// Runs the jobs beside each other: the last on a host thread of its own, those before it so in turn.
 #[cycle(jobs)]
-fn run_jobs<M: SharedMemory, R: Threads + Wait + Sync>(
+fn run_jobs<M: SharedMemory, C: Core, R: Threads + Wait + Sync>(
     rt: &R,
     mem: &M,
     image: &Image,
-    first: Job<M::Pass>,
-    mut jobs: Vec<Job<M::Pass>>,
+    first: Job<M::Pass, C, C::Ready>,
+    mut jobs: Vec<Job<M::Pass, C, C::Ready>>,
     ends: Vec<GuestEnd>,
     budget: u64,
 ) -> Ran<M::Pass>
-    requires first { IsFresh M.home M.numbers M.seen (M.id mem.now) (M.origin mem.now) image.now first }
-    requires others { AreFresh M.home M.numbers M.seen (M.id mem.now) (M.origin mem.now) image.now jobs.items }
+    requires first { IsFresh C.set C.machine M.home M.numbers M.seen (M.id mem.now) (M.origin mem.now) image.now first }
+    requires others { AreFresh C.set C.machine M.home M.numbers M.seen (M.id mem.now) (M.origin mem.now) image.now jobs.items }
     requires empty { (ends.items ≡ []) × (vec_len ends ≡ 0) }
     requires room { vec_len jobs < vec_capacity ends }
     requires whole { length image.now.bytes ≡ (M.origin mem.now).size.mem }
     requires budget { budget ≤ most_budget }
-    ensures ended { HaveEnded M.home M.numbers M.seen (M.id mem.now) (M.origin mem.now) image.now budget (first.entry ∷ jobs.entry.items) result }
+    ensures ended { HaveEnded C.set M.home M.numbers M.seen (M.id mem.now) (M.origin mem.now) image.now budget (threads_of (first.entry ∷ jobs.entry.items)) result }
     ensures begins { IsFront (M.seen first.entry.pass) (M.seen result.pass) }
     ensures len { vec_len result.ends ≡ vec_len jobs.entry + 1 }
     ensures capacity { vec_capacity ends ≤ vec_capacity result.ends }
@@ -69,18 +69,18 @@ fn run_jobs<M: SharedMemory, R: Threads + Wait + Sync>(
     let (ran, done) = join(
         rt,
         move || -> Ran<M::Pass>
-            requires { IsSync R.row × IsFresh M.home M.numbers M.seen (M.id mem.now) (M.origin mem.now) image.now first
-                × AreFresh M.home M.numbers M.seen (M.id mem.now) (M.origin mem.now) image.now jobs.items
+            requires { IsSync R.row × IsFresh C.set C.machine M.home M.numbers M.seen (M.id mem.now) (M.origin mem.now) image.now first
+                × AreFresh C.set C.machine M.home M.numbers M.seen (M.id mem.now) (M.origin mem.now) image.now jobs.items
                 × ((ends.items ≡ []) × (vec_len ends ≡ 0)) × (vec_len jobs < vec_capacity ends)
                 × (length image.now.bytes ≡ (M.origin mem.now).size.mem) × (budget ≤ most_budget) }
-            ensures { HaveEnded M.home M.numbers M.seen (M.id mem.entry.now) (M.origin mem.entry.now) image.entry.now budget (first.entry ∷ jobs.entry.items) result
+            ensures { HaveEnded C.set M.home M.numbers M.seen (M.id mem.entry.now) (M.origin mem.entry.now) image.entry.now budget (threads_of (first.entry ∷ jobs.entry.items)) result
                 × IsFront (M.seen first.entry.pass) (M.seen result.pass)
                 × (vec_len result.ends ≡ vec_len jobs.entry + 1) × (vec_capacity ends ≤ vec_capacity result.ends) }
         { run_jobs(rt, mem, image, first, jobs, ends, budget) },
         move || -> Finished<M::Pass>
-            requires { IsFresh M.home M.numbers M.seen (M.id mem.now) (M.origin mem.now) image.now last
+            requires { IsFresh C.set C.machine M.home M.numbers M.seen (M.id mem.now) (M.origin mem.now) image.now last
                 × (length image.now.bytes ≡ (M.origin mem.now).size.mem) × (budget ≤ most_budget) }
-            ensures { IsEndOf image.entry.now (M.origin mem.entry.now) budget (M.seen result.pass) last.entry.thread result.end
+            ensures { IsEndOf C.set image.entry.now (M.origin mem.entry.now) budget (M.seen result.pass) last.entry.thread result.end
                 × IsOneOf last.entry.thread (M.numbers result.pass) × (M.home result.pass ≡ M.id mem.entry.now) }
         { run_job(rt, mem, image, last, budget) },
     );
@@ -92,17 +92,17 @@ fn run_jobs<M: SharedMemory, R: Threads + Wait + Sync>(
 /// taken from the allocator.
 ///
 /// What they did is in what the pass has seen of the history: a thread's accesses there are those of its run, with its end.
-pub fn run_all<M: SharedMemory, R: Threads + Wait + Sync>(
+pub fn run_all<M: SharedMemory, C: Core, R: Threads + Wait + Sync>(
     rt: &R,
     mem: &M,
     image: &Image,
-    crew: Crew<M::Pass>,
+    crew: Crew<M::Pass, C, C::Ready>,
     budget: u64,
 ) -> Ran<M::Pass>
-    requires crew { IsReady M.home M.numbers M.seen (M.id mem.now) (M.origin mem.now) image.now crew }
+    requires crew { IsReady C.set C.machine M.home M.numbers M.seen (M.id mem.now) (M.origin mem.now) image.now crew }
     requires whole { length image.now.bytes ≡ (M.origin mem.now).size.mem }
     requires budget { budget ≤ most_budget }
-    ensures ends { AreEndsOn image.now (M.origin mem.now).size budget (M.seen result.pass) result.ends.items }
+    ensures ends { AreEndsOnOf C.set image.now (M.origin mem.now).size budget (M.seen result.pass) result.ends.items }
     ensures spends { All (λ (end : GuestEnd). (addr : ℕ) → end.stop ≡ Stop.TagLimit addr → (M.origin mem.now).spends ≡ true) result.ends.items }
     ensures few { All (λ (end : GuestEnd). accesses_counted (counts_in end) < 2 ^ 45) result.ends.items }
     ensures numbers { (t : ℕ) → t < (M.origin mem.now).size.threads → IsOneOf t (M.numbers result.pass) }

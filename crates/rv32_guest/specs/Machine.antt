@@ -5,7 +5,7 @@ use Rattle.a32_instr.specs.declared.instructions.DecodeFault.{DecodeFault}
 use Rattle.a32_instr.specs.declared.instructions.DecodeFault.TheVariants as fault
 use Rattle.a32_instr.specs.declared.outside.Stop.{Stop}
 use Rattle.a32_instr.specs.declared.outside.Stop.TheVariants as stop
-use Rattle.a32_step.specs.Machine.{MachineOf, InstructionSet, between}
+use Rattle.a32_step.specs.Machine.{MachineOf, InstructionSet, start_in}
 use Rattle.rv32_guest.specs.declared.instructions.RvInstr.{RvInstr}
 use Rattle.rv32_guest.specs.State.{RvState, answered}
 use Rattle.rv32_guest.specs.Calls.{call_of}
@@ -29,9 +29,17 @@ instr_of_word pc (Some word) = decoded pc (meaning table word)
 abbrev pub instr_at : Program → ℕ → Result RvInstr Stop
 instr_at program pc = instr_of_word pc (word_at program pc)
 
+-- The start of thread t of n: x10 has t, x11 has n, x2 has the top of the stack, and every other register is 0.
+abbrev pub state_at_start : (entry t n sp : ℕ) → RvState
+state_at_start entry t n sp = record {
+  regs = 0 ∷ 0 ∷ sp ∷ 0 ∷ 0 ∷ 0 ∷ 0 ∷ 0 ∷ 0 ∷ 0 ∷ t ∷ n ∷ 0 ∷ 0 ∷ 0 ∷ 0 ∷ 0 ∷ 0 ∷ 0 ∷ 0 ∷ 0 ∷ 0 ∷ 0 ∷ 0 ∷ 0 ∷ 0 ∷ 0 ∷ 0 ∷ 0 ∷ 0 ∷ 0 ∷ 0 ∷ [];
+  pc = entry;
+}
+
 -- the instructions of RV32I and Zalrsc
 abbrev pub rv32 : InstructionSet RvInstr RvState
 rv32 = record {
+  start = state_at_start;
   found = λ program state. instr_at program state.pc;
   begins = λ instr program state. acts instr program [] state;
   acts = acts;
@@ -39,9 +47,5 @@ rv32 = record {
   call_of = call_of;
 }
 
--- The start of thread t of n: x10 has t, x11 has n, x2 has the top of the stack, and every other register is 0.
 abbrev pub start_of : ℕ → ℕ → ℕ → ℕ → Machine
-start_of entry t n sp = between (record {
-  regs = 0 ∷ 0 ∷ sp ∷ 0 ∷ 0 ∷ 0 ∷ 0 ∷ 0 ∷ 0 ∷ 0 ∷ t ∷ n ∷ 0 ∷ 0 ∷ 0 ∷ 0 ∷ 0 ∷ 0 ∷ 0 ∷ 0 ∷ 0 ∷ 0 ∷ 0 ∷ 0 ∷ 0 ∷ 0 ∷ 0 ∷ 0 ∷ 0 ∷ 0 ∷ 0 ∷ 0 ∷ [];
-  pc = entry;
-})
+start_of = start_in rv32

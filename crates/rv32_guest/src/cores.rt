@@ -1,22 +1,34 @@
 //! The core of a RISC-V guest as one of the cores that run guests.
 use crate::calls::call_of;
 use crate::cpu::RvCpu;
+use crate::instructions::RvInstr;
 use a32_instr::CallAsk;
-use a32_step::{Core, Wanted};
+use a32_step::{Code, Core, Passage, Port, Wanted};
 use llsc_base::Image;
 
 impl Core for RvCpu {
-    ghost use Rattle.rv32_guest.specs.declared.instructions.RvInstr.{RvInstr};
+    type Ready = RvInstr;
+
+    ghost use Rattle.rv32_guest.specs.declared.instructions.RvInstr.{RvInstr as RvInstruction};
     ghost use Rattle.rv32_guest.specs.Machine.{rv32};
     ghost use Rattle.rv32_guest.specs.State.{RvState};
 
-    ghost Instr = { RvInstr };
+    ghost Instr = { RvInstruction };
 
     ghost State = { RvState };
 
     ghost set = { rv32 };
 
     ghost machine = { λ m. m };
+
+    fn start(entry: u32, t: u32, n: u32, sp: u32) -> RvCpu {
+        RvCpu::start(entry, t, n, sp)
+    }
+
+    #[inline(always)]
+    fn carry<P: Port>(&mut self, code: &mut Code<RvInstr>, port: &mut P) -> Passage {
+        RvCpu::carry(self, code, port)
+    }
 
     #[inline(always)]
     fn next(&mut self, image: &Image) -> Wanted {

@@ -16,6 +16,8 @@ mod jumps;
 pub mod laws;
 mod memory;
 mod outcomes;
+mod passages;
+mod ready;
 mod registers;
 mod running;
 mod system;

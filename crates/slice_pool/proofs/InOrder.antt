@@ -9,6 +9,7 @@ use Rattle.shared_memory.specs.Origin.{Origin}
 use Rattle.shared_memory.specs.Seen.{IsFront, IsOneOf, SaysAllOf, joint}
 use Rattle.guest_thread.specs.Crews.{AreEndsOf, AreTaken, IsEndOf}
 use Rattle.guest_thread.specs.declared.ends.GuestEnd.{GuestEnd}
+use Rattle.a32_step.specs.Machine.{a32}
 use Rattle.guest_thread.proofs.Crewed.{all_later, ended_later, one_more, taken_more}
 use Rattle.guest_thread.proofs.Prepared.{range_more}
 use Rattle.slice_pool.specs.Ends.{AreTurnsOfEach, AreLeft, HaveEndedUpto, one}
@@ -43,17 +44,17 @@ module _ {P : Type 0} (home : P → TableId) (numbers : P → ℕ → Bool) (see
       → HaveEndedUpto home numbers seen origin key (gone.end.thread + 1) new more_ends more_turns
   joins old new gone ends more_ends turns more_turns ran is memory joined fronts mine yours ends_are turns_are =
       let t = gone.end.thread in
-      let before : AreEndsOf key.program origin key.budget (seen new) (range_with_len 0 t) ends =
-      all_later key.program origin key.budget (seen old) (seen new) (numbers old) (range_with_len 0 t) ends fronts.0 mine ran.taken ran.ends_are in
-      let last : IsEndOf key.program origin key.budget (seen new) t gone.end =
-      ended_later key.program origin key.budget (seen gone.pass) (seen new) t gone.end fronts.1 (yours t is.single.has) is.end in
+      let before : AreEndsOf a32 key.program origin key.budget (seen new) (range_with_len 0 t) ends =
+      all_later a32 key.program origin key.budget (seen old) (seen new) (numbers old) (range_with_len 0 t) ends fronts.0 mine ran.taken ran.ends_are in
+      let last : IsEndOf a32 key.program origin key.budget (seen new) t gone.end =
+      ended_later a32 key.program origin key.budget (seen gone.pass) (seen new) t gone.end fronts.1 (yours t is.single.has) is.end in
       record {
         memory = memory ∙ ran.memory;
         taken = subst (AreTaken (numbers new)) (upto_more t)
             (taken_more (numbers old) (numbers gone.pass) (numbers new) t (range_with_len 0 t) joined ran.taken is.single.has);
-        ends_are = subst (λ ts. AreEndsOf key.program origin key.budget (seen new) ts more_ends) (upto_more t)
-            (subst (AreEndsOf key.program origin key.budget (seen new) (range_with_len 0 t ++ t ∷ [])) (sym ends_are)
-            (one_more key.program origin key.budget (seen new) t gone.end (range_with_len 0 t) ends before last));
+        ends_are = subst (λ ts. AreEndsOf a32 key.program origin key.budget (seen new) ts more_ends) (upto_more t)
+            (subst (AreEndsOf a32 key.program origin key.budget (seen new) (range_with_len 0 t ++ t ∷ [])) (sym ends_are)
+            (one_more a32 key.program origin key.budget (seen new) t gone.end (range_with_len 0 t) ends before last));
         turns_are = subst (AreTurnsOfEach key.slice more_ends) (sym turns_are)
             (subst (λ l. AreTurnsOfEach key.slice l (turns ++ gone.turns ∷ [])) (sym ends_are)
             (turns_more key.slice gone.turns gone.end ends turns ran.turns_are is.turns));
@@ -63,13 +64,13 @@ module _ {P : Type 0} (home : P → TableId) (numbers : P → ℕ → Bool) (see
   pub first_joins : (gone : Gone P) (ends : List GuestEnd) (turns : List ℕ) → gone.end.thread ≡ 0 → IsGone home numbers seen origin key gone
       → ends ≡ gone.end ∷ [] → turns ≡ gone.turns ∷ [] → HaveEndedUpto home numbers seen origin key 1 gone.pass ends turns
   first_joins gone ends turns zeroth is ends_are turns_are =
-      let first : IsEndOf key.program origin key.budget (seen gone.pass) 0 gone.end =
-      subst (λ t. IsEndOf key.program origin key.budget (seen gone.pass) t gone.end) zeroth is.end in
+      let first : IsEndOf a32 key.program origin key.budget (seen gone.pass) 0 gone.end =
+      subst (λ t. IsEndOf a32 key.program origin key.budget (seen gone.pass) t gone.end) zeroth is.end in
       record {
         memory = is.memory;
         taken = All-cons (λ u. IsOneOf u (numbers gone.pass)) 0 [] (subst (λ t. IsOneOf t (numbers gone.pass)) zeroth is.single.has)
             (All-nil (λ u. IsOneOf u (numbers gone.pass)));
-        ends_are = subst (AreEndsOf key.program origin key.budget (seen gone.pass) (0 ∷ [])) (sym ends_are) (first, tt);
+        ends_are = subst (AreEndsOf a32 key.program origin key.budget (seen gone.pass) (0 ∷ [])) (sym ends_are) (first, tt);
         turns_are = subst (AreTurnsOfEach key.slice ends) (sym turns_are)
             (subst (λ l. AreTurnsOfEach key.slice l (gone.turns ∷ [])) (sym ends_are) (is.turns, tt));
       }

@@ -83,7 +83,7 @@ module _ {P : Type 0} (home : P → TableId) (numbers : P → ℕ → Bool) (see
 
   ended_as : (x : Waiting P) (upto : ℕ) (done : Finished P) → origin.first ≡ origin.size.threads → budget ≤ most_budget → IsUnderWay home numbers seen key x
       → IsPiece home numbers seen mem origin program false upto budget x.thread x.part (Ended done)
-      → IsEndOf program origin budget (seen done.pass) x.thread done.end
+      → IsEndOf a32 program origin budget (seen done.pass) x.thread done.end
   ended_as x upto done begin small was goes =
       let start = thread_start program origin.size origin.size.threads x.thread in
       let on = ended_on x upto done was goes in
@@ -104,7 +104,7 @@ module _ {P : Type 0} (home : P → TableId) (numbers : P → ℕ → Bool) (see
           memory = goes.memory;
           single = subst (λ u. IsSingle u (numbers done.pass)) t goes.single;
           known = subst (λ u. u < origin.size.threads) t was.known;
-          end = subst (λ u. IsEndOf program origin budget (seen done.pass) u done.end) t (ended_as x upto done begin small was goes);
+          end = subst (λ u. IsEndOf a32 program origin budget (seen done.pass) u done.end) t (ended_as x upto done begin small was goes);
           turns = turns_to slice x.turns x.part.steps done.end.steps was.turns goes.stands.least (let m = goes.stands.most in let u = to.most in omega (arith, m, u));
         },
         goes.stands.thread,

@@ -4,6 +4,7 @@ use Rattle.std.specs.List.{range_with_len}
 use Rattle.atomic_table.specs.Seated.{TableId}
 use Rattle.history.specs.declared.entry.Entry.{Entry}
 use Rattle.shared_memory.specs.Origin.{Origin}
+use Rattle.a32_step.specs.Machine.{a32}
 use Rattle.guest_thread.specs.Crews.{AreEndsOf, AreTaken}
 use Rattle.guest_thread.specs.declared.ends.GuestEnd.{GuestEnd}
 use Rattle.slice_pool.specs.Over.{AreTurnsOf, weighs}
@@ -30,5 +31,5 @@ module _ {P : Type 0} (home : P → TableId) (numbers : P → ℕ → Bool) (see
   pub record HaveEndedUpto (origin : Origin) (key : Key) (count : ℕ) (pass : P) (ends : List GuestEnd) (turns : List ℕ) : Type 0 where
     pub memory : home pass ≡ key.memory
     pub taken : AreTaken (numbers pass) (range_with_len 0 count)
-    pub ends_are : AreEndsOf key.program origin key.budget (seen pass) (range_with_len 0 count) ends
+    pub ends_are : AreEndsOf a32 key.program origin key.budget (seen pass) (range_with_len 0 count) ends
     pub turns_are : AreTurnsOfEach key.slice ends turns

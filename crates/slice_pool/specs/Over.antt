@@ -4,6 +4,7 @@ use Rattle.atomic_table.specs.Seated.{TableId}
 use Rattle.history.specs.declared.entry.Entry.{Entry}
 use Rattle.shared_memory.specs.Origin.{Origin}
 use Rattle.shared_memory.specs.Seen.{IsSingle}
+use Rattle.a32_step.specs.Machine.{a32}
 use Rattle.guest_thread.specs.Crews.{IsEndOf}
 use Rattle.slice_pool.specs.Hands.{downto}
 use Rattle.slice_pool.specs.Rule.{IsUnderWay}
@@ -44,7 +45,7 @@ module _ {P : Type 0} (home : P → TableId) (numbers : P → ℕ → Bool) (see
     pub memory : home x.pass ≡ key.memory
     pub single : IsSingle x.end.thread (numbers x.pass)
     pub known : x.end.thread < key.size.threads
-    pub end : IsEndOf key.program origin key.budget (seen x.pass) x.end.thread x.end
+    pub end : IsEndOf a32 key.program origin key.budget (seen x.pass) x.end.thread x.end
     pub turns : AreTurnsOf key.slice x.turns x.end.steps
 
   -- and it was this one

@@ -9,7 +9,7 @@ ghost use Rattle.slice_pool.specs.AtWork.{IsFree, IsWorker};
 use crate::queue::{Cut, Few, Line, Puts, Seat, Waiting};
 use crate::turns::Gone;
 use crate::working::{Worker, work};
-use a32_step::Code;
+use a32_step::{Code, Conditional};
 use llsc_base::Image;
 use shared_memory::SharedMemory;
 use std::sync::Wait;
@@ -21,7 +21,7 @@ pub(crate) const MOST_WORKERS: usize = 4;
 /// What a worker brings with it: its program, and room for all guests that may end with it.
 #[derive(Drop)]
 pub(crate) struct Desk<'i, P> {
-    pub(crate) code: Code<'i>,
+    pub(crate) code: Code<'i, Conditional>,
     pub(crate) done: Vec<Gone<P>>,
 }
 

@@ -7,7 +7,7 @@ ghost use Rattle.slice_pool.specs.Rule.{IsUnderWay};
 ghost use Rattle.slice_pool.specs.Over.{HasTurned, IsGoneFrom, IsUpto};
 
 use crate::queue::{Line, Puts, Seat, Waiting};
-use a32_step::Code;
+use a32_step::{Code, Conditional};
 use guest_thread::{Finished, GuestEnd, Paused, go_on};
 use shared_memory::SharedMemory;
 use std::sync::Wait;
@@ -43,7 +43,7 @@ fn slice_end(steps: u64, slice: u64, budget: u64) -> u64
 fn turn<M: SharedMemory, R: Wait>(
     rt: &R,
     mem: &M,
-    code: &mut Code,
+    code: &mut Code<Conditional>,
     guest: Waiting<M::Pass>,
     slice: u64,
     budget: u64,
@@ -81,7 +81,7 @@ fn turn<M: SharedMemory, R: Wait>(
 pub(crate) fn turns_of<M: SharedMemory, R: Wait>(
     rt: &R,
     mem: &M,
-    code: &mut Code,
+    code: &mut Code<Conditional>,
     line: &Line<M>,
     seat: &mut Seat<M::Pass>,
     mut guest: Waiting<M::Pass>,

@@ -8,7 +8,7 @@ ghost use Rattle.slice_pool.specs.AtWork.{IsWorker};
 
 use crate::queue::{Line, Seat, Takes};
 use crate::turns::{Gone, turns_of};
-use a32_step::Code;
+use a32_step::{Code, Conditional};
 use shared_memory::SharedMemory;
 use std::sync::Wait;
 
@@ -16,7 +16,7 @@ use std::sync::Wait;
 #[derive(Drop)]
 pub(crate) struct Worker<'i, P> {
     pub(crate) seat: Seat<P>,
-    pub(crate) code: Code<'i>,
+    pub(crate) code: Code<'i, Conditional>,
     pub(crate) done: Vec<Gone<P>>,
 }
 

@@ -1,5 +1,4 @@
 use Rattle.std.proofs.Common.{rules}
-use Rattle.a32_step.specs.Machine.{a32}
 use Rattle.guest_thread.proofs.FewAccesses.{few_counted}
 use Rattle.guest_machine.proofs.runs.run_job.Goals as goal
 
@@ -8,6 +7,6 @@ returns-clause-end g c = record {
   thread = search rules;
   end_on = search rules;
   spends = search rules;
-  few = few_counted a32 c.args.job.code.program (g.M.SharedMemory.origin c.args.mem.now).size c.args.budget c.args.job.cpu (g.M.SharedMemory.seen c.run_thread.result.pass)
+  few = few_counted g.C.Core.set c.args.job.code.program (g.M.SharedMemory.origin c.args.mem.now).size c.args.budget (g.C.Core.machine c.args.job.cpu) (g.M.SharedMemory.seen c.run_thread.result.pass)
       c.run_thread.result.end c.requires.budget c.run_thread.ensures.end c.run_thread.ensures.few;
 }

@@ -3,26 +3,27 @@ use Rattle.std.specs.List.{range_with_len}
 use Rattle.a32_instr.specs.declared.outside.Stop.TheVariants.{TagLimit}
 use Rattle.guest_thread.specs.Counting.{accesses_counted, counts_in}
 use Rattle.guest_thread.specs.declared.ends.GuestEnd.{GuestEnd}
+use Rattle.a32_step.specs.Machine.{a32}
 use Rattle.guest_thread.proofs.Crewed.{all_ends, all_taken, are_ends}
 use Rattle.slice_pool.proofs.pool.run_pool.Goals as goal
 
 pub returns-clause-ends : goal.returns-clause-ends
 returns-clause-ends g c =
     let origin = g.M.SharedMemory.origin c.args.mem.now in
-    are_ends c.args.image.now origin c.args.budget (g.M.SharedMemory.seen c.in_order.result.pass) (range_with_len 0 origin.size.threads) c.in_order.result.ends.items
+    are_ends a32 c.args.image.now origin c.args.budget (g.M.SharedMemory.seen c.in_order.result.pass) (range_with_len 0 origin.size.threads) c.in_order.result.ends.items
     c.requires.pool.begin refl c.in_order.ensures.ran.ends_are
 
 pub returns-clause-spends : goal.returns-clause-spends
 returns-clause-spends g c =
     let origin = g.M.SharedMemory.origin c.args.mem.now in
-    all_ends c.args.image.now origin c.args.budget (g.M.SharedMemory.seen c.in_order.result.pass)
+    all_ends a32 c.args.image.now origin c.args.budget (g.M.SharedMemory.seen c.in_order.result.pass)
     (λ (end : GuestEnd). (addr : ℕ) → end.stop ≡ TagLimit addr → (g.M.SharedMemory.origin c.args.mem.now).spends ≡ true) (range_with_len 0 origin.size.threads)
     c.in_order.result.ends.items (λ t end is. is.spends) c.in_order.ensures.ran.ends_are
 
 pub returns-clause-few : goal.returns-clause-few
 returns-clause-few g c =
     let origin = g.M.SharedMemory.origin c.args.mem.now in
-    all_ends c.args.image.now origin c.args.budget (g.M.SharedMemory.seen c.in_order.result.pass)
+    all_ends a32 c.args.image.now origin c.args.budget (g.M.SharedMemory.seen c.in_order.result.pass)
     (λ (end : GuestEnd). accesses_counted (counts_in end) < 2 ^ 45) (range_with_len 0 origin.size.threads)
     c.in_order.result.ends.items (λ t end is. is.few) c.in_order.ensures.ran.ends_are
 

@@ -6,7 +6,7 @@ use Rattle.guest_machine.proofs.Turning.{chosen, turn_is, turned_as, access_made
 use Rattle.guest_machine.proofs.turns.Turns.turn.Goals as goal
 
 pub next-requires-clause-ready : goal.next-requires-clause-ready
-next-requires-clause-ready c =
+next-requires-clause-ready c κs =
     let turn = turn_is c.args.self.now.number c.drawn-self.result c.turn_of-t.result c.args.self.now.live.items c.deref.result.now c.drawn-self.ensures c.deref.ensures.value c.turn_of-t.ensures in
     (chosen _ _ _ _ _ _ _ _ _ _ c.index_mut-seat.result.now c.requires.under_way turn c.index_mut-seat.ensures.value).ready
 
