@@ -6,3 +6,4 @@ pub mod Zero
 pub mod Quiet
 pub mod Sound
 pub mod OthersCompute
+pub mod CarriedOn

@@ -35,12 +35,12 @@ pub enum Stage {
 /// until an instruction is complete.
 #[derive(Drop)]
 pub struct RvCpu {
-    registers: Registers,
-    stage: Stage,
+    pub(crate) registers: Registers,
+    pub(crate) stage: Stage,
     /// The instruction in hand.
-    instr: RvInstr,
+    pub(crate) instr: RvInstr,
     /// The reply that it has had.
-    reply: Option<u64>,
+    pub(crate) reply: Option<u64>,
     /// The span that served the last fetch.
     near: usize,
 }

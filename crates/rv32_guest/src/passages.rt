@@ -1,13 +1,16 @@
 //! A RISC-V instruction that is carried through at once.
-ghost use Rattle.std.specs.Prelude.{◌≡◌, ◌≤◌, ◌+◌, ◌^◌, [], length};
+ghost use Rattle.std.specs.Prelude.{◌≡◌, ◌≤◌, ◌+◌, ◌^◌, ◌∷◌, [], length};
 ghost use Rattle.a32_step.specs.Machine.{between};
 ghost use Rattle.a32_step.specs.Passages.{IsCarriedOnOf};
 ghost use Rattle.rv32_guest.specs.Machine.{rv32};
+ghost use Rattle.rv32_guest.specs.Effect.{acts};
+ghost use Rattle.rv32_guest.specs.Passages.{GoesOnWith};
 
-use crate::cpu::RvCpu;
+use crate::cpu::{RvCpu, Stage};
 use crate::instructions::RvInstr;
 use crate::outcomes::Outcome;
 use a32_step::{Code, Passage, Port};
+use llsc_base::Image;
 
 impl RvCpu {
     /// Carries the next instruction through, over a port that replies to its access at once. The core is between two
@@ -27,11 +30,13 @@ impl RvCpu {
         ensures counted { P.counted port.new ≤ P.counted port.old + 16 }
     {
         let pc = self.registers.pc();
-        if !code.find(pc) {
+        let found = code.find(pc);
+        if !found {
             return Passage::AtStart;
         }
         let instr = *code.at(pc);
-        match self.registers.outcome(instr, code.image(), None) {
+        let image = code.image();
+        match self.registers.outcome(instr, image, None) {
             Outcome::Completes { rd, value, pc } => {
                 self.registers.complete(rd, value, pc);
                 Passage::Complete
@@ -40,9 +45,29 @@ impl RvCpu {
                 let Some(reply) = port.reply(ask) else {
                     return Passage::AtStart;
                 };
-                self.carry_reply(instr, code, reply)
+                self.go_on_with(instr, image, reply)
             }
             Outcome::Calls(_) | Outcome::Stops(_) => Passage::AtStart,
+        }
+    }
+
+    /// An instruction goes on with the reply to its access.
+    #[inline(always)]
+    fn go_on_with(&mut self, instr: RvInstr, image: &Image, reply: u64) -> Passage
+        requires { self.old ≡ between self.old.state }
+        ensures { GoesOnWith instr reply (acts instr image.now (reply ∷ []) self.old.state) self.old result self.new }
+    {
+        match self.registers.outcome(instr, image, Some(reply)) {
+            Outcome::Completes { rd, value, pc } => {
+                self.registers.complete(rd, value, pc);
+                Passage::Complete
+            }
+            Outcome::Asks(_) | Outcome::Calls(_) | Outcome::Stops(_) => {
+                self.instr = instr;
+                self.stage = Stage::Inside;
+                self.reply = Some(reply);
+                Passage::UnderWay
+            }
         }
     }
 }

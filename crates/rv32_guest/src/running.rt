@@ -10,15 +10,16 @@ ghost use Rattle.guest_thread.specs.Outcome.{IsEndOnOf};
 ghost use Rattle.rv32_guest.specs.Machine.{rv32};
 
 use crate::cpu::RvCpu;
+use crate::instructions::RvInstr;
 use a32_instr::Stop;
+use a32_step::Code;
 use guest_calls::Output;
-use guest_thread::{Finished, run_thread_by_turns};
-use llsc_base::Image;
+use guest_thread::{Finished, run_thread};
 use shared_memory::SharedMemory;
 use std::sync::Wait;
 
 /// Runs a thread that may act on a memory that threads share, up to its stop, with a pass that holds its number alone. Its core is between
-/// two instructions, and it has made no access and written nothing; memory has as many bytes as the image. The budget is at most
+/// two instructions, and it has made no access and written nothing; memory has as many bytes as the code's image. The budget is at most
 /// 1,000,000,000,000 steps. No memory is taken from the allocator.
 ///
 /// What it did is in what the pass has seen of the history: its accesses there are those of a run of the core, with this end.
@@ -26,7 +27,7 @@ use std::sync::Wait;
 pub fn run_rv_thread<M: SharedMemory, R: Wait>(
     rt: &R,
     mem: &M,
-    image: &Image,
+    code: Code<RvInstr>,
     cpu: RvCpu,
     pass: M::Pass,
     out: Output,
@@ -35,11 +36,11 @@ pub fn run_rv_thread<M: SharedMemory, R: Wait>(
     requires memory { M.home pass ≡ M.id mem.now }
     requires single { (t : ℕ) × IsSingle t (M.numbers pass) × (MayAct (M.origin mem.now).first t (M.seen pass)) }
     requires none { (t : ℕ) → IsSingle t (M.numbers pass) → entries_of t (M.seen pass) ≡ [] }
-    requires whole { length image.now.bytes ≡ (M.origin mem.now).size.mem }
+    requires whole { length code.program.bytes ≡ (M.origin mem.now).size.mem }
     requires between { cpu ≡ between cpu.state }
     requires empty { out ≡ [] }
     requires budget { budget ≤ most_budget }
-    ensures end { IsEndOnOf rv32 image.now (M.origin mem.now).size budget cpu (M.seen result.pass) result.end }
+    ensures end { IsEndOnOf rv32 code.entry.program (M.origin mem.now).size budget cpu (M.seen result.pass) result.end }
     ensures spends { (addr : ℕ) → result.end.stop ≡ Stop.TagLimit addr → (M.origin mem.now).spends ≡ true }
     ensures thread { IsSingle result.end.thread (M.numbers pass) }
     ensures single { IsSingle result.end.thread (M.numbers result.pass) }
@@ -47,5 +48,5 @@ pub fn run_rv_thread<M: SharedMemory, R: Wait>(
     ensures memory { M.home result.pass ≡ M.home pass }
     ensures few { length (accesses_of (entries_of result.end.thread (M.seen result.pass))) ≤ most_accesses_in result.end.steps }
 {
-    run_thread_by_turns(rt, mem, image, cpu, pass, out, budget)
+    run_thread(rt, mem, code, cpu, pass, out, budget)
 }
