@@ -6,7 +6,11 @@ ghost use Rattle.a32_instr.specs.Bits.{width_of};
 ghost use Rattle.a32_instr.specs.declared.outside.Ask.{Ask};
 ghost use Rattle.a32_instr.specs.declared.outside.Stop.{Stop};
 ghost use Rattle.a32_instr.specs.State.{asks, stops};
+ghost use Rattle.llsc_base.specs.Sizes.{Numbers};
+ghost use Rattle.history.specs.declared.entry.Entry.{Entry};
 ghost use Rattle.guest_calls.specs.Run.{Pair, EndsOf, AsksOf};
+ghost use Rattle.guest_thread.specs.Outcome.{IsOutcomeOf};
+ghost use Rattle.guest_thread.specs.declared.ends.GuestEnd.{GuestEnd};
 ghost use Rattle.a32_step.specs.Machine.{next_of, GoesOn, GoesOnWith, IsOwn, PassesTests};
 ghost use Rattle.rv32_guest.specs.Machine.{Machine, rv32};
 ghost use Rattle.rv32_guest.specs.Table.{table, meaning, AreApart, FitsNone, MeansItsRow};
@@ -87,6 +91,12 @@ pub fn machines_are_sound()
         next_of rv32 program machine ≡ asks asked → length machine.replies < 16 }
     ensures own { (program : Program) (machine : Machine) (why : Stop) → GoesOn machine.phase →
         next_of rv32 program machine ≡ stops why → IsOwn why }
+{}
+
+/// A history has one outcome at most.
+pub fn histories_have_one_outcome()
+    ensures { (program : Program) (size : Numbers) (budget : ℕ) (history : List Entry) (ends others : List GuestEnd) →
+        IsOutcomeOf rv32 program size budget history ends → IsOutcomeOf rv32 program size budget history others → ends ≡ others }
 {}
 
 /// A guest thread that starts so, with this budget and these accesses and replies, has one end at most, asks one access next at
