@@ -28,6 +28,10 @@ file = positional_rule (codes "FILE")
 abbrev pub flat : Rule
 flat = flag_rule (codes "flat")
 
+-- whether the program's instructions are those of RISC-V
+abbrev pub rv : Rule
+rv = flag_rule (codes "rv")
+
 abbrev pub program_app : Text → App
 program_app name = with_rule (with_rule (plain_app name) file) flat
 
@@ -48,11 +52,11 @@ asm_app = program_app (codes "asm")
 unfoldable pub dis_app : App
 dis_app = with_rule (program_app (codes "dis")) (option_rule (codes "mem"))
 
--- `run` has FILE, `--flat`, `--threads`, `--mem`, `--granule`, `--classes`, `--limit`, `--budget` and `--spare`
+-- `run` has FILE, `--flat`, `--threads`, `--mem`, `--granule`, `--classes`, `--limit`, `--budget`, `--spare` and `--rv`
 unfoldable pub run_app : App
 run_app =
-    with_rule (with_rule (with_rule (with_rule (machine_app (codes "run")) (option_rule (codes "classes"))) (option_rule (codes "limit")))
-    (option_rule (codes "budget"))) (option_rule (codes "spare"))
+    with_rule (with_rule (with_rule (with_rule (with_rule (machine_app (codes "run")) (option_rule (codes "classes"))) (option_rule (codes "limit")))
+    (option_rule (codes "budget"))) (option_rule (codes "spare"))) rv
 
 -- `pool` has FILE, `--flat`, `--threads`, `--mem`, `--granule`, `--classes`, `--limit`, `--budget`, `--workers` and `--slice`
 unfoldable pub pool_app : App

@@ -11,6 +11,7 @@ pub record Given : Type 0 where
   pub recorded : Option Text
   pub number : Option Text
   pub flat : Bool
+  pub rv : Bool
   pub threads : Option Text
   pub spare : Option Text
   pub mem : Option Text
@@ -34,6 +35,7 @@ given_by rows = record {
   recorded = first_of (codes "RECORD") rows;
   number = first_of (codes "SEED") rows;
   flat = is_true (first_of (codes "flat") rows);
+  rv = is_true (first_of (codes "rv") rows);
   threads = first_of (codes "threads") rows;
   spare = first_of (codes "spare") rows;
   mem = first_of (codes "mem") rows;
@@ -63,6 +65,7 @@ seen read = record {
   recorded = option_map (λ text. text.now) read.recorded;
   number = option_map (λ text. text.now) read.number;
   flat = read.flat;
+  rv = read.rv;
   threads = option_map (λ text. text.now) read.threads;
   spare = option_map (λ text. text.now) read.spare;
   mem = option_map (λ text. text.now) read.mem;

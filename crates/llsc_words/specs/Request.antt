@@ -1,11 +1,13 @@
 -- What the words of a call ask for.
-use Rattle.std.specs.Prelude.{ℕ, ◌+◌, ◌*◌, ◌≤◌, ◌^◌, Bool, ◌&&◌, nat_le, List, [], ◌∷◌, Option, Some, None, if◌then◌else◌}
+use Rattle.std.specs.Prelude.{◌≡◌, ℕ, ◌+◌, ◌*◌, ◌≤◌, ◌^◌, Bool, true, ◌&&◌, ◌==◌, nat_le, List, [], ◌∷◌, Option, Some, None, if◌then◌else◌}
 use Rattle.std.specs.Option.{option_and_then}
 use Rattle.llsc_base.specs.Sizes.{Numbers, numbers}
 use Rattle.llsc_base.specs.Limits.{most_budget}
 use Rattle.number_text.specs.Decimal.{plain_number}
 use Rattle.llsc_words.specs.declared.formats.Format.{Format}
 use Rattle.llsc_words.specs.declared.formats.Format.TheVariants.{Elf, Flat}
+use Rattle.llsc_words.specs.declared.sets.SetName.{SetName}
+use Rattle.llsc_words.specs.declared.sets.SetName.TheVariants.{A32, Rv32}
 use Rattle.llsc_words.specs.declared.requests.Request.{Request as Call}
 use Rattle.llsc_words.specs.declared.requests.Request.TheVariants as call
 use Rattle.llsc_words.specs.declared.requests.MachineNumbers.{MachineNumbers}
@@ -17,14 +19,14 @@ use Rattle.llsc_words.specs.Given.{Given, given_in}
 use Rattle.llsc_words.specs.Names.{command_named}
 
 -- what a call asks for: to run the file of that name, of that format, as one thread, with so many bytes of memory and so many
--- steps; to run it as so many threads of a machine beside each other, each of which may start so many more; to run it as all
--- threads of a machine on so many workers, so many steps of each at a time; to assemble the text of that name as a file of that format; to show a file as text, in so many bytes of memory; to run a file as so many
+-- steps; to run it, of that instruction set, as so many threads of a machine beside each other, each of which may start so many
+-- more; to run it as all threads of a machine on so many workers, so many steps of each at a time; to assemble the text of that name as a file of that format; to show a file as text, in so many bytes of memory; to run a file as so many
 -- guest threads on one host thread, with rows of a granule and in the order that a seed fixes, and to record that; to check
 -- such a record, the second file, against a program; or to run the counter guest of a seed, as so many threads of so many
 -- rounds each, with so many steps for each
 pub data Request : Type 0 where
   Solo : (file : List ℕ) (format : Format) (mem budget : ℕ) → Request
-  Run : (file : List ℕ) (format : Format) (first spare : ℕ) (size : Numbers) (budget : ℕ) → Request
+  Run : (file : List ℕ) (format : Format) (set : SetName) (first spare : ℕ) (size : Numbers) (budget : ℕ) → Request
   Pool : (file : List ℕ) (format : Format) (size : Numbers) (workers slice budget : ℕ) → Request
   Assemble : (file : List ℕ) (format : Format) → Request
   Disassemble : (file : List ℕ) (format : Format) (mem : ℕ) → Request
@@ -35,7 +37,7 @@ pub data Request : Type 0 where
 -- the names of a request's files, in the order in which they are read
 abbrev pub files_of : Request → List (List ℕ)
 files_of (Solo file format mem budget) = file ∷ []
-files_of (Run file format first spare size budget) = file ∷ []
+files_of (Run file format set first spare size budget) = file ∷ []
 files_of (Pool file format size workers slice budget) = file ∷ []
 files_of (Assemble file format) = file ∷ []
 files_of (Disassemble file format mem) = file ∷ []
@@ -126,12 +128,28 @@ some_workers (Some workers) = if is_workers workers then Some workers else None
 abbrev pub workers_or : ℕ → Option (List ℕ) → Option ℕ
 workers_or default text = some_workers (number_or default text)
 
+-- a thread of RISC-V instructions may start no others
+abbrev pub may_start : SetName → ℕ → Bool
+may_start A32 spare = true
+may_start Rv32 spare = spare == 0
+
+abbrev pub some_spare : SetName → Option ℕ → Option ℕ
+some_spare set None = None
+some_spare set (Some spare) = if may_start set spare then Some spare else None
+
+abbrev pub spare_or : ℕ → SetName → Option (List ℕ) → Option ℕ
+spare_or default set text = some_spare set (number_or default text)
+
 -- the format of the file
 abbrev pub format_of : Given → Format
 format_of given = if given.flat then Flat else Elf
 
+-- the instruction set of the program
+abbrev pub set_of : Given → SetName
+set_of given = if given.rv then Rv32 else A32
+
 -- Each command asks for nothing where one of its numbers is none, or its budget is out of its range; nor does a pool whose workers
--- are out of theirs, or whose slice is out of the range of a budget.
+-- are out of theirs, or whose slice is out of the range of a budget, nor a run whose threads can't start others and are to.
 
 abbrev pub solo_by : Option (List ℕ) → Format → Option ℕ → Option ℕ → Option Request
 solo_by (Some file) format (Some mem) (Some budget) = Some (Solo file format mem budget)
@@ -156,14 +174,15 @@ machine_for given =
     (number_or run_classes given.classes) (number_or run_limit given.limit)
 
 -- the threads of a run's machine are those that begin by themselves and those that each of them may start, whatever number that is
-abbrev pub run_by : Option (List ℕ) → Format → Option MachineNumbers → (spare budget : Option ℕ) → Option Request
-run_by (Some file) format (Some machine) (Some spare) (Some budget) =
-    Some (Run file format machine.threads spare (record (machine_by machine) { threads = machine.threads * (1 + spare) }) budget)
-run_by _ _ _ _ _ = None
+abbrev pub run_by : Option (List ℕ) → Format → SetName → Option MachineNumbers → (spare budget : Option ℕ) → Option Request
+run_by (Some file) format set (Some machine) (Some spare) (Some budget) =
+    Some (Run file format set machine.threads spare (record (machine_by machine) { threads = machine.threads * (1 + spare) }) budget)
+run_by _ _ _ _ _ _ = None
 
 abbrev pub run_for : Given → Option Request
 run_for given =
-    run_by given.file (format_of given) (machine_for given) (number_or run_spare given.spare) (budget_or default_budget given.budget)
+    run_by given.file (format_of given) (set_of given) (machine_for given) (spare_or run_spare (set_of given) given.spare)
+    (budget_or default_budget given.budget)
 
 abbrev pub pool_by : Option (List ℕ) → Format → Option MachineNumbers → (workers slice budget : Option ℕ) → Option Request
 pool_by (Some file) format (Some machine) (Some workers) (Some slice) (Some budget) =
@@ -241,7 +260,7 @@ size_of_run n = record (machine_by n.machine) { threads = n.machine.threads * (1
 -- what borrows from the words, as what it is
 abbrev pub asked : Call → Request
 asked (call.Solo file format mem budget) = Solo file.now format mem budget
-asked (call.Run file format n) = Run file.now format n.machine.threads n.spare (size_of_run n) n.budget
+asked (call.Run file format set n) = Run file.now format set n.machine.threads n.spare (size_of_run n) n.budget
 asked (call.Pool file format n) = Pool file.now format (machine_by n.machine) n.workers n.slice n.budget
 asked (call.Assemble file format) = Assemble file.now format
 asked (call.Disassemble file format mem) = Disassemble file.now format mem
@@ -249,10 +268,12 @@ asked (call.Trace file format numbers) = Trace file.now format numbers.threads n
 asked (call.Check file recorded format mem) = Check file.now recorded.now format mem
 asked (call.Load n) = Load n.seed n.threads n.rounds n.budget
 
--- a request's budget, where it has one, is in its range, and so are the workers and the slice of a pool
+-- a request's budget, where it has one, is in its range, and so are the workers and the slice of a pool, and of a run how many
+-- threads each may start, by its instruction set
 abbrev pub HasBudget : Call → Type 0
 HasBudget (call.Solo file format mem budget) = (1 ≤ budget) × (budget ≤ most_budget)
-HasBudget (call.Run file format numbers) = (1 ≤ numbers.budget) × (numbers.budget ≤ most_budget)
+HasBudget (call.Run file format set numbers) =
+    ((1 ≤ numbers.budget) × (numbers.budget ≤ most_budget)) × (may_start set numbers.spare ≡ true)
 HasBudget (call.Pool file format numbers) =
     ((1 ≤ numbers.budget) × (numbers.budget ≤ most_budget)) × (1 ≤ numbers.slice) × ((1 ≤ numbers.workers) × (numbers.workers ≤ 4))
 HasBudget (call.Trace file format numbers) = (1 ≤ numbers.budget) × (numbers.budget ≤ most_budget)

@@ -22,7 +22,7 @@ asked_in text = request_of (words_in text)
 
 -- what is out of range of the machine of a run that words ask for, None where they ask for no run
 abbrev pub fault_of_run : Option Request → Option (Option SizeFault)
-fault_of_run (Some (Run file format first spare size budget)) = Some (size_fault size)
+fault_of_run (Some (Run file format set first spare size budget)) = Some (size_fault size)
 fault_of_run _ = None
 
 abbrev pub fault_in : List ℕ → Option (Option SizeFault)
@@ -36,8 +36,8 @@ commands =
 -- the names of all options
 abbrev pub option_names : List (List ℕ)
 option_names =
-    codes "flat" ∷ codes "threads" ∷ codes "spare" ∷ codes "mem" ∷ codes "granule" ∷ codes "classes" ∷ codes "limit" ∷ codes "workers"
-    ∷ codes "slice" ∷ codes "seed" ∷ codes "rounds" ∷ codes "budget" ∷ []
+    codes "flat" ∷ codes "rv" ∷ codes "threads" ∷ codes "spare" ∷ codes "mem" ∷ codes "granule" ∷ codes "classes" ∷ codes "limit"
+    ∷ codes "workers" ∷ codes "slice" ∷ codes "seed" ∷ codes "rounds" ∷ codes "budget" ∷ []
 
 -- an option by itself, and with a value behind it or joined to it
 abbrev pub bare : List ℕ → List ℕ

@@ -2,7 +2,7 @@
 ghost use Rattle.std.specs.Prelude.{◌≡◌, IfSome};
 ghost use Rattle.std.specs.Option.{option_map};
 ghost use Rattle.llsc_words.specs.Given.{seen};
-ghost use Rattle.llsc_words.specs.Request.{asked, assemble_for, check_for, disassemble_for, format_of, load_for, machine_for, pool_for, request_by, run_for, solo_for, trace_for, HasBudget};
+ghost use Rattle.llsc_words.specs.Request.{asked, assemble_for, check_for, disassemble_for, format_of, load_for, machine_for, pool_for, request_by, run_for, set_of, solo_for, trace_for, HasBudget};
 
 use crate::defaults::{
     DEFAULT_BUDGET, DEFAULT_MEM, LOAD_ROUNDS, LOAD_THREADS, POOL_SLICE, POOL_WORKERS, RUN_CLASSES,
@@ -12,10 +12,11 @@ use crate::defaults::{
 use crate::formats::Format;
 use crate::given::Given;
 use crate::names::CommandName;
-use crate::numbers::{budget_or, number_in, number_or, workers_or};
+use crate::numbers::{budget_or, number_in, number_or, spare_or, workers_or};
 use crate::requests::{
     LoadNumbers, MachineNumbers, PoolNumbers, Request, RunNumbers, TraceNumbers,
 };
+use crate::sets::SetName;
 
 impl Given<'_> {
     /// The format of the file.
@@ -26,6 +27,16 @@ impl Given<'_> {
             return Format::Elf;
         }
         Format::Flat
+    }
+
+    /// The instruction set of the program.
+    fn set(&self) -> SetName
+        ensures { result ≡ set_of (seen self.now) }
+    {
+        if !self.rv {
+            return SetName::A32;
+        }
+        SetName::Rv32
     }
 }
 
@@ -60,12 +71,14 @@ fn run<'a>(given: &Given<'a>) -> Option<Request<'a>>
     ensures request { option_map asked result ≡ run_for (seen given.now) }
     ensures budget { IfSome result HasBudget }
 {
+    let set = given.set();
     Some(Request::Run {
         file: given.file?,
         format: given.format(),
+        set,
         numbers: RunNumbers {
             machine: machine(given)?,
-            spare: number_or(RUN_SPARE, given.spare)?,
+            spare: spare_or(RUN_SPARE, set, given.spare)?,
             budget: budget_or(DEFAULT_BUDGET, given.budget)?,
         },
     })

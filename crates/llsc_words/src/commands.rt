@@ -94,7 +94,7 @@ fn run<'a>(alloc: Global) -> Result<Command<'a>, AllocError>
     ensures { IfOk result (λ command. app_of command ≡ run_app) }
 {
     let command = with_three_options(alloc, machine(alloc, "run")?, "classes", "limit", "budget")?;
-    with_option(alloc, command, "spare")
+    with_option(alloc, command, "spare")?.arg(flag(alloc, "rv"))
 }
 
 /// `pool`: runs all threads on few workers.

@@ -20,6 +20,8 @@ pub struct Given<'a> {
     pub number: Option<&'a str>,
     /// `--flat`: the file is a flat image.
     pub flat: bool,
+    /// `--rv`: the program's instructions are those of RISC-V.
+    pub rv: bool,
     /// `--threads`: the guest threads that begin by themselves.
     pub threads: Option<&'a str>,
     /// `--spare`: how many threads each of these may start.
@@ -71,6 +73,7 @@ fn read<'a>(matches: &ArgMatches<'a>) -> Given<'a>
         recorded: value(matches, "RECORD"),
         number: value(matches, "SEED"),
         flat: has_flag(matches, "flat"),
+        rv: has_flag(matches, "rv"),
         threads: value(matches, "threads"),
         spare: value(matches, "spare"),
         mem: value(matches, "mem"),

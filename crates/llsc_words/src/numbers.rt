@@ -1,9 +1,10 @@
 //! The numbers that options give.
-ghost use Rattle.std.specs.Prelude.{◌≡◌, ◌≤◌, IfSome};
+ghost use Rattle.std.specs.Prelude.{◌≡◌, ◌≤◌, true, IfSome};
 ghost use Rattle.std.specs.Option.{option_map};
 ghost use Rattle.llsc_base.specs.Limits.{most_budget};
-ghost use Rattle.llsc_words.specs.Request.{budget_or, is_budget, is_workers, number_in, number_or, workers_or};
+ghost use Rattle.llsc_words.specs.Request.{budget_or, is_budget, is_workers, may_start, number_in, number_or, spare_or, workers_or};
 
+use crate::sets::SetName;
 use llsc_base::MOST_STEPS;
 use number_text::plain_number;
 
@@ -63,4 +64,27 @@ pub fn workers_or(default: u64, value: Option<&str>) -> Option<u64>
         return None;
     }
     Some(workers)
+}
+
+/// Whether each thread of such instructions may start so many others.
+fn may_start(set: SetName, spare: u64) -> bool
+    ensures { result ≡ may_start set spare }
+{
+    match set {
+        SetName::A32 => true,
+        SetName::Rv32 => spare == 0,
+    }
+}
+
+/// How many others each thread of such instructions may start by an option's value, `None` where it is no number of those that one
+/// may start.
+pub fn spare_or(default: u64, set: SetName, value: Option<&str>) -> Option<u64>
+    ensures number { result ≡ spare_or default set (option_map (λ text. text.now) value.entry) }
+    ensures range { IfSome result (λ spare. may_start set spare ≡ true) }
+{
+    let spare = number_or(default, value)?;
+    if !may_start(set, spare) {
+        return None;
+    }
+    Some(spare)
 }

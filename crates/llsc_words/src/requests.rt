@@ -4,6 +4,7 @@ ghost use Rattle.llsc_base.specs.Sizes.{size_fault};
 ghost use Rattle.llsc_words.specs.Request.{machine_by, size_of_run};
 
 use crate::formats::Format;
+use crate::sets::SetName;
 
 /// The numbers that make a machine.
 #[derive(Clone, Copy)]
@@ -106,11 +107,12 @@ pub enum Request<'a> {
         mem: u64,
         budget: u64,
     },
-    /// To run the file of that name, of that format, as several threads beside each other, which may start more, by these
-    /// numbers.
+    /// To run the file of that name, of that format and instruction set, as several threads beside each other, which may start
+    /// more, by these numbers.
     Run {
         file: &'a str,
         format: Format,
+        set: SetName,
         numbers: RunNumbers,
     },
     /// To run the file of that name, of that format, as several threads on few workers, by these numbers.

@@ -5,6 +5,7 @@ ghost use Rattle.llsc_words.specs.Request.Request.{Assemble, Check, Disassemble,
 ghost use Rattle.llsc_words.specs.Worked.{asked_in};
 
 use crate::formats::Format;
+use crate::sets::SetName;
 
 /// The numbers where none are given.
 pub fn numbers_where_none_are_given()
@@ -29,7 +30,7 @@ pub fn numbers_where_none_are_given()
 #[tactic(auto, unfolding(crate::proofs::OnLiterals::words_on_literals))]
 pub fn commands_by_themselves()
     ensures solo { asked_in (codes "solo p") ≡ Some (Solo (codes "p") Format.Elf 1048576 100000000) }
-    ensures run { asked_in (codes "run p") ≡ Some (Run (codes "p") Format.Elf 2 0 (record { mem = 1048576; threads = 2; classes = 4096; limit = 4611686018427387904; granule = 0 }) 100000000) }
+    ensures run { asked_in (codes "run p") ≡ Some (Run (codes "p") Format.Elf SetName.A32 2 0 (record { mem = 1048576; threads = 2; classes = 4096; limit = 4611686018427387904; granule = 0 }) 100000000) }
     ensures pool { asked_in (codes "pool p") ≡ Some (Pool (codes "p") Format.Elf (record { mem = 1048576; threads = 2; classes = 4096; limit = 4611686018427387904; granule = 0 }) 2 1000 100000000) }
     ensures assemble { asked_in (codes "asm p") ≡ Some (Assemble (codes "p") Format.Elf) }
     ensures disassemble { asked_in (codes "dis p") ≡ Some (Disassemble (codes "p") Format.Elf 1048576) }
@@ -43,7 +44,7 @@ pub fn commands_by_themselves()
 pub fn commands_with_all_options()
     ensures solo { asked_in (codes "solo --flat --mem 65536 --budget 42 guest.bin") ≡ Some (Solo (codes "guest.bin") Format.Flat 65536 42) }
     ensures run { asked_in (codes "run --flat --threads 3 --spare 2 --mem 69632 --granule 5 --classes 64 --limit 7 --budget 9 guest.bin")
-        ≡ Some (Run (codes "guest.bin") Format.Flat 3 2 (record { mem = 69632; threads = 9; classes = 64; limit = 7; granule = 5 }) 9) }
+        ≡ Some (Run (codes "guest.bin") Format.Flat SetName.A32 3 2 (record { mem = 69632; threads = 9; classes = 64; limit = 7; granule = 5 }) 9) }
     ensures pool { asked_in (codes "pool --flat --threads 3 --mem 69632 --granule 5 --classes 64 --limit 7 --workers 4 --slice 8 --budget 9 guest.bin")
         ≡ Some (Pool (codes "guest.bin") Format.Flat (record { mem = 69632; threads = 3; classes = 64; limit = 7; granule = 5 }) 4 8 9) }
     ensures assemble { asked_in (codes "asm --flat guest.s") ≡ Some (Assemble (codes "guest.s") Format.Flat) }

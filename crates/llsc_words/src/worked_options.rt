@@ -34,11 +34,11 @@ pub fn options_with_a_value_joined_to_them()
     ensures load { taken (joined_to (codes "1")) (codes "load 7") ≡ codes "threads" ∷ codes "rounds" ∷ codes "budget" ∷ [] }
 {}
 
-/// Each command of a program's file takes `--flat`, and none takes another option with no value.
+/// Each command of a program's file takes `--flat`, `run` takes `--rv` besides, and none takes another option with no value.
 #[tactic(auto, unfolding(crate::proofs::OnLiterals::words_on_literals))]
 pub fn options_with_no_value()
     ensures solo { taken bare (codes "solo p") ≡ codes "flat" ∷ [] }
-    ensures run { taken bare (codes "run p") ≡ codes "flat" ∷ [] }
+    ensures run { taken bare (codes "run p") ≡ codes "flat" ∷ codes "rv" ∷ [] }
     ensures pool { taken bare (codes "pool p") ≡ codes "flat" ∷ [] }
     ensures assemble { taken bare (codes "asm p") ≡ codes "flat" ∷ [] }
     ensures disassemble { taken bare (codes "dis p") ≡ codes "flat" ∷ [] }
