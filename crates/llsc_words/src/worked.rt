@@ -55,6 +55,16 @@ pub fn commands_with_all_options()
     ensures load { asked_in (codes "load --threads 16 --rounds 50000 --budget 8 41") ≡ Some (Load 41 16 50000 8) }
 {}
 
+/// A run by RISC-V instructions: everything else is as by those of Arm, and that a thread may start none may be said.
+#[tactic(auto, unfolding(crate::proofs::OnLiterals::words_on_literals))]
+pub fn runs_by_risc_v_instructions()
+    ensures by_itself { asked_in (codes "run --rv p") ≡ Some (Run (codes "p") Format.Elf SetName.Rv32 2 0 (record { mem = 1048576; threads = 2; classes = 4096; limit = 4611686018427387904; granule = 0 }) 100000000) }
+    ensures behind { asked_in (codes "run p --rv") ≡ asked_in (codes "run --rv p") }
+    ensures none_to_start { asked_in (codes "run --rv --spare 0 p") ≡ asked_in (codes "run --rv p") }
+    ensures all_options { asked_in (codes "run --flat --rv --threads 3 --spare=0 --mem 69632 --granule 5 --classes 64 --limit 7 --budget 9 guest.bin")
+        ≡ Some (Run (codes "guest.bin") Format.Flat SetName.Rv32 3 0 (record { mem = 69632; threads = 3; classes = 64; limit = 7; granule = 5 }) 9) }
+{}
+
 /// Options, files and a seed stand in any order, of two files the program's first; a value is behind a name or joined to it; behind
 /// `--` there are only files, and `-` is one.
 #[tactic(auto, unfolding(crate::proofs::OnLiterals::words_on_literals))]

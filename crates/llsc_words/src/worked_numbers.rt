@@ -107,6 +107,7 @@ pub fn machines()
     ensures least_granule { fault_in (codes "run p --granule 0") ≡ Some None }
     ensures greatest_granule { fault_in (codes "run p --granule 8") ≡ Some None }
     ensures too_great_a_granule { fault_in (codes "run p --granule 9") ≡ Some (Some SizeFault.Granule) }
+    ensures too_many_threads_of_risc_v { fault_in (codes "run p --rv --threads 17") ≡ Some (Some SizeFault.Threads) }
 {}
 
 /// Of several numbers out of range the fault is that of memory, then of the threads, the classes, the limit and the granule.

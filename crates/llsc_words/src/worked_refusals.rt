@@ -68,3 +68,21 @@ pub fn options_and_values_that_fail()
     ensures empty_value_of_a_flag { asked_in (codes "solo p --flat=") ≡ None }
     ensures behind_all_options { asked_in (codes "solo -- p --flat") ≡ None }
 {}
+
+/// `--rv` for a command other than `run`, with threads that may start others, whatever else is out of range, twice, and with a value.
+#[tactic(auto, unfolding(crate::proofs::OnLiterals::words_on_literals))]
+pub fn calls_for_risc_v()
+    ensures solo { asked_in (codes "solo --rv p") ≡ None }
+    ensures pool { asked_in (codes "pool --rv p") ≡ None }
+    ensures assemble { asked_in (codes "asm --rv p") ≡ None }
+    ensures disassemble { asked_in (codes "dis --rv p") ≡ None }
+    ensures trace { asked_in (codes "trace --rv p") ≡ None }
+    ensures check { asked_in (codes "check --rv p r") ≡ None }
+    ensures load { asked_in (codes "load --rv 7") ≡ None }
+    ensures one_to_start { asked_in (codes "run --rv --spare 1 p") ≡ None }
+    ensures one_to_start_said_before { asked_in (codes "run --spare 1 p --rv") ≡ None }
+    ensures most_to_start { asked_in (codes "run --rv --spare 18446744073709551615 p") ≡ None }
+    ensures one_to_start_in_no_memory { asked_in (codes "run --rv --spare 1 --mem 0 p") ≡ None }
+    ensures twice { asked_in (codes "run --rv --rv p") ≡ None }
+    ensures value { asked_in (codes "run --rv=true p") ≡ None }
+{}
