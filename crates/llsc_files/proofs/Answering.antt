@@ -9,11 +9,12 @@ use Rattle.llsc_host.specs.declared.host.Host.{Ghosts}
 use Rattle.llsc_host.specs.declared.host.ReadFault.{ReadFault}
 use Rattle.llsc_host.specs.declared.host.ReadFault.TheVariants as read
 use Rattle.llsc_files.specs.Refusals.{most_program, too_long, size_refusal, IsRefusal}
-use Rattle.llsc_files.specs.Programs.{program_refusal, refusal_on}
+use Rattle.llsc_files.specs.Programs.{program_refusal_as, refusal_as}
 use Rattle.llsc_files.specs.Reads.{Had}
 use Rattle.llsc_files.specs.declared.refusals.Refusal.{Refusal}
 use Rattle.llsc_files.specs.declared.refusals.Refusal.TheVariants as refusal
 use Rattle.llsc_words.specs.declared.formats.Format.{Format}
+use Rattle.llsc_words.specs.declared.sets.SetName.{SetName}
 
 -- what is known of an error that is passed on
 pub passed_on : {A B : Type 0} {Q P : B → Type 0} → (r : Result A B) → IsErrAnd r Q → ((e : B) → Q e → P e) → IfErr r P
@@ -26,18 +27,18 @@ refused_by one two (refusal.Said text) more said = (said.0, (more said.0 said.1.
 refused_by one two refusal.Memory more said = tt
 
 -- a machine that can't be, whatever the file
-pub refused_unsized : (format : Format) (size : Numbers) (file : List ℕ) (r : Refusal) → IsRefusal (size_refusal size) r → IsRefusal (program_refusal format size file) r
-refused_unsized format size file r refused = refused_by (size_refusal size) (program_refusal format size file) r (λ name is. rw is refl) refused
+pub refused_unsized : (set : SetName) (format : Format) (size : Numbers) (file : List ℕ) (r : Refusal) → IsRefusal (size_refusal size) r → IsRefusal (program_refusal_as set format size file) r
+refused_unsized set format size file r refused = refused_by (size_refusal size) (program_refusal_as set format size file) r (λ name is. rw is refl) refused
 
 -- a file that is not too long on a machine that can be, which has a fault or has none
-pub program_refusal_is : (format : Format) (size wanted : Numbers) (file : List ℕ) (fault : Option (List ℕ)) → size_refusal wanted ≡ None → size ≡ wanted
-    → too_long most_program file ≡ None → refusal_on format size file ≡ fault → program_refusal format wanted file ≡ fault
-program_refusal_is format size wanted file fault none same short is = rw (none, short) (subst (λ s. refusal_on format s file ≡ fault) same is)
+pub program_refusal_is : (set : SetName) (format : Format) (size wanted : Numbers) (file : List ℕ) (fault : Option (List ℕ)) → size_refusal wanted ≡ None → size ≡ wanted
+    → too_long most_program file ≡ None → refusal_as set format size file ≡ fault → program_refusal_as set format wanted file ≡ fault
+program_refusal_is set format size wanted file fault none same short is = rw (none, short) (subst (λ s. refusal_as set format s file ≡ fault) same is)
 
-pub refused_short : (format : Format) (size wanted : Numbers) (file : List ℕ) (r : Refusal) → size_refusal wanted ≡ None → size ≡ wanted → too_long most_program file ≡ None
-    → IsRefusal (refusal_on format size file) r → IsRefusal (program_refusal format wanted file) r
-refused_short format size wanted file r none same short refused =
-    refused_by (refusal_on format size file) (program_refusal format wanted file) r (λ name is. program_refusal_is format size wanted file (Some name) none same short is) refused
+pub refused_short : (set : SetName) (format : Format) (size wanted : Numbers) (file : List ℕ) (r : Refusal) → size_refusal wanted ≡ None → size ≡ wanted → too_long most_program file ≡ None
+    → IsRefusal (refusal_as set format size file) r → IsRefusal (program_refusal_as set format wanted file) r
+refused_short set format size wanted file r none same short refused =
+    refused_by (refusal_as set format size file) (program_refusal_as set format wanted file) r (λ name is. program_refusal_is set format size wanted file (Some name) none same short is) refused
 
 -- a file of more bytes than that is too long
 is_long : (most : ℕ) (file : List ℕ) → most < length file → too_long most file ≡ Some (codes "FileTooLong")

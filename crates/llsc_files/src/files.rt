@@ -3,14 +3,14 @@ ghost use Rattle.std.specs.Prelude.{◌≡◌, None, Some, IfOk, IfErr, MatchRes
 ghost use Rattle.llsc_base.specs.Sizes.{size_fault};
 ghost use Rattle.llsc_words.specs.Request.{machine_by};
 ghost use Rattle.llsc_files.specs.Refusals.{machine_of, too_long, most_program, size_refusal, IsRefusal};
-ghost use Rattle.llsc_files.specs.Programs.{image_of, program_refusal, refusal_on, IsLoaded};
+ghost use Rattle.llsc_files.specs.Programs.{image_of, program_refusal, program_refusal_as, refusal_as, IsLoaded, IsLoadedAs};
 ghost use Rattle.llsc_files.specs.Reads.{Reads};
 
-use crate::programs::image_of;
+use crate::programs::image_as;
 use crate::refusals::{Refusal, refuse};
 use llsc_base::{Image, MachineSize, SizeFault};
 use llsc_host::{Host, ReadFault};
-use llsc_words::{Format, MachineNumbers, RUN_CLASSES, RUN_LIMIT};
+use llsc_words::{Format, MachineNumbers, RUN_CLASSES, RUN_LIMIT, SetName};
 use std::alloc::Global;
 
 /// The number of the least granule, by which a row has eight bytes.
@@ -74,20 +74,21 @@ pub fn machine(alloc: Global, numbers: MachineNumbers) -> Result<MachineSize, Re
     }
 }
 
-/// The image of a program's file on a machine.
+/// The image of the file of a program of that instruction set on a machine.
 #[tactic(auto, using(crate::proofs::Images::image_sized))]
 fn image_on(
     alloc: Global,
+    set: SetName,
     format: Format,
     size: &MachineSize,
     file: &[u8],
 ) -> Result<Image, Refusal>
-    ensures sound { IfOk result (λ image. refusal_on format size.now file.now ≡ None) }
+    ensures sound { IfOk result (λ image. refusal_as set format size.now file.now ≡ None) }
     ensures image { IfOk result (λ image. image ≡ image_of format file.now size.now) }
     ensures whole { IfOk result (λ image. length image.bytes ≡ size.now.mem) }
-    ensures refused { IfErr result (IsRefusal (refusal_on format size.now file.now)) }
+    ensures refused { IfErr result (IsRefusal (refusal_as set format size.now file.now)) }
 {
-    match image_of(alloc, format, size, file) {
+    match image_as(alloc, set, format, size, file) {
         Ok(image) => Ok(image),
         Err(fault) if fault.is_wanting() => Err(Refusal::Memory),
         Err(fault) => Err(refuse(alloc, fault.name())),
@@ -101,11 +102,32 @@ pub struct Loaded {
     pub image: Image,
 }
 
-/// The machine of these numbers, and the image of a program's file on it.
+/// The machine of these numbers, and the image of the file of a program of that instruction set on it.
 ///
 /// # Errors
 ///
 /// The refusal by what stands against the file, first.
+pub fn load_as(
+    alloc: Global,
+    numbers: MachineNumbers,
+    set: SetName,
+    format: Format,
+    file: Vec<u8>,
+) -> Result<Loaded, Refusal>
+    requires { too_long most_program file.items ≡ None }
+    ensures loaded { IfOk result (IsLoadedAs set format (machine_by numbers) file.items) }
+    ensures refused { IfErr result (IsRefusal (program_refusal_as set format (machine_by numbers) file.items)) }
+{
+    let size = machine(alloc, numbers)?;
+    let image = image_on(alloc, set, format, &size, file.as_slice())?;
+    Ok(Loaded { size, image })
+}
+
+/// As [`load_as`], for A32.
+///
+/// # Errors
+///
+/// Those of [`load_as`].
 pub fn load(
     alloc: Global,
     numbers: MachineNumbers,
@@ -116,7 +138,5 @@ pub fn load(
     ensures loaded { IfOk result (IsLoaded format (machine_by numbers) file.items) }
     ensures refused { IfErr result (IsRefusal (program_refusal format (machine_by numbers) file.items)) }
 {
-    let size = machine(alloc, numbers)?;
-    let image = image_on(alloc, format, &size, file.as_slice())?;
-    Ok(Loaded { size, image })
+    load_as(alloc, numbers, SetName::A32, format, file)
 }
