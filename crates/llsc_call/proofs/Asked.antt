@@ -29,7 +29,7 @@ not_first name other names none is = (recursion_from_All (λ x. name ≢ x) (oth
 
 pub due_named : (held : List ℕ → Option (List ℕ)) (asked : Request) (name : List ℕ) → IsNoneOf (files_of asked) name → IsDue held asked name → ⊥
 due_named held (Solo file format mem budget) name none due = not_first name file [] none due.0
-due_named held (Run file format first spare size budget) name none due = not_first name file [] none due.0
+due_named held (Run file format set first spare size budget) name none due = not_first name file [] none due.0
 due_named held (Pool file format size workers slice budget) name none due = not_first name file [] none due.0
 due_named held (Assemble file format) name none due = not_first name file [] none due
 due_named held (Disassemble file format mem) name none due = not_first name file [] none due.0

@@ -12,8 +12,10 @@ use Rattle.llsc_host.specs.Said.{refusal_text}
 use Rattle.llsc_host.specs.Writes.{KeepsReads, KeepsWrites}
 use Rattle.llsc_host.proofs.Kept.{reads_kept, writes_kept}
 use Rattle.llsc_words.specs.declared.formats.Format.{Format}
+use Rattle.llsc_words.specs.declared.sets.SetName.{SetName}
+use Rattle.llsc_words.specs.declared.sets.SetName.TheVariants.{A32}
 use Rattle.llsc_words.specs.Request.{Request, Solo, Run, Pool, Assemble, Disassemble, Trace, Check, Load, files_of}
-use Rattle.llsc_files.specs.Programs.{image_of, program_refusal}
+use Rattle.llsc_files.specs.Programs.{image_of, program_refusal, program_refusal_as}
 use Rattle.llsc_files.specs.Reads.{Had, IsHad, MayBeLong, Reads}
 use Rattle.llsc_files.specs.Refusals.{Answer, Is, machine_of, most_program, size_refusal, solo_size, too_long, unless}
 use Rattle.llsc_texts.specs.Assembly.{text_answer, text_refusal}
@@ -42,7 +44,7 @@ are_held (Some file) = refl
 -- what stands against a request by its first file
 abbrev stands : Request → List ℕ → Option (List ℕ)
 stands (Solo name format mem budget) file = program_refusal format (solo_size mem) file
-stands (Run name format first spare size budget) file = program_refusal format size file
+stands (Run name format set first spare size budget) file = program_refusal_as set format size file
 stands (Pool name format size workers slice budget) file = program_refusal format size file
 stands (Assemble name format) file = text_refusal file
 stands (Disassemble name format mem) file = program_refusal format (solo_size mem) file
@@ -67,10 +69,10 @@ refused_first : (held : List ℕ → Option (List ℕ)) (asked : Request) (file 
     → (files : List (List ℕ)) × (AreFiles held (files_of asked) files × Answers asked files None 4 (refusal_text against))
 refused_first held (Solo name format mem budget) file against may is =
     (file ∷ [], ((may, tt), (refl, unless_refused (IsReported (image_of format file (solo_size mem)) (solo_size mem) budget) (program_refusal format (solo_size mem) file) against is)))
-refused_first held (Run name format first spare size budget) file against may is =
-    (file ∷ [], ((may, tt), run_is_refused (program_refusal format size file) (ReportsRun None (image_of format file size) size first spare budget) against is))
+refused_first held (Run name format set first spare size budget) file against may is =
+    (file ∷ [], ((may, tt), run_is_refused (program_refusal_as set format size file) (ReportsRun set None (image_of format file size) size first spare budget) against is))
 refused_first held (Pool name format size workers slice budget) file against may is =
-    (file ∷ [], ((may, tt), run_is_refused (program_refusal format size file) (ReportsRun None (image_of format file size) size size.threads 0 budget) against is))
+    (file ∷ [], ((may, tt), run_is_refused (program_refusal format size file) (ReportsRun A32 None (image_of format file size) size size.threads 0 budget) against is))
 refused_first held (Assemble name format) file against may is =
     (file ∷ [], ((may, tt), (refl, is_refused (text_refusal file) (text_answer format (unit_of file)) against is)))
 refused_first held (Disassemble name format mem) file against may is =
@@ -89,34 +91,34 @@ refused_first held (Check name recorded format mem) file against may is =
 refused_first held (Load seed threads rounds budget) file against may is = absurd may
 
 -- by its machine, whatever its file
-unsized : (format : Format) (size : Numbers) (file name : List ℕ) → size_refusal size ≡ Some name → program_refusal format size file ≡ Some name
-unsized format size file name is = rw is refl
+unsized : (set : SetName) (format : Format) (size : Numbers) (file name : List ℕ) → size_refusal size ≡ Some name → program_refusal_as set format size file ≡ Some name
+unsized set format size file name is = rw is refl
 
 pub refused_barred : (held : List ℕ → Option (List ℕ)) (asked : Request) (against : List ℕ) → barred asked ≡ Some against
     → (files : List (List ℕ)) × (AreFiles held (files_of asked) files × Answers asked files None 4 (refusal_text against))
 refused_barred held (Solo name format mem budget) against is =
     let file = held_bytes (held name) in
-    refused_first held (Solo name format mem budget) file against (are_held (held name)) (unsized format (solo_size mem) file against is)
-refused_barred held (Run name format first spare size budget) against is =
+    refused_first held (Solo name format mem budget) file against (are_held (held name)) (unsized A32 format (solo_size mem) file against is)
+refused_barred held (Run name format set first spare size budget) against is =
     let file = held_bytes (held name) in
-    refused_first held (Run name format first spare size budget) file against (are_held (held name)) (unsized format size file against is)
+    refused_first held (Run name format set first spare size budget) file against (are_held (held name)) (unsized set format size file against is)
 refused_barred held (Pool name format size workers slice budget) against is =
     let file = held_bytes (held name) in
-    refused_first held (Pool name format size workers slice budget) file against (are_held (held name)) (unsized format size file against is)
+    refused_first held (Pool name format size workers slice budget) file against (are_held (held name)) (unsized A32 format size file against is)
 refused_barred held (Disassemble name format mem) against is =
     let file = held_bytes (held name) in
-    refused_first held (Disassemble name format mem) file against (are_held (held name)) (unsized format (solo_size mem) file against is)
+    refused_first held (Disassemble name format mem) file against (are_held (held name)) (unsized A32 format (solo_size mem) file against is)
 refused_barred held (Trace name format threads mem granule seed budget) against is =
     let file = held_bytes (held name) in
-    refused_first held (Trace name format threads mem granule seed budget) file against (are_held (held name)) (unsized format (machine_of threads mem granule) file against is)
+    refused_first held (Trace name format threads mem granule seed budget) file against (are_held (held name)) (unsized A32 format (machine_of threads mem granule) file against is)
 refused_barred held (Assemble name format) against is = absurd cc
 refused_barred held (Check name recorded format mem) against is = absurd cc
 refused_barred held (Load seed threads rounds budget) against is = absurd cc
 
 -- by the length of its file
-long : (format : Format) (size : Numbers) (file : List ℕ) → size_refusal size ≡ None → too_long most_program file ≡ Some (codes "FileTooLong")
-    → program_refusal format size file ≡ Some (codes "FileTooLong")
-long format size file none is = rw (none, is) refl
+long : (set : SetName) (format : Format) (size : Numbers) (file : List ℕ) → size_refusal size ≡ None → too_long most_program file ≡ Some (codes "FileTooLong")
+    → program_refusal_as set format size file ≡ Some (codes "FileTooLong")
+long set format size file none is = rw (none, is) refl
 
 text_long : (file : List ℕ) → too_long most_text file ≡ Some (codes "FileTooLong") → text_refusal file ≡ Some (codes "FileTooLong")
 text_long file is = rw is refl
@@ -155,15 +157,15 @@ pub first_unread : {S : Type 0} (host : Ghosts S) (old new : S) (asked : Request
 first_unread host old new (Solo name format mem budget) f none read =
     let asked : Request = Solo name format mem budget in
     one_unread host old new asked name most_program f (refl, none)
-    (λ may. refused_first (host.file old) asked may.0 (codes "FileTooLong") may.1.0 (long format (solo_size mem) may.0 none may.1.1)) read
-first_unread host old new (Run name format first spare size budget) f none read =
-    let asked : Request = Run name format first spare size budget in
+    (λ may. refused_first (host.file old) asked may.0 (codes "FileTooLong") may.1.0 (long A32 format (solo_size mem) may.0 none may.1.1)) read
+first_unread host old new (Run name format set first spare size budget) f none read =
+    let asked : Request = Run name format set first spare size budget in
     one_unread host old new asked name most_program f (refl, none)
-    (λ may. refused_first (host.file old) asked may.0 (codes "FileTooLong") may.1.0 (long format size may.0 none may.1.1)) read
+    (λ may. refused_first (host.file old) asked may.0 (codes "FileTooLong") may.1.0 (long set format size may.0 none may.1.1)) read
 first_unread host old new (Pool name format size workers slice budget) f none read =
     let asked : Request = Pool name format size workers slice budget in
     one_unread host old new asked name most_program f (refl, none)
-    (λ may. refused_first (host.file old) asked may.0 (codes "FileTooLong") may.1.0 (long format size may.0 none may.1.1)) read
+    (λ may. refused_first (host.file old) asked may.0 (codes "FileTooLong") may.1.0 (long A32 format size may.0 none may.1.1)) read
 first_unread host old new (Assemble name format) f none read =
     let asked : Request = Assemble name format in
     one_unread host old new asked name most_text f refl
@@ -171,11 +173,11 @@ first_unread host old new (Assemble name format) f none read =
 first_unread host old new (Disassemble name format mem) f none read =
     let asked : Request = Disassemble name format mem in
     one_unread host old new asked name most_program f (refl, none)
-    (λ may. refused_first (host.file old) asked may.0 (codes "FileTooLong") may.1.0 (long format (solo_size mem) may.0 none may.1.1)) read
+    (λ may. refused_first (host.file old) asked may.0 (codes "FileTooLong") may.1.0 (long A32 format (solo_size mem) may.0 none may.1.1)) read
 first_unread host old new (Trace name format threads mem granule seed budget) f none read =
     let asked : Request = Trace name format threads mem granule seed budget in
     one_unread host old new asked name most_program f (refl, none)
-    (λ may. refused_first (host.file old) asked may.0 (codes "FileTooLong") may.1.0 (long format (machine_of threads mem granule) may.0 none may.1.1)) read
+    (λ may. refused_first (host.file old) asked may.0 (codes "FileTooLong") may.1.0 (long A32 format (machine_of threads mem granule) may.0 none may.1.1)) read
 first_unread host old new (Check name recorded format mem) f none read =
     let asked : Request = Check name recorded format mem in
     one_unread host old new asked name most_program f (inl refl)
@@ -196,7 +198,7 @@ record_long held name recorded format mem file may short too_long = (
 pub second_unread : {S : Type 0} (host : Ghosts S) (old mid new : S) (asked : Request) (file : Vec ℕ Global) (f : ReadFault)
     → ReadWanted host old mid (first_file asked) (Ok file) → ReadWanted host mid new (second_file asked) (Err f) → ReadFiles host old new asked (Err f)
 second_unread host old mid new (Solo name format mem budget) file f first second = absurd second
-second_unread host old mid new (Run name format heads spare size budget) file f first second = absurd second
+second_unread host old mid new (Run name format set heads spare size budget) file f first second = absurd second
 second_unread host old mid new (Pool name format size workers slice budget) file f first second = absurd second
 second_unread host old mid new (Assemble name format) file f first second = absurd second
 second_unread host old mid new (Disassemble name format mem) file f first second = absurd second
@@ -211,7 +213,7 @@ pub all_had : {S : Type 0} (host : Ghosts S) (old mid new : S) (asked : Request)
     → ReadWanted host old mid (first_file asked) (Ok files.first) → ReadWanted host mid new (second_file asked) (Ok files.second) → ReadFiles host old new asked (Ok files)
 all_had host old mid new (Solo name format mem budget) files first second =
     record { had = (reads_kept host old mid new first.had.0 second.0, ((first.had.1.1, tt), (first.had.1.0, tt))); writes = writes_kept host old mid new first.writes second.1 }
-all_had host old mid new (Run name format heads spare size budget) files first second =
+all_had host old mid new (Run name format set heads spare size budget) files first second =
     record { had = (reads_kept host old mid new first.had.0 second.0, ((first.had.1.1, tt), (first.had.1.0, tt))); writes = writes_kept host old mid new first.writes second.1 }
 all_had host old mid new (Pool name format size workers slice budget) files first second =
     record { had = (reads_kept host old mid new first.had.0 second.0, ((first.had.1.1, tt), (first.had.1.0, tt))); writes = writes_kept host old mid new first.writes second.1 }

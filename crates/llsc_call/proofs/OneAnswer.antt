@@ -5,6 +5,7 @@ use Rattle.llsc_base.specs.Images.{Program}
 use Rattle.history.specs.Accesses.{history_of}
 use Rattle.guest_thread.specs.Ends.{AreEnds}
 use Rattle.guest_thread.specs.Start.{thread_start}
+use Rattle.guest_thread.specs.declared.ends.GuestEnd.{GuestEnd}
 use Rattle.history.specs.declared.entry.Entry.{Entry}
 use Rattle.guest_thread.proofs.OneOutcome.{one_list, one_list_on}
 use Rattle.guest_family.proofs.OneFamily.{one_outcome_from}
@@ -17,10 +18,12 @@ use Rattle.run_record.specs.declared.faults.RecordFault.{RecordFault}
 use Rattle.run_record.specs.declared.records.RunRecord.{RunRecord}
 use Rattle.run_checker.proofs.Right.{one_verdict}
 use Rattle.llsc_words.specs.declared.formats.Format.{Format}
-use Rattle.llsc_files.specs.Programs.{image_of, program_refusal}
+use Rattle.llsc_words.specs.declared.sets.SetName.{SetName}
+use Rattle.llsc_words.specs.declared.sets.SetName.TheVariants.{A32, Rv32}
+use Rattle.llsc_files.specs.Programs.{image_of, program_refusal, program_refusal_as}
 use Rattle.llsc_files.specs.Refusals.{Answer, machine_of, solo_size, Unless, Is}
 use Rattle.llsc_report.specs.Report.{report_of}
-use Rattle.llsc_call.specs.Run.{ReportsRun, UnlessRun}
+use Rattle.llsc_call.specs.Run.{IsOutcomeBy, ReportsRun, UnlessRun}
 use Rattle.llsc_call.specs.Load.{TellsLoad, load_program, load_refusal, load_size, load_text}
 use Rattle.llsc_texts.specs.Assembly.{asm_answer}
 use Rattle.llsc_texts.specs.Disassembly.{dis_answer}
@@ -93,10 +96,15 @@ read_one format mem file (Ok run) =
     unless_one (IsJudged (image_of format file size) size run) (program_refusal format size file) (judged_one (image_of format file size) size run)
 
 -- a run, by its history
-run_one : (program : Program) (size : Numbers) (first spare budget : ℕ) (story : Option (List Entry)) → AreOne (ReportsRun story program size first spare budget)
-run_one program size first spare budget None status other text more a b = absurd a
-run_one program size first spare budget (Some history) status other text more a b =
-    let ends : a.0 ≡ b.0 = one_outcome_from program size first spare budget history a.0 b.0 a.1.0 b.1.0 in
+one_outcome_by : (set : SetName) (program : Program) (size : Numbers) (first spare budget : ℕ) (history : List Entry) (all others : List GuestEnd)
+    → IsOutcomeBy set program size first spare budget history all → IsOutcomeBy set program size first spare budget history others → all ≡ others
+one_outcome_by A32 program size first spare budget history all others a b = one_outcome_from program size first spare budget history all others a b
+one_outcome_by Rv32 program size first spare budget history all others a b = absurd a
+
+run_one : (set : SetName) (program : Program) (size : Numbers) (first spare budget : ℕ) (story : Option (List Entry)) → AreOne (ReportsRun set story program size first spare budget)
+run_one set program size first spare budget None status other text more a b = absurd a
+run_one set program size first spare budget (Some history) status other text more a b =
+    let ends : a.0 ≡ b.0 = one_outcome_by set program size first spare budget history a.0 b.0 a.1.0 b.1.0 in
     (a.1.1.1.0 ∙ ap status_of_all ends ∙ sym b.1.1.1.0, a.1.1.1.1 ∙ ap (report_of budget) ends ∙ sym b.1.1.1.1)
 
 -- a load, by its history
@@ -122,10 +130,10 @@ pub answers_one : (asked : Request) (files : List (List ℕ)) (story : Option (L
 answers_one (Solo name format mem budget) (file ∷ []) story =
     let size = solo_size mem in
     untold_one (unless_one (IsReported (image_of format file size) size budget) (program_refusal format size file) (report_one (image_of format file size) size budget))
-answers_one (Run name format first spare size budget) (file ∷ []) story =
-    unless_run_one (program_refusal format size file) story (ReportsRun story (image_of format file size) size first spare budget) (run_one (image_of format file size) size first spare budget story)
+answers_one (Run name format set first spare size budget) (file ∷ []) story =
+    unless_run_one (program_refusal_as set format size file) story (ReportsRun set story (image_of format file size) size first spare budget) (run_one set (image_of format file size) size first spare budget story)
 answers_one (Pool name format size workers slice budget) (file ∷ []) story =
-    unless_run_one (program_refusal format size file) story (ReportsRun story (image_of format file size) size size.threads 0 budget) (run_one (image_of format file size) size size.threads 0 budget story)
+    unless_run_one (program_refusal format size file) story (ReportsRun A32 story (image_of format file size) size size.threads 0 budget) (run_one A32 (image_of format file size) size size.threads 0 budget story)
 answers_one (Assemble name format) (file ∷ []) story = untold_one (is_one (asm_answer format file))
 answers_one (Disassemble name format mem) (file ∷ []) story = untold_one (is_one (dis_answer format mem file))
 answers_one (Trace name format threads mem granule seed budget) (file ∷ []) story =
@@ -138,8 +146,8 @@ answers_one (Load seed threads rounds budget) [] story =
 answers_one (Load seed threads rounds budget) (first ∷ rest) story = λ status other text more a b. absurd a
 answers_one (Solo name format mem budget) [] story = λ status other text more a b. absurd a
 answers_one (Solo name format mem budget) (first ∷ second ∷ rest) story = λ status other text more a b. absurd a
-answers_one (Run name format first spare size budget) [] story = λ status other text more a b. absurd a
-answers_one (Run name format first spare size budget) (one ∷ two ∷ rest) story = λ status other text more a b. absurd a
+answers_one (Run name format set first spare size budget) [] story = λ status other text more a b. absurd a
+answers_one (Run name format set first spare size budget) (one ∷ two ∷ rest) story = λ status other text more a b. absurd a
 answers_one (Pool name format size workers slice budget) [] story = λ status other text more a b. absurd a
 answers_one (Pool name format size workers slice budget) (one ∷ two ∷ rest) story = λ status other text more a b. absurd a
 answers_one (Assemble name format) [] story = λ status other text more a b. absurd a

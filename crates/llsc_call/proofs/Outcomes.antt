@@ -5,12 +5,14 @@ use Rattle.llsc_base.specs.Images.{Program}
 use Rattle.history.specs.declared.entry.Entry.{Entry}
 use Rattle.version_memory.specs.declared.passes.VersionStory.{VersionStory}
 use Rattle.llsc_words.specs.declared.formats.Format.{Format}
+use Rattle.llsc_words.specs.declared.sets.SetName.{SetName}
+use Rattle.llsc_words.specs.declared.sets.SetName.TheVariants.{A32}
 use Rattle.llsc_host.specs.Said.{refusal_text}
 use Rattle.llsc_files.specs.declared.files.Loaded.{Loaded}
 use Rattle.llsc_files.specs.declared.refusals.Refusal.{Refusal}
 use Rattle.llsc_files.specs.declared.refusals.Refusal.TheVariants as refusal
 use Rattle.llsc_files.specs.Refusals.{Answer, Is, unless, IsRefusal, Unless}
-use Rattle.llsc_files.specs.Programs.{image_of, program_refusal, IsLoaded}
+use Rattle.llsc_files.specs.Programs.{image_of, program_refusal, program_refusal_as, IsLoaded, IsLoadedAs}
 use Rattle.llsc_texts.specs.Assembly.{IsGiven}
 use Rattle.llsc_call.specs.Outcome.{Gives, GivesBy, IsOneOf, refused_by}
 use Rattle.llsc_call.specs.Run.{told, UnlessRun}
@@ -64,9 +66,9 @@ file_refused A format size wanted file o r same is refused =
     gives_unless A (program_refusal format wanted file) o r is (subst (λ n. IsRefusal (program_refusal format n file) r) same refused)
 
 -- it was loaded, and what was made of its image is the answer
-answer_on : (A : Program → Numbers → ℕ → List ℕ → Type 0) (format : Format) (size wanted : Numbers) (file : List ℕ) (loaded : Loaded) → size ≡ wanted
-    → IsLoaded format size file loaded → (s : ℕ) (text : List ℕ) → A loaded.image loaded.size s text → A (image_of format file wanted) wanted s text
-answer_on A format size wanted file loaded same had s text holds =
+answer_on : (A : Program → Numbers → ℕ → List ℕ → Type 0) (set : SetName) (format : Format) (size wanted : Numbers) (file : List ℕ) (loaded : Loaded) → size ≡ wanted
+    → IsLoadedAs set format size file loaded → (s : ℕ) (text : List ℕ) → A loaded.image loaded.size s text → A (image_of format file wanted) wanted s text
+answer_on A set format size wanted file loaded same had s text holds =
     subst (λ n. A (image_of format file n) n s text) same
     (subst (λ i. A i size s text) had.image (subst (λ n. A loaded.image n s text) had.sized holds))
 
@@ -75,7 +77,7 @@ pub file_loaded : (A : Program → Numbers → ℕ → List ℕ → Type 0) (for
 file_loaded A format size wanted file loaded o same had gives =
     gives_as o
     (λ s text holds. unless_none (A (image_of format file wanted) wanted) (program_refusal format wanted file) s text
-    (subst (λ n. program_refusal format n file ≡ None) same had.sound) (answer_on A format size wanted file loaded same had s text holds))
+    (subst (λ n. program_refusal format n file ≡ None) same had.sound) (answer_on A A32 format size wanted file loaded same had s text holds))
     gives
 
 -- an answer of one text and one status
@@ -105,11 +107,11 @@ pub run_clean : (against : Option (List ℕ)) (A : Option (List Entry) → ℕ �
     → against ≡ None → A story s text → UnlessRun against story (A story) s text
 run_clean against A story s text none holds = subst (λ a. UnlessRun a story (A story) s text) (sym none) holds
 
-pub run_loaded : (A : Option (List Entry) → Program → Numbers → ℕ → List ℕ → Type 0) (format : Format) (size : Numbers) (file : List ℕ) (loaded : Loaded) (o : Outcome) (story : Option VersionStory)
-    → IsLoaded format size file loaded → GivesBy (λ story. A story loaded.image loaded.size) o story
-    → GivesBy (λ story. UnlessRun (program_refusal format size file) story (A story (image_of format file size) size)) o story
-run_loaded A format size file loaded o story had gives =
-    gives_by_as (λ story. A story loaded.image loaded.size) (λ story. UnlessRun (program_refusal format size file) story (A story (image_of format file size) size)) o story
-    (λ s text holds. run_clean (program_refusal format size file) (λ story. A story (image_of format file size) size) (told story) s text had.sound
-    (answer_on (A (told story)) format size size file loaded refl had s text holds))
+pub run_loaded : (A : Option (List Entry) → Program → Numbers → ℕ → List ℕ → Type 0) (set : SetName) (format : Format) (size : Numbers) (file : List ℕ) (loaded : Loaded) (o : Outcome) (story : Option VersionStory)
+    → IsLoadedAs set format size file loaded → GivesBy (λ story. A story loaded.image loaded.size) o story
+    → GivesBy (λ story. UnlessRun (program_refusal_as set format size file) story (A story (image_of format file size) size)) o story
+run_loaded A set format size file loaded o story had gives =
+    gives_by_as (λ story. A story loaded.image loaded.size) (λ story. UnlessRun (program_refusal_as set format size file) story (A story (image_of format file size) size)) o story
+    (λ s text holds. run_clean (program_refusal_as set format size file) (λ story. A story (image_of format file size) size) (told story) s text had.sound
+    (answer_on (A (told story)) set format size size file loaded refl had s text holds))
     gives

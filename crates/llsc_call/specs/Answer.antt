@@ -6,6 +6,7 @@ use Rattle.history.specs.declared.entry.Entry.{Entry}
 use Rattle.guest_thread.specs.declared.ends.GuestEnd.{GuestEnd}
 use Rattle.guest_machine.specs.Alone.{IsSoloEnd}
 use Rattle.llsc_words.specs.declared.formats.Format.{Format}
+use Rattle.llsc_words.specs.declared.sets.SetName.TheVariants.{A32}
 use Rattle.llsc_report.specs.Report.{report_of}
 use Rattle.llsc_host.specs.Host.{Rose, AreBytes, AddsFront}
 use Rattle.llsc_words.specs.Request.{Request, Solo, Run, Pool, Assemble, Disassemble, Trace, Check, Load, files_of}
@@ -35,8 +36,8 @@ AnswersSolo format mem budget file status text =
 -- files, in the order of their names
 abbrev pub Answers : Request → List (List ℕ) → Option (List Entry) → ℕ → List ℕ → Type 0
 Answers (Solo name format mem budget) (file ∷ []) story status text = (story ≡ None) × AnswersSolo format mem budget file status text
-Answers (Run name format first spare size budget) (file ∷ []) story status text = AnswersRun format first spare size budget file story status text
-Answers (Pool name format size workers slice budget) (file ∷ []) story status text = AnswersRun format size.threads 0 size budget file story status text
+Answers (Run name format set first spare size budget) (file ∷ []) story status text = AnswersRun set format first spare size budget file story status text
+Answers (Pool name format size workers slice budget) (file ∷ []) story status text = AnswersRun A32 format size.threads 0 size budget file story status text
 Answers (Assemble name format) (file ∷ []) story status text = (story ≡ None) × AnswersAsm format file status text
 Answers (Disassemble name format mem) (file ∷ []) story status text = (story ≡ None) × AnswersDis format mem file status text
 Answers (Trace name format threads mem granule seed budget) (file ∷ []) story status text = (story ≡ None) × AnswersTrace format threads mem granule seed budget file status text
@@ -63,7 +64,7 @@ IsNoneOf names name = All (λ other. name ≢ other) names
 -- and for the second file that the first is too long.
 abbrev pub IsDue : (List ℕ → Option (List ℕ)) → Request → List ℕ → Type 0
 IsDue held (Solo file format mem budget) name = (name ≡ file) × (size_refusal (solo_size mem) ≡ None)
-IsDue held (Run file format first spare size budget) name = (name ≡ file) × (size_refusal size ≡ None)
+IsDue held (Run file format set first spare size budget) name = (name ≡ file) × (size_refusal size ≡ None)
 IsDue held (Pool file format size workers slice budget) name = (name ≡ file) × (size_refusal size ≡ None)
 IsDue held (Assemble file format) name = name ≡ file
 IsDue held (Disassemble file format mem) name = (name ≡ file) × (size_refusal (solo_size mem) ≡ None)

@@ -24,7 +24,7 @@ wanted file = (file.name.now, file.most)
 
 abbrev pub first_file : Request → Option (List ℕ × ℕ)
 first_file (Solo file format mem budget) = Some (file, most_program)
-first_file (Run file format first spare size budget) = Some (file, most_program)
+first_file (Run file format set first spare size budget) = Some (file, most_program)
 first_file (Pool file format size workers slice budget) = Some (file, most_program)
 first_file (Assemble file format) = Some (file, most_text)
 first_file (Disassemble file format mem) = Some (file, most_program)
@@ -39,7 +39,7 @@ second_file _ = None
 -- the machine that a request names
 abbrev pub machine_wanted : Request → Option Numbers
 machine_wanted (Solo file format mem budget) = Some (solo_size mem)
-machine_wanted (Run file format first spare size budget) = Some size
+machine_wanted (Run file format set first spare size budget) = Some size
 machine_wanted (Pool file format size workers slice budget) = Some size
 machine_wanted (Disassemble file format mem) = Some (solo_size mem)
 machine_wanted (Trace file format threads mem granule seed budget) = Some (machine_of threads mem granule)

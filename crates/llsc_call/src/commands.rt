@@ -81,9 +81,10 @@ pub fn answer<R: Threads + Wait + Sync>(
         } => Answer::from(solo::outcome(alloc, format, mem, budget, first)),
         Request::Run {
             format,
+            set,
             numbers,
             ..
-        } => run::answer(rt, alloc, format, numbers, first),
+        } => run::answer(rt, alloc, set, format, numbers, first),
         Request::Pool {
             format,
             numbers,

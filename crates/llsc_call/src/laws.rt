@@ -21,9 +21,10 @@ ghost use Rattle.llsc_call.specs.Load.{AnswersLoad, CountsEveryRound, load_progr
 ghost use Rattle.llsc_files.specs.Programs.{image_of};
 ghost use Rattle.llsc_report.specs.Report.{report_of};
 ghost use Rattle.llsc_report.specs.Summary.{load_summary};
-ghost use Rattle.llsc_call.specs.Run.{AnswersRun};
+ghost use Rattle.llsc_call.specs.Run.{AnswersRun, IsOutcomeBy};
 ghost use Rattle.llsc_call.specs.Versions.{KeepsVersions};
 ghost use Rattle.llsc_words.specs.declared.formats.Format.{Format};
+ghost use Rattle.llsc_words.specs.declared.sets.SetName.{SetName};
 ghost use Rattle.llsc_words.specs.Request.{Request};
 
 use run_checker::Verdict;
@@ -41,10 +42,10 @@ pub fn answers_are_one()
 /// others end no reservation: a store-exclusive has lost only where a write of another thread in the class of its row had begun
 /// since its load-exclusive.
 pub fn runs_have_one_history()
-    ensures { (format : Format) (first spare : ℕ) (size : Numbers) (budget : ℕ) (file : List ℕ) (story : Option (List Entry)) (status : ℕ) (text : List ℕ) →
-        AnswersRun format first spare size budget file story status text → (status ≡ 0) ⊎ (status ≡ 1) →
+    ensures { (set : SetName) (format : Format) (first spare : ℕ) (size : Numbers) (budget : ℕ) (file : List ℕ) (story : Option (List Entry)) (status : ℕ) (text : List ℕ) →
+        AnswersRun set format first spare size budget file story status text → (status ≡ 0) ⊎ (status ≡ 1) →
         (history : List Entry) × (ends : List GuestEnd)
-        × ((story ≡ Some history) × (IsOutcomeFrom (image_of format file size) size first spare budget history ends
+        × ((story ≡ Some history) × (IsOutcomeBy set (image_of format file size) size first spare budget history ends
         × (KeepsVersions size history × (text ≡ report_of budget ends)))) }
 {}
 

@@ -11,7 +11,7 @@ use crate::beside::run_pool_beside;
 use crate::outcome::Outcome;
 use llsc_base::{Image, MachineSize};
 use llsc_files::load;
-use llsc_words::{Format, PoolNumbers};
+use llsc_words::{Format, PoolNumbers, SetName};
 use std::alloc::Global;
 use std::sync::Wait;
 use std::thread::Threads;
@@ -30,7 +30,7 @@ fn run<R: Threads + Wait + Sync>(
     requires workers { (1 ≤ workers) × (workers ≤ 4) }
     requires slice { 1 ≤ slice }
     requires budget { budget ≤ most_budget }
-    ensures { GivesBy (λ story. ReportsRun story image.now size.now size.now.threads 0 budget) result.outcome result.story }
+    ensures { GivesBy (λ story. ReportsRun SetName.A32 story image.now size.now size.now.threads 0 budget) result.outcome result.story }
 {
     let Ok(done) = run_pool_beside(rt, alloc, size, image, workers, slice, budget) else {
         return Answer::from(Outcome::NoMemory);
@@ -56,7 +56,7 @@ pub fn answer<R: Threads + Wait + Sync>(
     requires slice { 1 ≤ numbers.slice }
     requires budget { numbers.budget ≤ most_budget }
     requires short { too_long most_program file.items ≡ None }
-    ensures { GivesBy (AnswersRun format numbers.machine.threads 0 (machine_by numbers.machine) numbers.budget file.items) result.outcome result.story }
+    ensures { GivesBy (AnswersRun SetName.A32 format numbers.machine.threads 0 (machine_by numbers.machine) numbers.budget file.items) result.outcome result.story }
 {
     match load(alloc, numbers.machine, format, file) {
         Ok(loaded) => {

@@ -3,7 +3,7 @@ ghost use Rattle.std.specs.Prelude.{◌≡◌, ◌≤◌, ◌+◌, ◌*◌, None
 ghost use Rattle.llsc_base.specs.Limits.{most_budget};
 ghost use Rattle.version_memory.specs.Memory.{story_history};
 ghost use Rattle.llsc_words.specs.Request.{size_of_run};
-ghost use Rattle.llsc_files.specs.Programs.{program_refusal, IsLoaded};
+ghost use Rattle.llsc_files.specs.Programs.{program_refusal_as, IsLoadedAs};
 ghost use Rattle.llsc_files.specs.Refusals.{most_program, too_long, IsRefusal};
 ghost use Rattle.llsc_call.specs.Beside.{RanFrom};
 ghost use Rattle.llsc_call.specs.Run.{AnswersRun, ReportsRun};
@@ -13,8 +13,8 @@ use crate::answer::Answer;
 use crate::beside::{Finished, run_beside, run_family_beside};
 use crate::outcome::Outcome;
 use llsc_base::{Image, MachineSize};
-use llsc_files::{Loaded, Refusal, load};
-use llsc_words::{Format, RunNumbers};
+use llsc_files::{Loaded, Refusal, load_as};
+use llsc_words::{Format, RunNumbers, SetName};
 use std::alloc::{AllocError, Global};
 use std::sync::Wait;
 use std::thread::Threads;
@@ -60,7 +60,7 @@ fn run<R: Threads + Wait + Sync>(
     requires some { 1 ≤ first }
     requires all { first * (1 + spare) ≡ size.now.threads }
     requires budget { budget ≤ most_budget }
-    ensures { GivesBy (λ story. ReportsRun story image.now size.now first spare budget) result.outcome result.story }
+    ensures { GivesBy (λ story. ReportsRun SetName.A32 story image.now size.now first spare budget) result.outcome result.story }
 {
     let Ok(done) = run_threads(rt, alloc, size, image, first, spare, budget) else {
         return Answer::from(Outcome::NoMemory);
@@ -74,6 +74,30 @@ fn run<R: Threads + Wait + Sync>(
     }
 }
 
+/// Runs an image's threads of instructions of that set, and those that they start. Those of RISC-V aren't run yet, which is
+/// answered as want of memory is.
+fn run_of<R: Threads + Wait + Sync>(
+    rt: &R,
+    alloc: Global,
+    set: SetName,
+    size: &MachineSize,
+    image: &Image,
+    first: u32,
+    spare: u32,
+    budget: u64,
+) -> Answer
+    requires whole { length image.now.bytes ≡ size.now.mem }
+    requires some { 1 ≤ first }
+    requires all { first * (1 + spare) ≡ size.now.threads }
+    requires budget { budget ≤ most_budget }
+    ensures { GivesBy (λ story. ReportsRun set story image.now size.now first spare budget) result.outcome result.story }
+{
+    match set {
+        SetName::A32 => run(rt, alloc, size, image, first, spare, budget),
+        SetName::Rv32 => Answer::from(Outcome::NoMemory),
+    }
+}
+
 /// The machine of a run, and the image of a program's file on it.
 ///
 /// # Errors
@@ -81,37 +105,40 @@ fn run<R: Threads + Wait + Sync>(
 /// The refusal by what stands against the file, first.
 fn load_run(
     alloc: Global,
+    set: SetName,
     format: Format,
     numbers: RunNumbers,
     file: Vec<u8>,
 ) -> Result<Loaded, Refusal>
     requires short { too_long most_program file.items ≡ None }
-    ensures loaded { IfOk result (IsLoaded format (size_of_run numbers) file.items) }
+    ensures loaded { IfOk result (IsLoadedAs set format (size_of_run numbers) file.items) }
     ensures few { OnOk result ((1 ≤ numbers.machine.threads) × (numbers.machine.threads ≤ 16) × (numbers.spare ≤ 16)) }
-    ensures refused { IfErr result (IsRefusal (program_refusal format (size_of_run numbers) file.items)) }
+    ensures refused { IfErr result (IsRefusal (program_refusal_as set format (size_of_run numbers) file.items)) }
 {
-    load(alloc, numbers.whole_machine(), format, file)
+    load_as(alloc, numbers.whole_machine(), set, format, file)
 }
 
 /// Runs a file as the threads of a machine of these numbers, and those that they start.
 pub fn answer<R: Threads + Wait + Sync>(
     rt: &R,
     alloc: Global,
+    set: SetName,
     format: Format,
     numbers: RunNumbers,
     file: Vec<u8>,
 ) -> Answer
     requires budget { numbers.budget ≤ most_budget }
     requires short { too_long most_program file.items ≡ None }
-    ensures { GivesBy (AnswersRun format numbers.machine.threads numbers.spare (size_of_run numbers) numbers.budget file.items) result.outcome result.story }
+    ensures { GivesBy (AnswersRun set format numbers.machine.threads numbers.spare (size_of_run numbers) numbers.budget file.items) result.outcome result.story }
 {
-    match load_run(alloc, format, numbers, file) {
+    match load_run(alloc, set, format, numbers, file) {
         Ok(loaded) => {
             let first = numbers.machine.threads as u32;
             let spare = numbers.spare as u32;
-            run(
+            run_of(
                 rt,
                 alloc,
+                set,
                 &loaded.size,
                 &loaded.image,
                 first,

@@ -1,4 +1,5 @@
 use Rattle.llsc_words.specs.Request.{machine_by}
+use Rattle.llsc_words.specs.declared.sets.SetName.TheVariants.{A32}
 use Rattle.llsc_files.specs.Programs.{image_of, program_refusal}
 use Rattle.llsc_call.specs.Run.{ReportsRun}
 use Rattle.llsc_call.proofs.Outcomes.{run_loaded, run_refused}
@@ -8,13 +9,13 @@ pub returns-in-Ok : goal.returns-in-Ok
 returns-in-Ok g c =
     let n = c.args.numbers in
     let size = machine_by n.machine in
-    run_loaded (λ story program size. ReportsRun story program size size.threads 0 n.budget) c.args.format size c.args.file.items c.in-Ok.loaded c.run.result.outcome c.run.result.story
+    run_loaded (λ story program size. ReportsRun A32 story program size size.threads 0 n.budget) A32 c.args.format size c.args.file.items c.in-Ok.loaded c.run.result.outcome c.run.result.story
     c.in-Ok.ensures.loaded c.run.ensures
 
 pub returns-in-Err : goal.returns-in-Err
 returns-in-Err g c =
     let n = c.args.numbers in
     let size = machine_by n.machine in
-    run_refused (program_refusal c.args.format size c.args.file.items) (λ story. ReportsRun story (image_of c.args.format c.args.file.items size) size size.threads 0 n.budget)
+    run_refused (program_refusal c.args.format size c.args.file.items) (λ story. ReportsRun A32 story (image_of c.args.format c.args.file.items size) size size.threads 0 n.budget)
     c.from.result (c.from-in-Err).result.outcome (c.from-in-Err).result.story c.in-Err.refusal (c.from-in-Err).ensures.outcome (c.from-in-Err).ensures.story c.from.ensures
     c.in-Err.ensures.refused
