@@ -12,9 +12,10 @@ use Rattle.history.specs.Monitor.{at_rest_by, monitor_after}
 use Rattle.history.specs.Parts.{accesses_of}
 use Rattle.history.specs.Started.{AreBorn}
 use Rattle.history.specs.declared.entry.Entry.{Entry}
+use Rattle.a32_step.specs.Machine.{InstructionSet, a32}
 use Rattle.guest_thread.specs.BegunOutcome.{AreBegunEnds, IsOutcomeFrom}
 use Rattle.guest_thread.specs.Counting.{accesses_counted, counts_in}
-use Rattle.guest_thread.specs.Outcome.{AreEndsOn, IsOutcome}
+use Rattle.guest_thread.specs.Outcome.{AreEndsOnOf, IsOutcomeOf}
 use Rattle.guest_thread.specs.declared.ends.GuestEnd.{GuestEnd}
 use Rattle.guest_thread.proofs.Unstarted.{outcome_from}
 use Rattle.llsc_call.specs.Beside.{AreCells, Ran, RanFrom, left_by}
@@ -46,12 +47,12 @@ closed_cells program size bytes history seen cells same begins count each =
     (record { count = count; each = each }))
 
 -- the threads of a closed memory
-pub ran : (program : Program) (size : Numbers) (budget first spare : ℕ) (bytes : List ℕ) (history seen : List Entry) (ends : List GuestEnd) (cells : List ℕ)
-    → history ≡ seen → bytes ≡ program.bytes → first ≡ size.threads → spare ≡ 0 → IsLegal size bytes seen → IsComplete seen → AreBorn first spare seen → AreEndsOn program size budget seen ends → KeepsVersions size seen
+pub ran : {I S : Type 0} (set : InstructionSet I S) (program : Program) (size : Numbers) (budget first spare : ℕ) (bytes : List ℕ) (history seen : List Entry) (ends : List GuestEnd) (cells : List ℕ)
+    → history ≡ seen → bytes ≡ program.bytes → first ≡ size.threads → spare ≡ 0 → IsLegal size bytes seen → IsComplete seen → AreBorn first spare seen → AreEndsOnOf set program size budget seen ends → KeepsVersions size seen
     → HasSums ends → AreCells size (left_by program size history) cells
-    → Ran program size budget history ends cells
-ran program size budget first spare bytes history seen ends cells same begins all none legal complete born are versions sums cells_are = record {
-  outcome = subst (λ h. IsOutcome program size budget h ends) (sym same)
+    → Ran set program size budget history ends cells
+ran set program size budget first spare bytes history seen ends cells same begins all none legal complete born are versions sums cells_are = record {
+  outcome = subst (λ h. IsOutcomeOf set program size budget h ends) (sym same)
       (record { legal = subst (λ b. IsLegal size b seen) begins legal; complete = complete; born = subst (λ n. AreBorn size.threads n seen) none (subst (λ n. AreBorn n spare seen) all born); ends = are });
   versions = subst (λ h. KeepsVersions size h) (sym same) versions;
   sums = sums;
@@ -73,7 +74,7 @@ ran_from program size budget first spare bytes history seen ends cells same begi
 
 -- where none may be started, all threads began by themselves
 pub unstarted : (program : Program) (size : Numbers) (budget first spare : ℕ) (history : List Entry) (ends : List GuestEnd) (cells : List ℕ)
-    → spare ≡ 0 → first * (1 + spare) ≡ size.threads → Ran program size budget history ends cells → RanFrom program size first spare budget history ends cells
+    → spare ≡ 0 → first * (1 + spare) ≡ size.threads → Ran a32 program size budget history ends cells → RanFrom program size first spare budget history ends cells
 unstarted program size budget first spare history ends cells none all ran =
     let threads : size.threads ≡ first = sym all ∙ (rw none (mul-one first)) in
     record {

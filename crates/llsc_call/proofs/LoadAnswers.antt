@@ -16,6 +16,7 @@ use Rattle.guest_gen.specs.declared.faults.GenFault.TheVariants as gen
 use Rattle.history.specs.declared.entry.Entry.{Entry}
 use Rattle.guest_thread.specs.Outcome.{HaveLeft, IsOutcome}
 use Rattle.guest_thread.specs.declared.ends.GuestEnd.{GuestEnd}
+use Rattle.a32_step.specs.Machine.{a32}
 use Rattle.llsc_call.specs.Beside.{Ran}
 use Rattle.llsc_call.specs.Versions.{KeepsVersions}
 use Rattle.llsc_report.specs.Summary.{counter_of, load_summary, summary_by}
@@ -72,7 +73,7 @@ guest_few threads rounds clean = by_range (is_threads threads && is_rounds round
 
 -- the summary, where all threads left with code 0
 pub loaded_all : (seed threads rounds budget : ℕ) (history : List Entry) (ends : List GuestEnd) (cells : List ℕ)
-    → guest_refusal threads rounds ≡ None → Ran (load_program seed threads rounds) (load_size threads) budget history ends cells → status_of_all ends ≡ 0
+    → guest_refusal threads rounds ≡ None → Ran a32 (load_program seed threads rounds) (load_size threads) budget history ends cells → status_of_all ends ≡ 0
     → TellsLoad (Some history) seed threads rounds budget 0 (summary_by seed threads rounds (counter_of cells))
 loaded_all seed threads rounds budget history ends cells clean ran none =
     let left : have_left ends ≡ true = left-all (have_left ends) none in
@@ -89,7 +90,7 @@ not-left true some = absurd (some refl)
 not-left false some = refl
 
 pub loaded_some : (seed threads rounds budget : ℕ) (history : List Entry) (ends : List GuestEnd) (cells : List ℕ)
-    → Ran (load_program seed threads rounds) (load_size threads) budget history ends cells → (status_of_all ends ≡ 0 → ⊥)
+    → Ran a32 (load_program seed threads rounds) (load_size threads) budget history ends cells → (status_of_all ends ≡ 0 → ⊥)
     → TellsLoad (Some history) seed threads rounds budget (status_of_all ends) (report_of budget ends)
 loaded_some seed threads rounds budget history ends cells ran some =
     let none : have_left ends ≡ false = not-left (have_left ends) some in
@@ -97,7 +98,7 @@ loaded_some seed threads rounds budget history ends cells ran some =
 
 -- there are cells where the counters stand
 pub rows_enough : (seed threads rounds budget : ℕ) (history : List Entry) (ends : List GuestEnd) (cells : List ℕ)
-    → Ran (load_program seed threads rounds) (load_size threads) budget history ends cells → 2000 ≤ length cells
+    → Ran a32 (load_program seed threads rounds) (load_size threads) budget history ends cells → 2000 ≤ length cells
 rows_enough seed threads rounds budget history ends cells ran = omega (arith, ran.left.count)
 
 -- ---- the answer

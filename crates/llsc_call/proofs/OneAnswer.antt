@@ -3,6 +3,8 @@ use Rattle.std.proofs.Common.{◌≡◌, ℕ, inl, inr, List, [], ◌∷◌, Opt
 use Rattle.llsc_base.specs.Sizes.{Numbers}
 use Rattle.llsc_base.specs.Images.{Program}
 use Rattle.history.specs.Accesses.{history_of}
+use Rattle.a32_step.specs.Machine.{a32}
+use Rattle.rv32_guest.specs.Machine.{rv32}
 use Rattle.guest_thread.specs.Ends.{AreEnds}
 use Rattle.guest_thread.specs.Start.{thread_start}
 use Rattle.guest_thread.specs.declared.ends.GuestEnd.{GuestEnd}
@@ -99,7 +101,7 @@ read_one format mem file (Ok run) =
 one_outcome_by : (set : SetName) (program : Program) (size : Numbers) (first spare budget : ℕ) (history : List Entry) (all others : List GuestEnd)
     → IsOutcomeBy set program size first spare budget history all → IsOutcomeBy set program size first spare budget history others → all ≡ others
 one_outcome_by A32 program size first spare budget history all others a b = one_outcome_from program size first spare budget history all others a b
-one_outcome_by Rv32 program size first spare budget history all others a b = absurd a
+one_outcome_by Rv32 program size first spare budget history all others a b = one_list_on rv32 program size budget history all others a.ends b.ends
 
 run_one : (set : SetName) (program : Program) (size : Numbers) (first spare budget : ℕ) (story : Option (List Entry)) → AreOne (ReportsRun set story program size first spare budget)
 run_one set program size first spare budget None status other text more a b = absurd a
@@ -113,7 +115,7 @@ load_one seed threads rounds budget None status other text more a b = absurd a
 load_one seed threads rounds budget (Some history) status other text more a b =
     let program = load_program seed threads rounds in
     let size = load_size threads in
-    let ends : a.0 ≡ b.0 = one_list_on program size budget history a.0 b.0 a.1.0.ends b.1.0.ends in (
+    let ends : a.0 ≡ b.0 = one_list_on a32 program size budget history a.0 b.0 a.1.0.ends b.1.0.ends in (
       a.1.1.1.0 ∙ ap status_of_all ends ∙ sym b.1.1.1.0,
       a.1.1.1.1 ∙ ap (load_text seed threads rounds budget) ends ∙ sym b.1.1.1.1,
     )

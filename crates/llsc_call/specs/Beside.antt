@@ -6,8 +6,9 @@ use Rattle.row_bytes.specs.Cell.{cell_at}
 use Rattle.history.specs.Monitor.{at_rest_by, monitor_after}
 use Rattle.history.specs.Parts.{accesses_of}
 use Rattle.history.specs.declared.entry.Entry.{Entry}
+use Rattle.a32_step.specs.Machine.{InstructionSet}
 use Rattle.guest_thread.specs.BegunOutcome.{IsOutcomeFrom}
-use Rattle.guest_thread.specs.Outcome.{IsOutcome}
+use Rattle.guest_thread.specs.Outcome.{IsOutcomeOf}
 use Rattle.guest_thread.specs.declared.ends.GuestEnd.{GuestEnd}
 use Rattle.llsc_report.specs.Report.{HasSums}
 use Rattle.llsc_call.specs.Versions.{KeepsVersions}
@@ -21,9 +22,9 @@ pub record AreCells (size : Numbers) (memory cells : List ℕ) : Type 0 where
   pub count : 8 * length cells ≡ size.mem
   pub each : (i : ℕ) → i < length cells → slice_index cells i ≡ cell_at memory i
 
--- the threads ended so by a history of memory that is kept by versions, and it left these cells
-pub record Ran (program : Program) (size : Numbers) (budget : ℕ) (history : List Entry) (ends : List GuestEnd) (cells : List ℕ) : Type 0 where
-  pub outcome : IsOutcome program size budget history ends
+-- the threads, of instructions of this set, ended so by a history of memory that is kept by versions, and it left these cells
+pub record Ran {I S : Type 0} (set : InstructionSet I S) (program : Program) (size : Numbers) (budget : ℕ) (history : List Entry) (ends : List GuestEnd) (cells : List ℕ) : Type 0 where
+  pub outcome : IsOutcomeOf set program size budget history ends
   pub versions : KeepsVersions size history
   pub sums : HasSums ends
   pub left : AreCells size (left_by program size history) cells

@@ -7,7 +7,9 @@ use Rattle.history.specs.declared.entry.Entry.{Entry}
 use Rattle.version_memory.specs.declared.passes.VersionStory.{VersionStory}
 use Rattle.version_memory.specs.Memory.{story_history}
 use Rattle.guest_thread.specs.BegunOutcome.{IsOutcomeFrom}
+use Rattle.guest_thread.specs.Outcome.{IsOutcomeOf}
 use Rattle.guest_thread.specs.declared.ends.GuestEnd.{GuestEnd}
+use Rattle.rv32_guest.specs.Machine.{rv32}
 use Rattle.llsc_words.specs.declared.formats.Format.{Format}
 use Rattle.llsc_words.specs.declared.sets.SetName.{SetName}
 use Rattle.llsc_words.specs.declared.sets.SetName.TheVariants.{A32, Rv32}
@@ -21,11 +23,12 @@ use Rattle.llsc_call.specs.Versions.{KeepsVersions}
 abbrev pub told : Option VersionStory → Option (List Entry)
 told story = option_map story_history story
 
--- these are the ends of all threads of instructions of that set that have begun in a history, which is legal, complete and their own:
--- so many begin by themselves, and each of these may start so many more. A program of RISC-V instructions isn't run yet.
+-- These are the ends of all threads of instructions of that set that have begun in a history, which is legal, complete and their own:
+-- so many begin by themselves, and each of these may start so many more. Threads of RISC-V instructions start no others, so that all
+-- begin by themselves.
 abbrev pub IsOutcomeBy : SetName → Program → Numbers → (first spare budget : ℕ) → List Entry → List GuestEnd → Type 0
 IsOutcomeBy A32 program size first spare budget history ends = IsOutcomeFrom program size first spare budget history ends
-IsOutcomeBy Rv32 program size first spare budget history ends = ⊥
+IsOutcomeBy Rv32 program size first spare budget history ends = IsOutcomeOf rv32 program size budget history ends
 
 -- the report of those ends, where memory was kept by versions, and the status by their stops
 abbrev pub IsReportOf : SetName → List Entry → Program → Numbers → (first spare budget : ℕ) → ℕ → List ℕ → Type 0

@@ -2,11 +2,13 @@
 ghost use Rattle.std.specs.Prelude.{◌≡◌, ◌≤◌, ◌+◌, ◌*◌, ℕ, [], false, length, nat_lt, true, IfOk};
 ghost use Rattle.llsc_base.specs.Limits.{most_budget};
 ghost use Rattle.version_memory.specs.Memory.{story_history};
+ghost use Rattle.a32_step.specs.Machine.{a32};
 ghost use Rattle.llsc_call.specs.Beside.{Ran as HasRun, RanFrom};
 
+use a32_step::Core;
 use guest_family::{prepare_family, run_family};
-use guest_machine::{prepare, run_all};
-use guest_thread::{GuestEnd, Ran};
+use guest_machine::run_all;
+use guest_thread::{Crew, GuestEnd, Ran, prepare};
 use llsc_base::{Image, MachineSize};
 use shared_memory::{Rows, SharedMemory, StartMemory};
 use slice_pool::{Pooled, pool_crew, run_pool};
@@ -26,9 +28,9 @@ pub struct Finished<S> {
     pub story: S,
 }
 
-/// Runs an image's threads, which start no others, on a memory that counts the writes of a class, and on which a store-exclusive
+/// Runs an image's threads, of a core's instructions, which start no others, on a memory that counts the writes of a class, and on which a store-exclusive
 /// loses to nothing but writes, with the pass of all of them, and closes it.
-fn run_over<M: SharedMemory, R: Threads + Wait + Sync>(
+fn run_over<M: SharedMemory, C: Core, R: Threads + Wait + Sync>(
     rt: &R,
     alloc: Global,
     memory: M,
@@ -46,9 +48,9 @@ fn run_over<M: SharedMemory, R: Threads + Wait + Sync>(
     requires steady { (M.origin memory).steady ≡ true }
     requires whole { length image.now.bytes ≡ (M.origin memory).size.mem }
     requires budget { budget ≤ most_budget }
-    ensures { IfOk result (λ done. HasRun image.now (M.origin memory).size budget (M.history done.story) done.ends.items done.rows) }
+    ensures { IfOk result (λ done. HasRun C.set image.now (M.origin memory).size budget (M.history done.story) done.ends.items done.rows) }
 {
-    let crew = prepare(alloc, &memory, image, pass)?;
+    let crew: Crew<M::Pass, C, C::Ready> = prepare(alloc, &memory, image, pass)?;
     let threads = memory.size().threads();
     prove!(threads <= 16);
     let Ran { pass, ends } = run_all(rt, &memory, image, crew, budget);
@@ -56,13 +58,13 @@ fn run_over<M: SharedMemory, R: Threads + Wait + Sync>(
     Ok(Finished { ends, rows, story })
 }
 
-/// Runs an image's threads beside each other on a machine, each up to its stop. All memory that this takes is taken before the
+/// Runs an image's threads, of a core's instructions, beside each other on a machine, each up to its stop. All memory that this takes is taken before the
 /// first of them begins.
 ///
 /// # Errors
 ///
 /// `AllocError` is want of memory.
-pub fn run_beside<R: Threads + Wait + Sync>(
+pub fn run_beside<C: Core, R: Threads + Wait + Sync>(
     rt: &R,
     alloc: Global,
     size: &MachineSize,
@@ -71,10 +73,10 @@ pub fn run_beside<R: Threads + Wait + Sync>(
 ) -> Result<Finished<VersionStory>, AllocError>
     requires whole { length image.now.bytes ≡ size.now.mem }
     requires budget { budget ≤ most_budget }
-    ensures { IfOk result (λ done. HasRun image.now size.now budget (story_history done.story) done.ends.items done.rows) }
+    ensures { IfOk result (λ done. HasRun C.set image.now size.now budget (story_history done.story) done.ends.items done.rows) }
 {
     let (memory, pass) = VersionMemory::new(alloc, image, size)?;
-    run_over(rt, alloc, memory, pass, image, budget)
+    run_over::<VersionMemory, C, R>(rt, alloc, memory, pass, image, budget)
 }
 
 /// Runs an image's threads, which start no others, on few workers, a slice of steps at a time, on a memory that counts the writes of a
@@ -101,7 +103,7 @@ fn pool_over<M: SharedMemory, R: Threads + Wait + Sync>(
     requires workers { (1 ≤ workers) × (workers ≤ 4) }
     requires slice { 1 ≤ slice }
     requires budget { budget ≤ most_budget }
-    ensures { IfOk result (λ done. HasRun image.now (M.origin memory).size budget (M.history done.story) done.ends.items done.rows) }
+    ensures { IfOk result (λ done. HasRun a32 image.now (M.origin memory).size budget (M.history done.story) done.ends.items done.rows) }
 {
     let pool = pool_crew(alloc, &memory, image, pass, workers)?;
     let threads = memory.size().threads();
@@ -135,7 +137,7 @@ pub fn run_pool_beside<R: Threads + Wait + Sync>(
     requires workers { (1 ≤ workers) × (workers ≤ 4) }
     requires slice { 1 ≤ slice }
     requires budget { budget ≤ most_budget }
-    ensures { IfOk result (λ done. HasRun image.now size.now budget (story_history done.story) done.ends.items done.rows) }
+    ensures { IfOk result (λ done. HasRun a32 image.now size.now budget (story_history done.story) done.ends.items done.rows) }
 {
     let (memory, pass) = VersionMemory::new(alloc, image, size)?;
     pool_over(rt, alloc, memory, pass, image, workers, slice, budget)

@@ -6,6 +6,7 @@ ghost use Rattle.elf32.specs.Units.{IsWithin, end_of, unit_image};
 ghost use Rattle.guest_gen.specs.Counters.{counter_unit};
 ghost use Rattle.history.specs.declared.entry.Entry.{Entry};
 ghost use Rattle.llsc_files.specs.Refusals.{IsRefusal};
+ghost use Rattle.a32_step.specs.Machine.{a32};
 ghost use Rattle.llsc_call.specs.Beside.{Ran};
 ghost use Rattle.llsc_call.specs.Load.{AnswersLoad, IsPrepared, TellsLoad, guest_refusal, load_program, load_refusal, load_size};
 ghost use Rattle.llsc_call.specs.Outcome.{GivesBy, IsOneOf};
@@ -13,6 +14,7 @@ ghost use Rattle.llsc_call.specs.Outcome.{GivesBy, IsOneOf};
 use crate::answer::Answer;
 use crate::beside::run_beside;
 use crate::outcome::Outcome;
+use a32_step::Cpu;
 use elf32::{Unit, write};
 use guest_gen::{GenFault, counters};
 use guest_thread::GuestEnd;
@@ -89,7 +91,7 @@ fn prepare(alloc: Global, numbers: &LoadNumbers) -> Result<Loaded, Refusal>
 /// What threads that ran come to: what they counted where each left by an exit call with code 0, and else their ends.
 fn outcome_of(numbers: LoadNumbers, ends: Vec<GuestEnd>, rows: Rows) -> Outcome
     requires { guest_refusal numbers.threads numbers.rounds ≡ None }
-    ensures { (history : List Entry) → Ran (load_program numbers.seed numbers.threads numbers.rounds) (load_size numbers.threads) numbers.budget history ends.items rows
+    ensures { (history : List Entry) → Ran a32 (load_program numbers.seed numbers.threads numbers.rounds) (load_size numbers.threads) numbers.budget history ends.items rows
         → IsOneOf (TellsLoad (Some history) numbers.seed numbers.threads numbers.rounds numbers.budget) result }
 {
     let all_left = status_of_all(ends.as_slice()) == 0;
@@ -111,7 +113,7 @@ pub fn answer<R: Threads + Wait + Sync>(rt: &R, alloc: Global, numbers: LoadNumb
         Ok(loaded) => loaded,
         Err(refusal) => return Answer::from(Outcome::from(refusal)),
     };
-    let Ok(done) = run_beside(rt, alloc, &loaded.size, &loaded.image, numbers.budget) else {
+    let Ok(done) = run_beside::<Cpu, R>(rt, alloc, &loaded.size, &loaded.image, numbers.budget) else {
         return Answer::from(Outcome::NoMemory);
     };
     Answer {

@@ -1,5 +1,5 @@
 //! `run`: all threads of a program, beside each other.
-ghost use Rattle.std.specs.Prelude.{◌≡◌, ◌≤◌, ◌+◌, ◌*◌, None, length, IfErr, IfOk, OnOk};
+ghost use Rattle.std.specs.Prelude.{ℕ, ◌≡◌, ◌≤◌, ◌+◌, ◌*◌, None, length, IfErr, IfOk, OnOk};
 ghost use Rattle.llsc_base.specs.Limits.{most_budget};
 ghost use Rattle.version_memory.specs.Memory.{story_history};
 ghost use Rattle.llsc_words.specs.Request.{size_of_run};
@@ -12,9 +12,11 @@ ghost use Rattle.llsc_call.specs.Outcome.{GivesBy};
 use crate::answer::Answer;
 use crate::beside::{Finished, run_beside, run_family_beside};
 use crate::outcome::Outcome;
+use a32_step::Cpu;
 use llsc_base::{Image, MachineSize};
 use llsc_files::{Loaded, Refusal, load_as};
 use llsc_words::{Format, RunNumbers, SetName};
+use rv32_guest::RvCpu;
 use std::alloc::{AllocError, Global};
 use std::sync::Wait;
 use std::thread::Threads;
@@ -41,7 +43,7 @@ fn run_threads<R: Threads + Wait + Sync>(
     ensures { IfOk result (λ done. RanFrom image.now size.now first spare budget (story_history done.story) done.ends.items done.rows) }
 {
     if spare == 0 {
-        return run_beside(rt, alloc, size, image, budget);
+        return run_beside::<Cpu, R>(rt, alloc, size, image, budget);
     }
     run_family_beside(rt, alloc, size, image, first, spare, budget)
 }
@@ -74,8 +76,31 @@ fn run<R: Threads + Wait + Sync>(
     }
 }
 
-/// Runs an image's threads of instructions of that set, and those that they start. Those of RISC-V aren't run yet, which is
-/// answered as want of memory is.
+/// Runs an image's threads of RISC-V instructions, all of which begin by themselves.
+fn run_rv<R: Threads + Wait + Sync>(
+    rt: &R,
+    alloc: Global,
+    size: &MachineSize,
+    image: &Image,
+    budget: u64,
+) -> Answer
+    requires whole { length image.now.bytes ≡ size.now.mem }
+    requires budget { budget ≤ most_budget }
+    ensures { (first spare : ℕ) → GivesBy (λ story. ReportsRun SetName.Rv32 story image.now size.now first spare budget) result.outcome result.story }
+{
+    let Ok(done) = run_beside::<RvCpu, R>(rt, alloc, size, image, budget) else {
+        return Answer::from(Outcome::NoMemory);
+    };
+    Answer {
+        outcome: Outcome::Beside {
+            budget,
+            ends: done.ends,
+        },
+        story: Some(done.story),
+    }
+}
+
+/// Runs an image's threads of instructions of that set, and those that they start.
 fn run_of<R: Threads + Wait + Sync>(
     rt: &R,
     alloc: Global,
@@ -94,7 +119,7 @@ fn run_of<R: Threads + Wait + Sync>(
 {
     match set {
         SetName::A32 => run(rt, alloc, size, image, first, spare, budget),
-        SetName::Rv32 => Answer::from(Outcome::NoMemory),
+        SetName::Rv32 => run_rv(rt, alloc, size, image, budget),
     }
 }
 
