@@ -13,9 +13,9 @@ SECTIONS
     . = 0x10000 + SIZEOF_HEADERS;
     .text : { *(.text .text.*) } :code
     . += 4096;
-    .rodata : { *(.rodata .rodata.*) } :constants
+    .rodata : { *(.rodata .rodata.* .srodata .srodata.*) } :constants
     . += 4096;
-    .data : { *(.data .data.*) } :variables
-    .bss : { *(.bss .bss.* COMMON) } :variables
-    /DISCARD/ : { *(.ARM.* .comment .note.*) }
+    .data : { *(.data .data.* .sdata .sdata.*) } :variables
+    .bss : { *(.bss .bss.* .sbss .sbss.* COMMON) } :variables
+    /DISCARD/ : { *(.ARM.* .riscv.* .comment .note.*) }
 }

@@ -1,11 +1,19 @@
 /* What the programs share: output, and bytes to work on. */
 
 static void write(const void *bytes, unsigned length) {
+#ifdef __riscv
+    register unsigned a0 __asm__("a0") = 1; /* the descriptor */
+    register const void *a1 __asm__("a1") = bytes;
+    register unsigned a2 __asm__("a2") = length;
+    register unsigned a7 __asm__("a7") = 64;
+    __asm__ volatile("ecall" : "+r"(a0) : "r"(a1), "r"(a2), "r"(a7) : "memory");
+#else
     register unsigned r0 __asm__("r0") = 1; /* the descriptor */
     register const void *r1 __asm__("r1") = bytes;
     register unsigned r2 __asm__("r2") = length;
     register unsigned r7 __asm__("r7") = 4;
     __asm__ volatile("svc #0" : "+r"(r0) : "r"(r1), "r"(r2), "r"(r7) : "memory");
+#endif
 }
 
 static void print(const char *text) {
