@@ -1,6 +1,7 @@
-# Sixteen counters, eight bytes apart, and any number of threads. Each round steps a thread's random number, whose upper four bits
-# choose the counter to which one is added; the number begins at one that depends on the thread's own. A thread has 1000 rounds.
-# When all are done, each thread leaves with 0 where the counters add up to all rounds, and with 1 where an addition got lost.
+# Sixteen counters, eight bytes apart, and any number of threads. Each round steps a thread's random number, whose upper four
+# bits choose the counter to which one is added; the number begins at one that depends on the thread's own. A thread has 1000
+# rounds. When all are done, each thread leaves with 0 where the counters add up to all rounds, and with 1 where an addition
+# got lost.
         .text
         .global _start
 _start: la      s0, counters
