@@ -1,4 +1,4 @@
-/* What the compiler calls where RV32I has no instruction: products of 64 bits, quotients and rests of 32. */
+/* What the compiler calls where RV32I has no instruction: products, and quotients and rests of 32 bits. */
 
 enum { SUMS = 2 * 0xffff + 1 };
 
@@ -35,6 +35,8 @@ unsigned long long __muldi3(unsigned long long factor, unsigned long long other)
         return product(factor, other);
     return whole_product(factor, other);
 }
+
+unsigned __mulsi3(unsigned factor, unsigned other) { return __muldi3(factor, other); }
 
 /* The quotient of two numbers, and the rest; by 0 the quotient is all ones, and the rest the number itself. */
 static unsigned quotient(unsigned number, unsigned divisor, unsigned *rest) {

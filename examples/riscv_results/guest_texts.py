@@ -127,6 +127,45 @@ PHDRS {{ code PT_LOAD FLAGS(5); {headers} }}
 SECTIONS {{ . = 0x10000 + SIZEOF_HEADERS; .text : {{ *(.text) }} :code {sections} /DISCARD/ : {{ *(.riscv.*) }} }}
 """
 
+# A guest that jumps to a segment far behind and back, and branches as far as a branch goes, both ways; its exit is made of the
+# addresses behind the jumps.
+FAR_JUMPS = """
+        .option norvc
+        .option norelax
+        .text
+        .global _start
+_start: li      a0, 1
+        jal     ra, far
+back:   xor     a0, a0, ra
+        xor     a0, a0, t0
+1:      bne     ra, x0, 3f      # 4092 bytes
+2:      j       4f
+        .space  4084
+3:      slli    a1, a0, 3
+        xor     a0, a0, a1
+        blt     x0, ra, 2b      # minus 4096
+        li      a0, 0
+4:      srli    a1, a0, 8
+        xor     a0, a0, a1
+        li      a7, 93          # exit
+        ecall
+        .section .far, "ax"
+far:    addi    a0, a0, 4
+        jal     t0, back
+"""
+FAR_JUMPS_LAYOUT = """
+ENTRY(_start)
+PHDRS { code PT_LOAD FLAGS(5); far PT_LOAD FLAGS(5); }
+SECTIONS
+{
+    . = 0x10000 + SIZEOF_HEADERS;
+    .text : { *(.text) } :code
+    . = 0xF0000 + (. & 0xFFF);
+    .far : { *(.far) } :far
+    /DISCARD/ : { *(.riscv.*) }
+}
+"""
+
 # A guest whose entry is the last word of its code.
 LAST_WORD = """
         .option norvc
@@ -212,5 +251,6 @@ def all_guests():
             name = f"{test_lines.__name__}_{number}"
             guests[name] = guest_of_tests(name, test_lines)
     guests["segments"] = guest_of_segments()
+    guests["far_jumps"] = Guest(FAR_JUMPS, FAR_JUMPS_LAYOUT)
     guests["last_word"] = Guest(LAST_WORD)
     return guests
