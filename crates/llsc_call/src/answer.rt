@@ -1,6 +1,7 @@
 //! What a request is answered with, before anything is said of it.
-ghost use Rattle.std.specs.Prelude.{◌≡◌, None};
+ghost use Rattle.std.specs.Prelude.{◌≡◌, None, Some};
 
+use crate::beside::Finished;
 use crate::outcome::Outcome;
 use version_memory::VersionStory;
 
@@ -11,6 +12,21 @@ pub struct Answer {
     pub outcome: Outcome,
     /// The history of the accesses of threads that ran beside each other, where any did. Nothing of it is read at run time.
     pub story: Option<VersionStory>,
+}
+
+impl Answer {
+    /// Threads ran beside each other, each with so many steps at most.
+    pub fn of_threads(budget: u64, done: Finished<VersionStory>) -> Answer
+        ensures { result ≡ record { outcome = Outcome.Beside budget done.ends; story = Some done.story } }
+    {
+        Answer {
+            outcome: Outcome::Beside {
+                budget,
+                ends: done.ends,
+            },
+            story: Some(done.story),
+        }
+    }
 }
 
 impl From<Outcome> for Answer {

@@ -35,13 +35,7 @@ fn run<R: Threads + Wait + Sync>(
     let Ok(done) = run_pool_beside(rt, alloc, size, image, workers, slice, budget) else {
         return Answer::from(Outcome::NoMemory);
     };
-    Answer {
-        outcome: Outcome::Beside {
-            budget,
-            ends: done.ends,
-        },
-        story: Some(done.story),
-    }
+    Answer::of_threads(budget, done)
 }
 
 /// Runs a file as all threads of a machine, by these numbers of a pool.

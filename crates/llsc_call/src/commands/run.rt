@@ -67,13 +67,7 @@ fn run<R: Threads + Wait + Sync>(
     let Ok(done) = run_threads(rt, alloc, size, image, first, spare, budget) else {
         return Answer::from(Outcome::NoMemory);
     };
-    Answer {
-        outcome: Outcome::Beside {
-            budget,
-            ends: done.ends,
-        },
-        story: Some(done.story),
-    }
+    Answer::of_threads(budget, done)
 }
 
 /// Runs an image's threads of RISC-V instructions, all of which begin by themselves.
@@ -91,13 +85,7 @@ fn run_rv<R: Threads + Wait + Sync>(
     let Ok(done) = run_beside::<RvCpu, R>(rt, alloc, size, image, budget) else {
         return Answer::from(Outcome::NoMemory);
     };
-    Answer {
-        outcome: Outcome::Beside {
-            budget,
-            ends: done.ends,
-        },
-        story: Some(done.story),
-    }
+    Answer::of_threads(budget, done)
 }
 
 /// Runs an image's threads of instructions of that set, and those that they start.
