@@ -7,3 +7,4 @@ pub mod Quiet
 pub mod Sound
 pub mod OthersCompute
 pub mod CarriedOn
+pub mod Ending

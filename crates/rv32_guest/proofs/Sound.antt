@@ -1,8 +1,9 @@
 -- What a machine asks for next has passed its tests and is the one access of its instruction, and a stop that it comes to is an
 -- instruction's.
-use Rattle.std.proofs.Common.{◌≡◌, ℕ, ◌%◌, ◌<◌, ◌==◌, not, nat_lt, if◌then◌else◌, Bool, true, false, ℤ, Option, Some, None, Result, Ok, Err, List, [], ◌∷◌, length, arith, refl, sym, subst}
+use Rattle.std.proofs.Common.{◌≡◌, ◌≢◌, ℕ, ◌%◌, ◌<◌, ◌==◌, not, nat_lt, if◌then◌else◌, Bool, true, false, ℤ, Option, Some, None, Result, Ok, Err, List, [], ◌∷◌, length, arith, refl, sym, subst}
 use Rattle.llsc_base.specs.Images.{Program, bar_of, word_at}
 use Rattle.llsc_base.specs.declared.access.Bar.{Bar}
+use Rattle.llsc_base.specs.declared.access.Bar.TheVariants as bar
 use Rattle.llsc_base.specs.declared.access.Place.{Place}
 use Rattle.llsc_base.specs.declared.access.Size.TheVariants.{B1, B2, B4}
 use Rattle.a32_instr.specs.declared.instructions.DecodeFault.{DecodeFault}
@@ -10,10 +11,11 @@ use Rattle.a32_instr.specs.declared.instructions.DecodeFault.TheVariants as faul
 use Rattle.a32_instr.specs.declared.outside.Ask.{Ask}
 use Rattle.a32_instr.specs.declared.outside.Ask.TheVariants as ask
 use Rattle.a32_instr.specs.declared.outside.Stop.{Stop}
+use Rattle.a32_instr.specs.declared.outside.Stop.TheVariants as stop
+use Rattle.a32_instr.specs.LoadStore.{barred}
 use Rattle.a32_instr.specs.State.{asks, calls, completes, stops}
 use Rattle.a32_step.specs.Phase.{PhaseOf, Between, Inside, Awaiting, Calling, Stopped}
 use Rattle.a32_step.specs.Machine.{begins_of, next_in_of, next_of, GoesOn, GoesOnWith, IsOwn, PassesTests}
-use Rattle.a32_step.proofs.Effects.{barred_own}
 use Rattle.rv32_guest.specs.declared.instructions.RvInstr.{RvInstr}
 use Rattle.rv32_guest.specs.declared.instructions.RvInstr.TheVariants.{Lui, Auipc, Jal, Jalr, Beq, Bne, Blt, Bge, Bltu, Bgeu, Lb, Lh, Lw, Lbu, Lhu, Sb, Sh, Sw, Addi, Slti, Sltiu, Xori, Ori, Andi, Slli, Srli, Srai, Add, Sub, Sll, Slt, Sltu, Xor, Srl, Sra, Or, And, Fence, LrW, ScW, Ecall}
 use Rattle.rv32_guest.specs.State.{RvState, Effect, register, jumps}
@@ -21,14 +23,32 @@ use Rattle.rv32_guest.specs.Computing.{moved, is_less_signed, even}
 use Rattle.rv32_guest.specs.Accesses.{asks_unless, loads, stores, reserves, stores_conditionally, place_of}
 use Rattle.rv32_guest.specs.Effect.{acts, branches}
 use Rattle.rv32_guest.specs.Machine.{Machine, rv32, decoded, instr_of_word}
+use Rattle.rv32_guest.specs.Stops.{IsStop}
 use Rattle.rv32_guest.specs.Table.{table, meaning}
+use Rattle.rv32_guest.proofs.Meanings.{predictable}
 
--- an access has passed its tests and is the first of its instruction, and a stop is an instruction's
+-- an access has passed its tests and is the first of its instruction, and a stop is one of these instructions
 abbrev Stands : Program → List ℕ → Effect → Type 0
 Stands program replies (asks asked) = PassesTests program asked × (length replies < 16)
 Stands program replies (calls call) = Unit {0}
 Stands program replies (completes state) = Unit {0}
-Stands program replies (stops stop) = IsOwn stop
+Stands program replies (stops stop) = IsStop stop
+
+barred_stops : (bar : Bar) (addr : ℕ) → IsStop (barred bar addr)
+barred_stops bar.Alignment addr = tt
+barred_stops bar.Outside addr = tt
+barred_stops bar.ReadOnly addr = tt
+
+stop_is_own : (why : Stop) → IsStop why → IsOwn why
+stop_is_own (stop.Exit code) is = tt
+stop_is_own (stop.Undefined addr) is = tt
+stop_is_own (stop.Unpredictable addr) is = tt
+stop_is_own (stop.Thumb addr) is = tt
+stop_is_own (stop.Outside addr) is = tt
+stop_is_own (stop.Alignment addr) is = tt
+stop_is_own (stop.ReadOnly addr) is = tt
+stop_is_own (stop.TagLimit addr) is = absurd is
+stop_is_own stop.Budget is = tt
 
 module _ (program : Program) where
   chosen : (replies : List ℕ) (b : Bool) (x y : Effect) → Stands program replies x → Stands program replies y → Stands program replies (if b then x else y)
@@ -43,7 +63,7 @@ module _ (program : Program) where
 
   unless_stands : (asked : Ask) (found : Option Bar) (addr : ℕ) → (found ≡ None → PassesTests program asked) → Stands program [] (asks_unless found addr asked)
   unless_stands asked None addr passed = (passed refl, omega arith)
-  unless_stands asked (Some bar) addr passed = barred_own bar addr
+  unless_stands asked (Some bar) addr passed = barred_stops bar addr
 
   loads_stand : (place : Place) (with_sign : Bool) (rd : ℕ) (replies : List ℕ) (state : RvState) → Stands program replies (loads program place with_sign rd replies state)
   loads_stand place with_sign rd [] state = unless_stands (ask.Load place) (bar_of program place false) place.addr (λ none. none)
@@ -104,14 +124,14 @@ module _ (program : Program) where
   acts_stand replies state (ScW rd rs1 rs2) = conditional_stands (register state rs1) (register state rs2) rd replies state
   acts_stand replies state Ecall = tt
 
-  decoded_stands : (state : RvState) (found : Result RvInstr DecodeFault) → Stands program [] (begins_of rv32 program state (decoded state.pc found))
-  decoded_stands state (Ok instr) = acts_stand [] state instr
-  decoded_stands state (Err fault.Undefined) = tt
-  decoded_stands state (Err fault.Unpredictable) = tt
+  decoded_stands : (state : RvState) (found : Result RvInstr DecodeFault) → found ≢ Err fault.Unpredictable → Stands program [] (begins_of rv32 program state (decoded state.pc found))
+  decoded_stands state (Ok instr) predictable = acts_stand [] state instr
+  decoded_stands state (Err fault.Undefined) predictable = tt
+  decoded_stands state (Err fault.Unpredictable) predictable = absurd (predictable refl)
 
   begins_stand : (state : RvState) (word : Option ℕ) → Stands program [] (begins_of rv32 program state (instr_of_word state.pc word))
   begins_stand state None = tt
-  begins_stand state (Some word) = decoded_stands state (meaning table word)
+  begins_stand state (Some word) = decoded_stands state (meaning table word) (predictable table word)
 
   -- the replies that the instruction of a machine has had
   abbrev replies_in : List ℕ → PhaseOf RvInstr → List ℕ
@@ -131,8 +151,11 @@ module _ (program : Program) where
   pub next_passes : (machine : Machine) (asked : Ask) → GoesOn machine.phase → next_of rv32 program machine ≡ asks asked → PassesTests program asked
   next_passes machine asked goes same = (next_stands machine (asks asked) goes same).0
 
+  pub next_stops : (machine : Machine) (why : Stop) → GoesOn machine.phase → next_of rv32 program machine ≡ stops why → IsStop why
+  next_stops machine why goes same = next_stands machine (stops why) goes same
+
   pub next_own : (machine : Machine) (why : Stop) → GoesOn machine.phase → next_of rv32 program machine ≡ stops why → IsOwn why
-  next_own machine why goes same = next_stands machine (stops why) goes same
+  next_own machine why goes same = stop_is_own why (next_stops machine why goes same)
 
   goes_on : (phase : PhaseOf RvInstr) (replies : List ℕ) → GoesOnWith phase replies → GoesOn phase × (replies_in replies phase ≡ replies)
   goes_on Between replies none = (tt, sym none)

@@ -12,3 +12,4 @@ pub mod Registers
 pub mod Inside
 pub mod Classes
 pub mod Passages
+pub mod Stops

@@ -11,8 +11,9 @@ ghost use Rattle.history.specs.declared.entry.Entry.{Entry};
 ghost use Rattle.guest_calls.specs.Run.{Pair, EndsOf, AsksOf};
 ghost use Rattle.guest_thread.specs.Outcome.{IsOutcomeOf};
 ghost use Rattle.guest_thread.specs.declared.ends.GuestEnd.{GuestEnd};
-ghost use Rattle.a32_step.specs.Machine.{next_of, GoesOn, GoesOnWith, IsOwn, PassesTests};
+ghost use Rattle.a32_step.specs.Machine.{next_of, GoesOn, GoesOnWith, PassesTests};
 ghost use Rattle.rv32_guest.specs.Machine.{Machine, rv32};
+ghost use Rattle.rv32_guest.specs.Stops.{IsStop};
 ghost use Rattle.rv32_guest.specs.Table.{table, meaning, AreApart, FitsNone, MeansItsRow};
 
 use crate::instructions::RvInstr;
@@ -90,7 +91,14 @@ pub fn machines_are_sound()
     ensures room { (program : Program) (machine : Machine) (asked : Ask) → GoesOnWith machine.phase machine.replies →
         next_of rv32 program machine ≡ asks asked → length machine.replies < 16 }
     ensures own { (program : Program) (machine : Machine) (why : Stop) → GoesOn machine.phase →
-        next_of rv32 program machine ≡ stops why → IsOwn why }
+        next_of rv32 program machine ≡ stops why → IsStop why }
+{}
+
+/// No run of a thread ends for want of a tag, which is for memory to answer, nor as threads of other instructions do: at Thumb code or
+/// at a word whose effect is left open.
+pub fn runs_end_by_their_own_stops()
+    ensures { (program : Program) (budget : ℕ) (start : Machine) (pairs : List Pair) (stop : Stop) (steps : ℕ) (output : List ℕ) → GoesOn start.phase →
+        EndsOf rv32 program budget start pairs stop steps output → IsStop stop }
 {}
 
 /// A history has one outcome at most.
