@@ -11,8 +11,6 @@ use Rattle.a32_step.specs.declared.phases.Passage.TheVariants.{Complete, AtStart
 use Rattle.a32_step.specs.ExecutionState.{ExecutionState, Stage, resting, phase_of, machine_in}
 use Rattle.a32_step.specs.ExecutionState as stage
 use Rattle.a32_step.specs.Machine.{Machine, between, instr_at, IsReady, moved_on, next_effect, after_next, given}
-use Rattle.a32_step.specs.Phase.{Phase}
-use Rattle.a32_step.specs.Phase as phase
 use Rattle.a32_step.specs.Ports.{Leads, goes, refused, stays}
 use Rattle.a32_step.specs.Acting.{IsGiven, begins, none_made, one_more, StandsAt, IsActed}
 use Rattle.a32_step.specs.Passages.{Comes, ComesOf, IsCarriedOnOf, starts, replied, EndsAt, IsCarriedOn, in_hand, passage_of}
@@ -20,30 +18,15 @@ use Rattle.a32_step.specs.declared.phases.Progress.{Progress}
 use Rattle.a32_step.specs.declared.phases.Progress.TheVariants as progress
 use Rattle.a32_step.specs.Progress.{progress_of}
 use Rattle.a32_step.proofs.Acting.{acted_same}
+use Rattle.a32_step.proofs.ExecutionStates.{is_resting}
 use Rattle.a32_step.proofs.Replied.{inside, first_effect, first_after}
 
 -- ---- between two instructions
 
-is_between : Phase → Type 0
-is_between phase.Between = Unit {0}
-is_between (phase.Inside instr) = ⊥
-is_between (phase.Awaiting instr ask) = ⊥
-is_between (phase.Calling call) = ⊥
-is_between (phase.Stopped stop) = ⊥
-
-rests_at : (instr : Instr) (at : Stage) → is_between (phase_of instr at) → at ≡ stage.Between
-unfolding is_between
-rests_at instr stage.Between is = refl
-rests_at instr stage.Inside is = absurd is
-rests_at instr (stage.Awaiting ask) is = absurd is
-rests_at instr (stage.Calling call) is = absurd is
-rests_at instr (stage.Stopped stop) is = absurd is
-
 -- an execution is at rest where its machine is
 pub rests : (instr : Instr) (standing : ExecutionState) (state : State) → machine_in instr standing ≡ between state → standing ≡ resting standing.state
-unfolding is_between
 rests instr standing state is =
-    let at : standing.stage ≡ stage.Between = rests_at instr standing.stage (subst is_between (sym (ap (λ (m : Machine). m.phase) is)) tt) in
+    let at : standing.stage ≡ stage.Between = is_resting instr standing (is ∙ ap between (sym (ap (λ (m : Machine). m.state) is))) in
     let none : standing.replies ≡ [] = ap (λ (m : Machine). m.replies) is in
     ap (λ s. record standing { stage = s }) at ∙ ap (λ rs. record standing { stage = stage.Between; replies = rs }) none
 

@@ -5,14 +5,13 @@ use Rattle.a32_instr.specs.declared.instructions.Instr.{Instr}
 use Rattle.a32_instr.specs.declared.outside.CallAsk.{CallAsk}
 use Rattle.a32_instr.specs.State.{Effect, asks, calls, completes, stops}
 use Rattle.a32_instr.specs.Effect.{acts}
-use Rattle.a32_step.specs.declared.decoded.Slot.{Slot}
 use Rattle.a32_step.specs.declared.phases.Progress.{Progress}
 use Rattle.a32_step.specs.declared.phases.Wanted.{Wanted}
 use Rattle.a32_step.specs.Progress.{progress_of}
-use Rattle.a32_step.specs.Slots.{instr_for}
+use Rattle.a32_step.specs.Phase.{Phase}
 use Rattle.a32_step.specs.Phase as phase
 use Rattle.a32_step.specs.ExecutionState.{ExecutionState, Stage, Between, Inside, Awaiting, Calling, Stopped, HasRoom, IsAwaited, IsCalled, moves, settled, wanted_at, phase_of, machine_in}
-use Rattle.a32_step.specs.Machine.{Machine, given, next_effect, next_in, after_in, after_next, moved_on, wanted_of, HasBegun, IsAwaiting, IsCalling, IsInside}
+use Rattle.a32_step.specs.Machine.{Machine, between, given, next_effect, next_in, after_in, after_next, moved_on, wanted_of, HasBegun, IsAwaiting, IsCalling, IsInside}
 
 -- one that is awaited has room
 pub room_of : (stage : Stage) (replies : List ℕ) → IsAwaited stage → HasRoom stage replies → length replies < 16
@@ -35,6 +34,26 @@ is_called instr Inside calling = calling
 is_called instr (Awaiting ask) calling = calling
 is_called instr (Calling call) calling = tt
 is_called instr (Stopped stop) calling = calling
+
+is_at_rest : Phase → Type 0
+is_at_rest phase.Between = Unit {0}
+is_at_rest (phase.Inside instr) = ⊥
+is_at_rest (phase.Awaiting instr ask) = ⊥
+is_at_rest (phase.Calling call) = ⊥
+is_at_rest (phase.Stopped stop) = ⊥
+
+between_at : (instr : Instr) (at : Stage) → is_at_rest (phase_of instr at) → at ≡ Between
+unfolding is_at_rest
+between_at instr Between is = refl
+between_at instr Inside is = absurd is
+between_at instr (Awaiting ask) is = absurd is
+between_at instr (Calling call) is = absurd is
+between_at instr (Stopped stop) is = absurd is
+
+-- an execution is between two instructions where its machine is
+pub is_resting : (instr : Instr) (standing : ExecutionState) → machine_in instr standing ≡ between standing.state → standing.stage ≡ Between
+unfolding is_at_rest
+is_resting instr standing is = between_at instr standing.stage (subst is_at_rest (sym (ap (λ (m : Machine). m.phase) is)) tt)
 
 pub called : (instr : Instr) (stage : Stage) (call : CallAsk) → stage ≡ Calling call → phase_of instr stage ≡ phase.Calling call
 called instr stage call is = ap (phase_of instr) is
@@ -63,14 +82,6 @@ moves_is instr standing (calls call) = refl
 moves_is instr standing (completes state) = refl
 moves_is instr standing (stops stop) = refl
 
--- the instruction is the one in the slot of a PC, which an effect that isn't complete leaves as it was
-slot_stays : (slots : List Slot) (standing : ExecutionState) (effect : Effect)
-    → machine_in (instr_for slots (settles standing effect).state.pc) (settles standing effect) ≡ machine_in (instr_for slots standing.state.pc) (settles standing effect)
-slot_stays slots standing (asks ask) = refl
-slot_stays slots standing (calls call) = refl
-slot_stays slots standing (completes state) = refl
-slot_stays slots standing (stops stop) = refl
-
 effect_wants : (standing : ExecutionState) (effect : Effect) → wanted_at (progress_of effect) (moves standing effect).stage ≡ wanted_of effect
 effect_wants standing (asks ask) = refl
 effect_wants standing (calls call) = refl
@@ -93,28 +104,25 @@ inside_moves program instr standing (Awaiting ask) inside = absurd inside
 inside_moves program instr standing (Calling call) inside = absurd inside
 inside_moves program instr standing (Stopped stop) inside = absurd inside
 
--- What is wanted once the instruction in hand has acted, and the machine then. The instruction is the one in the slot
--- of the PC.
+-- What is wanted once the instruction in hand has acted, and the machine then.
 
-pub acted_wants : (program : Program) (old now : Machine) (slots : List Slot) (pc : ℕ) (instr : Instr) (before after : ExecutionState) (p : Progress) (w : Wanted)
-    → now ≡ machine_in (instr_for slots before.state.pc) before → HasBegun program old now → pc ≡ before.state.pc → instr ≡ instr_for slots pc
+pub acted_wants : (program : Program) (old now : Machine) (slot instr : Instr) (before after : ExecutionState) (p : Progress) (w : Wanted)
+    → now ≡ machine_in slot before → HasBegun program old now → instr ≡ slot
     → p ≡ progress_of (acts instr program before.replies before.state) → wanted_at p after.stage ≡ wanted_at p (moves before (acts instr program before.replies before.state)).stage
     → w ≡ wanted_at p after.stage → w ≡ wanted_of (next_effect program old)
-acted_wants program old now slots pc instr before after p w same begun at held same_p same_after same_w =
-    let here : instr ≡ instr_for slots before.state.pc = held ∙ ap (λ a. instr_for slots a) at in
-    let known : HasBegun program old (machine_in instr before) = subst (λ m. HasBegun program old m) (same ∙ ap (λ i. machine_in i before) (sym here)) begun in
+acted_wants program old now slot instr before after p w same begun held same_p same_after same_w =
+    let known : HasBegun program old (machine_in instr before) = subst (λ m. HasBegun program old m) (same ∙ ap (λ i. machine_in i before) (sym held)) begun in
     let effect : Effect = acts instr program before.replies before.state in
     same_w ∙ same_after ∙ ap (λ q. wanted_at q (moves before effect).stage) same_p ∙ effect_wants before effect
     ∙ ap wanted_of (sym (inside_acts program instr before before.stage known.0) ∙ known.1)
 
-pub acted_stands : (program : Program) (old now : Machine) (slots : List Slot) (pc : ℕ) (instr : Instr) (before after new : ExecutionState) (p : Progress)
-    → now ≡ machine_in (instr_for slots before.state.pc) before → HasBegun program old now → pc ≡ before.state.pc → instr ≡ instr_for slots pc
+pub acted_stands : (program : Program) (old now : Machine) (slot instr : Instr) (before after new : ExecutionState) (p : Progress)
+    → now ≡ machine_in slot before → HasBegun program old now → instr ≡ slot
     → p ≡ progress_of (acts instr program before.replies before.state) → settled p after ≡ settled p (moves before (acts instr program before.replies before.state)) → new ≡ settled p after
-    → machine_in (instr_for slots new.state.pc) new ≡ after_next program old
-acted_stands program old now slots pc instr before after new p same begun at held same_p same_after same_new =
-    let here : instr_for slots before.state.pc ≡ instr = sym (held ∙ ap (λ a. instr_for slots a) at) in
-    let known : HasBegun program old (machine_in instr before) = subst (λ m. HasBegun program old m) (same ∙ ap (λ i. machine_in i before) here) begun in
+    → machine_in slot new ≡ after_next program old
+acted_stands program old now slot instr before after new p same begun held same_p same_after same_new =
+    let known : HasBegun program old (machine_in instr before) = subst (λ m. HasBegun program old m) (same ∙ ap (λ i. machine_in i before) (sym held)) begun in
     let effect : Effect = acts instr program before.replies before.state in
     let over : new ≡ settles before effect = same_new ∙ same_after ∙ ap (λ q. settled q (moves before effect)) same_p in
-    ap (λ s. machine_in (instr_for slots s.state.pc) s) over ∙ slot_stays slots before effect ∙ ap (λ i. machine_in i (settles before effect)) here
+    ap (λ i. machine_in i new) (sym held) ∙ ap (machine_in instr) over
     ∙ moves_is instr before effect ∙ sym (inside_moves program instr before before.stage known.0) ∙ known.2

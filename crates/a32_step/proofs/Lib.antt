@@ -5,7 +5,7 @@ pub mod Blocks
 pub mod Instructions
 pub mod Tested
 pub mod Replied
-pub mod Remembered
+pub mod Slots
 pub mod ExecutionStates
 pub mod Learnt
 pub mod Acting

@@ -81,7 +81,8 @@ pub trait Core: Send + Drop {
 
     /// Whether it is between two instructions.
     fn is_between(&self) -> bool
-        ensures { IsTrue result → machine self.now ≡ between (machine self.now).state };
+        ensures rest { IsTrue result → machine self.now ≡ between (machine self.now).state }
+        ensures all { machine self.now ≡ between (machine self.now).state → IsTrue result };
 
     /// The call of the table of guest calls that a call of this core is.
     fn numbered(ask: &CallAsk) -> CallAsk

@@ -8,11 +8,11 @@ ghost use Rattle.a32_step.specs.Phase as phase;
 ghost use Rattle.a32_step.specs.Machine.{start_of, given, next_effect, wanted_of, after_next, after_instr, begins, instr_at, between, Follows, HasBegun, IsReady, IsTested, IsAwaiting, IsCalling};
 
 use crate::code::Code;
-use crate::decoded::Decoded;
 use crate::execution::Execution;
 use crate::phases::{Passage, Point, Progress, Wanted};
 use crate::ports::Port;
 use crate::ready::Conditional;
+use crate::slot::Slot;
 use crate::sources::Nobody;
 use a32_instr::{CallAsk, Flags};
 use llsc_base::Image;
@@ -23,8 +23,8 @@ use std::marker::Model;
 #[derive(Drop)]
 pub struct Cpu {
     execution: Execution,
-    /// The words that were decoded before, and the one at the PC while its instruction is in hand.
-    decoded: Decoded,
+    /// The instruction in hand, and the word that it was decoded from.
+    held: Slot,
     /// The span that served the last fetch.
     near: usize,
 }
@@ -32,11 +32,10 @@ pub struct Cpu {
 impl Model for Cpu {
     ghost use Rattle.a32_step.specs.Machine.{Machine};
     ghost use Rattle.a32_step.specs.ExecutionState.{machine_in};
-    ghost use Rattle.a32_step.specs.Slots.{instr_for};
 
     ghost Value = { Machine };
 
-    ghost view = { λ cpu. machine_in (instr_for cpu.decoded cpu.execution.state.pc) cpu.execution };
+    ghost view = { λ cpu. machine_in cpu.held.instr cpu.execution };
 }
 
 impl Cpu {
@@ -56,15 +55,17 @@ impl Cpu {
         };
         Cpu {
             execution: Execution::new(regs, flags, entry),
-            decoded: Decoded::new(),
+            held: Slot::nop(),
             near: 0,
         }
     }
 
     /// Whether it is between two instructions.
     #[inline]
+    #[tactic(auto, using(crate::proofs::ExecutionStates::is_resting))]
     pub fn is_between(&self) -> bool
-        ensures { IsTrue result → self.now ≡ between self.now.state }
+        ensures rest { IsTrue result → self.now ≡ between self.now.state }
+        ensures all { self.now ≡ between self.now.state → IsTrue result }
     {
         match self.execution.point() {
             Point::Between => true,
@@ -139,22 +140,36 @@ impl Cpu {
         ensures follows { Follows self.old result self.new }
         ensures tested { IsTested image.now self.old.replies result }
     {
-        self.go_on(image)
+        let mut slot = self.held;
+        self.next_by(image, &mut slot)
+    }
+
+    /// The same as [`Cpu::next`], where the word of the next instruction isn't decoded if it is that of the slot. Afterwards the
+    /// slot has the instruction that began, if one did.
+    #[inline(always)]
+    pub(crate) fn next_by(&mut self, image: &Image, slot: &mut Slot) -> Wanted
+        requires { IsReady self.old.phase }
+        ensures wanted { result ≡ wanted_of (next_effect image.now self.old) }
+        ensures state { self.new ≡ after_next image.now self.old }
+        ensures follows { Follows self.old result self.new }
+        ensures tested { IsTested image.now self.old.replies result }
+    {
+        self.go_on(image, slot)
     }
 
     /// The instruction in hand goes on, or the next one begins, up to what is wanted.
     #[inline(always)]
-    fn go_on(&mut self, image: &Image) -> Wanted
+    fn go_on(&mut self, image: &Image, slot: &mut Slot) -> Wanted
         requires { IsReady self.old.phase }
         ensures wanted { result ≡ wanted_of (next_effect image.now self.old) }
         ensures state { self.new ≡ after_next image.now self.old }
         ensures begins { self.old.phase ≡ phase.Between → self.old.replies ≡ [] }
         ensures words { AreWords self.old.state.regs }
     {
-        if let Some(wanted) = self.begin(image) {
+        if let Some(wanted) = self.begin(image, slot) {
             return wanted;
         }
-        let instr = self.decoded.at(self.execution.pc());
+        let instr = self.held.instr();
         let mut nobody = Nobody {
             bytes: image.bytes().len(),
         };
@@ -164,7 +179,7 @@ impl Cpu {
 
     /// The next instruction begins where none is in hand. What is wanted, where none has anything to do.
     #[inline(always)]
-    fn begin(&mut self, image: &Image) -> Option<Wanted>
+    fn begin(&mut self, image: &Image, slot: &mut Slot) -> Option<Wanted>
         requires { IsReady self.old.phase }
         ensures wanted { IfSome result (λ wanted. wanted ≡ wanted_of (next_effect image.now self.old)) }
         ensures state { IfSome result (λ wanted. self.new ≡ after_next image.now self.old) }
@@ -173,15 +188,15 @@ impl Cpu {
         ensures words { AreWords self.old.state.regs }
     {
         match self.execution.point() {
-            Point::Between => self.begin_next(image),
+            Point::Between => self.begin_next(image, slot),
             Point::Inside => None,
             Point::Held => Some(self.execution.wanted()),
         }
     }
 
-    /// The instruction at the PC is fetched and decoded, and begins if its condition passes.
+    /// The instruction at the PC is fetched, and decoded where the slot hasn't its word, and begins if its condition passes.
     #[inline(always)]
-    fn begin_next(&mut self, image: &Image) -> Option<Wanted>
+    fn begin_next(&mut self, image: &Image, slot: &mut Slot) -> Option<Wanted>
         requires between { self.old.phase ≡ phase.Between }
         requires none { self.old.replies ≡ [] }
         ensures wanted { IfSome result (λ wanted. wanted ≡ wanted_of (begins image.now self.old.state (instr_at image.now self.old.state.pc))) }
@@ -189,11 +204,11 @@ impl Cpu {
         ensures begun { IfNone result (HasBegun image.now self.old self.new) }
     {
         let pc = self.execution.pc();
-        if let Err(stop) = self.decoded.fetch(image, pc, &mut self.near) {
+        if let Err(stop) = slot.fetch(image, pc, &mut self.near) {
             return Some(self.execution.stop_wanted(stop));
         }
-        let cond = self.decoded.cond(pc);
-        if self.execution.begin_if(cond) {
+        self.held = *slot;
+        if self.execution.begin_if(slot.cond()) {
             return None;
         }
         Some(Wanted::Done)
@@ -249,7 +264,7 @@ impl Cpu {
             self.execution.finish();
             return Passage::AtStart;
         }
-        self.decoded.keep(image, self.execution.pc());
+        self.held.keep(image, self.execution.pc());
         self.execution.begin();
         Passage::UnderWay
     }

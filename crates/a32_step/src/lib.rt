@@ -6,19 +6,21 @@
 //! what the effect of the instruction says (`a32_instr`, `specs/Effect`); `specs/Machine` here says
 //! it of a machine that is in the middle of an instruction, and [`laws`] that the two agree over all
 //! replies. [`Cpu::carry`] takes a whole instruction at once, over a [`Port`], which replies to its
-//! accesses, and over [`Code`], which knows the instructions of one image that were met.
+//! accesses, and over [`Code`], which knows the instructions of one image that were met. A [`Remembering`] is a core that goes
+//! access by access, and decodes the words of a loop once.
 #![tactic(auto)]
 
 mod code;
 mod cores;
 mod cpu;
-mod decoded;
 mod execution;
 pub mod laws;
 mod phases;
 mod ports;
 mod ready;
+mod remembering;
 mod replies;
+mod slot;
 mod sources;
 
 pub use a32_instr::{Ask, CallAsk, Flags, Stop};
@@ -28,3 +30,4 @@ pub use cpu::Cpu;
 pub use phases::{Passage, Wanted};
 pub use ports::Port;
 pub use ready::{Conditional, Ready};
+pub use remembering::Remembering;

@@ -3,7 +3,7 @@ ghost use Rattle.std.specs.Prelude.{◌≡◌, IfOk, map};
 ghost use Rattle.std.specs.List.{range_with_len};
 ghost use Rattle.guest_machine.specs.Seats.{first_seat};
 
-use a32_step::{Cpu, Stop};
+use a32_step::{Remembering, Stop};
 use guest_thread::Guest;
 use llsc_base::{Image, MachineSize};
 use std::alloc::{AllocError, Global};
@@ -11,7 +11,7 @@ use std::alloc::{AllocError, Global};
 /// A thread, and its stop once it has stopped.
 #[derive(Drop)]
 pub(crate) struct Seat {
-    pub(crate) guest: Guest<Cpu>,
+    pub(crate) guest: Guest<Remembering>,
     pub(crate) stop: Option<Stop>,
 }
 

@@ -13,7 +13,7 @@ ghost use Rattle.run_checker.specs.Positions.{AreBrought, BringsOn, HaveEnded, I
 use crate::asked::is_asked;
 use crate::serving::serve;
 use crate::verdicts::Reason;
-use a32_step::Cpu;
+use a32_step::Remembering;
 use guest_calls::reply_of;
 use guest_thread::{Guest, Turn};
 use history::{Access, PlainMemory};
@@ -23,7 +23,7 @@ use std::alloc::{AllocError, Global};
 /// The threads of a run, in order of number, and their memory, where the accesses so far have brought them.
 #[derive(Drop)]
 pub struct Checker {
-    guests: Vec<Guest<Cpu>>,
+    guests: Vec<Guest<Remembering>>,
     memory: PlainMemory,
 }
 
@@ -81,7 +81,7 @@ impl Checker {
 
 /// Makes an access of a thread as it is recorded, or says why it is wrong.
 fn make(
-    guest: &mut Guest<Cpu>,
+    guest: &mut Guest<Remembering>,
     memory: &mut PlainMemory,
     image: &Image,
     budget: u64,

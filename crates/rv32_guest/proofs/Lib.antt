@@ -8,3 +8,4 @@ pub mod Sound
 pub mod OthersCompute
 pub mod CarriedOn
 pub mod Ending
+pub mod Resting

@@ -127,8 +127,10 @@ impl RvCpu {
 
     /// Whether it is between two instructions.
     #[inline]
+    #[tactic(auto, using(crate::proofs::Resting::is_resting))]
     pub fn is_between(&self) -> bool
-        ensures { IsTrue result → self.now ≡ between self.now.state }
+        ensures rest { IsTrue result → self.now ≡ between self.now.state }
+        ensures all { self.now ≡ between self.now.state → IsTrue result }
     {
         matches!(self.stage, Stage::Between)
     }

@@ -6,12 +6,12 @@ use Rattle.a32_step.proofs.cpu.Cpu.go_on.Goals as goal
 
 pub returns-clause-wanted : goal.returns-clause-wanted
 returns-clause-wanted c =
-    let alone = acted_alone (λ had. acts c.at-instr.result.now c.args.image.now had c.self.inside.execution.state) c.act-progress.ensures.acted in
-    acted_wants c.args.image.now c.args.self.now c.begin.new.self c.self.inside.decoded c.pc.result c.at-instr.result.now c.self.inside.execution c.act-progress.new.self c.act-progress.result c.settle.result
-    (sym c.self.view_is) c.in_default.ensures.begun c.pc.ensures.pc c.at-instr.ensures alone.came alone.wants c.settle.ensures.wanted
+    let alone = acted_alone (λ had. acts c.instr-instr.result.now c.args.image.now had c.self.inside.execution.state) c.act-progress.ensures.acted in
+    acted_wants c.args.image.now c.args.self.now c.begin.new.self c.self.inside.held.instr c.instr-instr.result.now c.self.inside.execution c.act-progress.new.self c.act-progress.result c.settle.result
+    (sym c.self.view_is) c.in_default.ensures.begun c.instr-instr.ensures alone.came alone.wants c.settle.ensures.wanted
 
 pub returns-clause-state : goal.returns-clause-state
 returns-clause-state c =
-    let alone = acted_alone (λ had. acts c.at-instr.result.now c.args.image.now had c.self.inside.execution.state) c.act-progress.ensures.acted in
-    acted_stands c.args.image.now c.args.self.now c.begin.new.self c.self.inside.decoded c.pc.result c.at-instr.result.now c.self.inside.execution c.act-progress.new.self c.settle.new.self c.act-progress.result
-    (sym c.self.view_is) c.in_default.ensures.begun c.pc.ensures.pc c.at-instr.ensures alone.came alone.stands c.settle.ensures.state
+    let alone = acted_alone (λ had. acts c.instr-instr.result.now c.args.image.now had c.self.inside.execution.state) c.act-progress.ensures.acted in
+    acted_stands c.args.image.now c.args.self.now c.begin.new.self c.self.inside.held.instr c.instr-instr.result.now c.self.inside.execution c.act-progress.new.self c.settle.new.self c.act-progress.result
+    (sym c.self.view_is) c.in_default.ensures.begun c.instr-instr.ensures alone.came alone.stands c.settle.ensures.state

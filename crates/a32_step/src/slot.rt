@@ -1,0 +1,137 @@
+//! A word that was decoded, so that it isn't decoded again where it is met next.
+ghost use Rattle.std.specs.Prelude.{◌≡◌, ◌%◌, IfOk, IfErr, IsTrue, Ok, Err};
+ghost use Rattle.a32_instr.specs.declared.instructions.Instr.{Instr};
+ghost use Rattle.a32_instr.specs.Effect.{condition_of};
+ghost use Rattle.a32_instr.specs.Table.{meaning, table};
+ghost use Rattle.a32_step.specs.Machine.{decoded, instr_at};
+
+use a32_compute::conditions::condition;
+use a32_decode::decode;
+use a32_instr::{Cond, DecodeFault, Instr, Stop};
+use llsc_base::Image;
+use std::marker::Model;
+
+/// The word NOP (DDI 0406C A8.8.119).
+const NOP: u32 = 0xe320_f000;
+
+/// A word, its instruction, and the condition of that.
+#[derive(Clone, Copy)]
+pub struct Slot {
+    word: u32,
+    cond: Cond,
+    instr: Instr,
+}
+
+impl Model for Slot {
+    ghost use Rattle.std.specs.Prelude.{◌≡◌, Ok};
+    ghost use Rattle.std.proofs.Common.{ap, sym};
+    ghost use Rattle.a32_instr.specs.Effect.{condition_of};
+    ghost use Rattle.a32_instr.specs.Table.{meaning, table};
+    ghost use Rattle.a32_step.specs.Slots.{Met};
+
+    ghost Value = { Met };
+
+    ghost view = { λ slot. record { word = slot.word; instr = slot.instr } };
+
+    ghost invariant = { λ slot. (meaning table slot.word ≡ Ok slot.instr) × (slot.cond ≡ condition_of slot.instr) };
+
+    ghost inverse = { λ met. record { word = met.word; cond = condition_of met.instr; instr = met.instr } };
+
+    ghost inverse_ok = { λ slot right. ap (λ cond. record slot { cond = cond }) (sym right.1) };
+}
+
+/// The stop at a word that is no instruction.
+fn stop_at(pc: u32, fault: DecodeFault) -> Stop
+    ensures { decoded pc (Err fault) ≡ Err result }
+{
+    match fault {
+        DecodeFault::Undefined => Stop::Undefined(pc),
+        DecodeFault::Unpredictable => Stop::Unpredictable(pc),
+    }
+}
+
+impl Slot {
+    /// The word NOP.
+    #[tactic(auto, using(crate::proofs::Slots::nop_means))]
+    pub fn nop() -> Slot {
+        Slot {
+            word: NOP,
+            cond: Cond::ALWAYS,
+            instr: Instr::Nop { cond: Cond::ALWAYS },
+        }
+    }
+
+    /// Its instruction.
+    #[inline(always)]
+    pub fn instr(&self) -> &Instr
+        ensures { result.now ≡ self.now.instr }
+    {
+        &self.instr
+    }
+
+    /// The condition of its instruction.
+    #[inline(always)]
+    pub fn cond(&self) -> Cond
+        ensures { result ≡ condition_of self.now.instr }
+    {
+        self.cond
+    }
+
+    /// Sees to it that it has the instruction at an address, or says what stops a thread there. The span `near` is looked at first.
+    #[inline(always)]
+    pub fn fetch(&mut self, image: &Image, addr: u32, near: &mut usize) -> Result<(), Stop>
+        requires { addr % 4 ≡ 0 }
+        ensures known { IfOk result (λ done. instr_at image.now addr ≡ Ok self.new.instr) }
+        ensures stops { IfErr result (λ stop. instr_at image.now addr ≡ Err stop) }
+    {
+        let Some(word) = image.fetch_near(addr, near) else {
+            return Err(Stop::Outside(addr));
+        };
+        match self.take(word) {
+            Ok(()) => Ok(()),
+            Err(fault) => Err(stop_at(addr, fault)),
+        }
+    }
+
+    /// Sees to it that it has the instruction of this word, or says why the word is none.
+    #[inline(always)]
+    fn take(&mut self, word: u32) -> Result<(), DecodeFault>
+        ensures known { IfOk result (λ done. meaning table word ≡ Ok self.new.instr) }
+        ensures refused { IfErr result (λ fault. meaning table word ≡ Err fault) }
+    {
+        if self.word == word {
+            return Ok(());
+        }
+        self.decode(word)
+    }
+
+    /// Sees to it that it has the instruction at an address; there must be one.
+    #[cold]
+    #[inline(never)]
+    pub fn keep(&mut self, image: &Image, addr: u32)
+        requires aligned { addr % 4 ≡ 0 }
+        requires one { (instr : Instr) × (instr_at image.now addr ≡ Ok instr) }
+        ensures { instr_at image.now addr ≡ Ok self.new.instr }
+    {
+        let Some(word) = image.fetch(addr) else {
+            unreachable!()
+        };
+        let Ok(()) = self.take(word) else {
+            unreachable!()
+        };
+    }
+
+    /// The instruction of another word.
+    fn decode(&mut self, word: u32) -> Result<(), DecodeFault>
+        ensures known { IfOk result (λ done. meaning table word ≡ Ok self.new.instr) }
+        ensures refused { IfErr result (λ fault. meaning table word ≡ Err fault) }
+    {
+        let instr = decode(word)?;
+        *self = Slot {
+            word,
+            cond: condition(&instr),
+            instr,
+        };
+        Ok(())
+    }
+}
