@@ -8,12 +8,12 @@ use Rattle.a32_instr.specs.State.{State, Effect, asks, calls, completes, stops, 
 use Rattle.a32_instr.specs.Effect.{acts, condition_of, effect_of}
 use Rattle.a32_step.specs.declared.phases.Passage.{Passage}
 use Rattle.a32_step.specs.declared.phases.Passage.TheVariants.{Complete, AtStart}
-use Rattle.a32_step.specs.ExecutionState.{ExecutionState, Stage, resting, phase_of, machine_in}
+use Rattle.a32_step.specs.ExecutionState.{ExecutionState, resting, machine_in}
 use Rattle.a32_step.specs.ExecutionState as stage
 use Rattle.a32_step.specs.Machine.{Machine, between, instr_at, IsReady, moved_on, next_effect, after_next, given}
 use Rattle.a32_step.specs.Ports.{Leads, goes, refused, stays}
 use Rattle.a32_step.specs.Acting.{IsGiven, begins, none_made, one_more, StandsAt, IsActed}
-use Rattle.a32_step.specs.Passages.{Comes, ComesOf, IsCarriedOnOf, starts, replied, EndsAt, IsCarriedOn, in_hand, passage_of}
+use Rattle.a32_step.specs.Passages.{Comes, starts, replied, EndsAt, IsCarriedOn, in_hand, passage_of}
 use Rattle.a32_step.specs.declared.phases.Progress.{Progress}
 use Rattle.a32_step.specs.declared.phases.Progress.TheVariants as progress
 use Rattle.a32_step.specs.Progress.{progress_of}

@@ -6,7 +6,7 @@ use Rattle.a32_instr.specs.declared.outside.Ask.{Ask}
 use Rattle.a32_step.specs.declared.phases.Passage.{Passage}
 use Rattle.a32_step.specs.declared.phases.Passage.TheVariants.{Complete, AtStart, UnderWay}
 use Rattle.a32_step.specs.declared.phases.Wanted.TheVariants as wanted
-use Rattle.a32_step.specs.Machine.{MachineOf, InstructionSet, between, IsReady, IsAwaiting, after_of, given, given_in, next_of, wanted_of}
+use Rattle.a32_step.specs.Machine.{MachineOf, InstructionSet, between, IsReady, IsAwaiting, after_of, given, given_in, wanted_of}
 use Rattle.a32_step.specs.Phase.{PhaseOf, Between, Inside, Awaiting, Calling, Stopped}
 use Rattle.a32_step.specs.Passages.{ComesOf, starts, replied, EndsAtOf, IsCarriedOnOf}
 use Rattle.a32_step.specs.Ports.{Leads, goes, refused, stays}

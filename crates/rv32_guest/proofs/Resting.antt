@@ -1,11 +1,10 @@
 -- A core that is between two instructions.
-use Rattle.std.proofs.Common.{◌≡◌, List, ℕ, refl, sym, ap, subst}
+use Rattle.std.proofs.Common.{◌≡◌, refl, sym, ap, subst}
 use Rattle.a32_step.specs.Phase.{PhaseOf}
 use Rattle.a32_step.specs.Phase as phase
-use Rattle.a32_step.specs.Machine.{MachineOf, between}
+use Rattle.a32_step.specs.Machine.{between}
 use Rattle.rv32_guest.specs.Inside.{phase_of}
 use Rattle.rv32_guest.specs.Machine.{Machine}
-use Rattle.rv32_guest.specs.State.{RvState}
 use Rattle.rv32_guest.specs.declared.cpu.Stage.{Stage}
 use Rattle.rv32_guest.specs.declared.cpu.Stage.TheVariants.{Between, Inside, Awaiting, Calling, Stopped}
 use Rattle.rv32_guest.specs.declared.instructions.RvInstr.{RvInstr}

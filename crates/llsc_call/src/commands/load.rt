@@ -113,7 +113,8 @@ pub fn answer<R: Threads + Wait + Sync>(rt: &R, alloc: Global, numbers: LoadNumb
         Ok(loaded) => loaded,
         Err(refusal) => return Answer::from(Outcome::from(refusal)),
     };
-    let Ok(done) = run_beside::<Cpu, R>(rt, alloc, &loaded.size, &loaded.image, numbers.budget) else {
+    let Ok(done) = run_beside::<Cpu, R>(rt, alloc, &loaded.size, &loaded.image, numbers.budget)
+    else {
         return Answer::from(Outcome::NoMemory);
     };
     Answer {

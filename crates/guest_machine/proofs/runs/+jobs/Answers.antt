@@ -1,6 +1,4 @@
 use Rattle.std.proofs.Common.{rules, ◌+◌, ◌*◌, ◌<◌, arith, vec_len, vec_capacity}
-use denote.Param.{param}
-use denote.Param.Send.{IsSend, IsSync}
 use Rattle.guest_thread.proofs.Crewed.{ended_more}
 use Rattle.guest_machine.proofs.runs.+jobs.Goals as goal
 
@@ -20,8 +18,7 @@ fn::run_jobs::join+arg2+FnOnce::call_once-join+arg2-requires g t c κs within = 
 pub join-ran-requires-after_bounds : goal.join-ran-requires-after_bounds
 join-ran-requires-after_bounds g t c κs within =
     let fewer : 2 * vec_len c.take_last.new.jobs + 1 < t = omega (arith, c.in-Some.ensures.len, c.decreases) in
-    let room : vec_len c.take_last.new.jobs < vec_capacity c.args.ends = omega (arith, c.in-Some.ensures.len, c.requires.room) in
-    (
+    let room : vec_len c.take_last.new.jobs < vec_capacity c.args.ends = omega (arith, c.in-Some.ensures.len, c.requires.room) in (
       (
         fewer,
         (

@@ -14,9 +14,10 @@ invariant_of-self g c =
     let right : IsRight g.I.Ready.found g.I.Ready.instr g.I.Ready.is_right program known = record {
       means = λ aligned. c.in-Some-of_word.ensures.found program addr (sym c.fetch.ensures ∙ c.in-Some.is);
       right = c.in-Some-of_word.ensures.right;
-    } in
-    (length-set slots (addr / 4 % 4096) known ∙ c.self.invariant.0,
-     all_right g.I.Ready.found g.I.Ready.instr g.I.Ready.is_right program slots (addr / 4 % 4096) known c.self.invariant.1 right)
+    } in (
+      length-set slots (addr / 4 % 4096) known ∙ c.self.invariant.0,
+      all_right g.I.Ready.found g.I.Ready.instr g.I.Ready.is_right program slots (addr / 4 % 4096) known c.self.invariant.1 right,
+    )
 
 pub returns-clause-known : goal.returns-clause-known
 returns-clause-known g c = λ done.
