@@ -12,22 +12,22 @@ returns-clause-loaded c =
     let wanted = size_of_run c.args.numbers in
     let file = c.args.file.items in
     let whole = c.whole_machine.ensures in
-    IfOk-weaker c.load.result (IsLoadedAs c.args.set c.args.format made file) (IsLoadedAs c.args.set c.args.format wanted file)
+    IfOk-weaker c.load_as.result (IsLoadedAs c.args.set c.args.format made file) (IsLoadedAs c.args.set c.args.format wanted file)
     (λ loaded had. loaded_alike c.args.set c.args.format made wanted file loaded whole.fault whole.machine had)
-    c.load.ensures.loaded
+    c.load_as.ensures.loaded
 
 pub returns-clause-few : goal.returns-clause-few
 returns-clause-few c =
     let made = machine_by c.whole_machine.result in
     let n = c.args.numbers in
     let file = c.args.file.items in
-    IfOk-weaker c.load.result (IsLoadedAs c.args.set c.args.format made file) (λ loaded. (1 ≤ n.machine.threads) × (n.machine.threads ≤ 16) × (n.spare ≤ 16))
+    IfOk-weaker c.load_as.result (IsLoadedAs c.args.set c.args.format made file) (λ loaded. (1 ≤ n.machine.threads) × (n.machine.threads ≤ 16) × (n.spare ≤ 16))
     (λ loaded had. run_few n (sym c.whole_machine.ensures.fault ∙ sound_size c.args.set c.args.format made file had.sound))
-    c.load.ensures.loaded
+    c.load_as.ensures.loaded
 
 pub returns-clause-refused : goal.returns-clause-refused
 returns-clause-refused c =
     let made = machine_by c.whole_machine.result in
     let wanted = size_of_run c.args.numbers in
     let whole = c.whole_machine.ensures in
-    subst (λ against. IfErr c.load.result (IsRefusal against)) (refused_alike c.args.set c.args.format made wanted c.args.file.items whole.fault whole.machine) c.load.ensures.refused
+    subst (λ against. IfErr c.load_as.result (IsRefusal against)) (refused_alike c.args.set c.args.format made wanted c.args.file.items whole.fault whole.machine) c.load_as.ensures.refused
