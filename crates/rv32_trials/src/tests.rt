@@ -1,5 +1,8 @@
-//! Words, their instructions, and what a core does with those.
+//! Words, their instructions, what a core does with those, and the threads of a guest beside each other.
+mod carried;
 mod computing;
+mod crews;
 mod decoder;
 mod guests;
 mod memory;
+mod programs;

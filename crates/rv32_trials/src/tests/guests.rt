@@ -1,4 +1,5 @@
 //! A whole guest, against what `qemu-riscv32` printed for it.
+use super::programs::image_of;
 use a32_instr::Ask;
 use guest_calls::{CallStep, Output};
 use llsc_base::{Image, MachineSize, Place};
@@ -113,14 +114,8 @@ fn printed(alloc: Global, image: &Image, memory: &mut Memory) -> Result<Output, 
 #[test]
 fn a_guest_of_qemu(rt: HostRuntime) -> Result<(), Fail> {
     let alloc = rt.alloc();
-    let mut words = Vec::new(alloc);
-    for word in GUEST {
-        for byte in word.to_le_bytes() {
-            words.push(byte)?;
-        }
-    }
     let size = MachineSize::new(u64::from(MEM), 1, 1, 1)?;
-    let image = Image::flat(alloc, words.as_slice(), &size)?;
+    let image = image_of(alloc, &GUEST, &size)?;
     let mut memory = Memory::new(alloc)?;
     let out = printed(alloc, &image, &mut memory)?;
     assert_eq!(rt; out.bytes(), b"e944ba82\n".as_slice());

@@ -1,21 +1,9 @@
 //! Loads, stores and calls, step by step: what is asked for, and what becomes of each reply.
+use super::programs::image;
 use a32_instr::{Ask, CallAsk, Stop};
-use llsc_base::{Image, MachineSize, Place, Size};
+use llsc_base::{Place, Size};
 use rv32_guest::{RvCpu, Wanted};
-use std::alloc::Global;
 use std::test::Fail;
-
-/// An image of these instructions from 0x1000 on.
-fn image(alloc: Global, words: &[u32]) -> Result<Image, Fail> {
-    let size = MachineSize::new(65_536, 1, 1, 1)?;
-    let mut bytes = Vec::new(alloc);
-    for word in words {
-        for byte in word.to_le_bytes() {
-            bytes.push(byte)?;
-        }
-    }
-    Ok(Image::flat(alloc, bytes.as_slice(), &size)?)
-}
 
 fn word_at(addr: u32) -> Place {
     Place {
