@@ -17,6 +17,7 @@ mod crews;
 mod ends;
 mod gathering;
 mod guests;
+mod in_pieces;
 pub mod laws;
 mod pieces;
 mod ports;

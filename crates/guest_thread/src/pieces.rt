@@ -12,9 +12,9 @@ ghost use Rattle.guest_thread.specs.Pieces.{CountFew, IsPiece, counts_by, ended_
 use crate::counts::Counts;
 use crate::ends::GuestEnd;
 use crate::guests::Guest;
+use crate::in_pieces::InPieces;
 use crate::ports::Rest;
 use crate::running::Finished;
-use crate::sharing::Sharing;
 use a32_step::{Code, Conditional, Cpu, Stop};
 use guest_calls::Output;
 use shared_memory::SharedMemory;
@@ -131,7 +131,7 @@ pub fn go_on<M: SharedMemory, R: Wait>(
     let thread = mem.thread(&part.pass);
     let counts = part.counts();
     let (mut guest, pass) = part.into_guest();
-    let mut sharing = Sharing::with(rt, mem, pass, thread, counts);
+    let mut sharing = InPieces::with(rt, mem, pass, thread, counts);
     let rest = guest.run_on(code, upto, &mut sharing, starts);
     let counts = sharing.counts();
     let pass = sharing.into_pass();

@@ -1,4 +1,5 @@
-//! Trials of the RISC-V guests: what is read of words, and what a core does with them. There is nothing here but tests.
+//! Trials of the RISC-V guests: what is read of words, what a core does with them, and how their threads run beside each other.
+//! There is nothing here but tests.
 #![tactic(auto)]
 
 #[cfg(test)]
