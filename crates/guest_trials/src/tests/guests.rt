@@ -2,7 +2,7 @@
 ghost use Rattle.std.specs.Prelude.{◌≡◌, ◌≤◌, length};
 
 use super::programs::{WRITES, image_of};
-use a32_step::{Ask, Stop};
+use a32_step::{Ask, Cpu, Stop};
 use guest_calls::Output;
 use guest_thread::{Guest, Turn};
 use llsc_base::{Image, MachineSize, Place, Size};
@@ -57,7 +57,7 @@ fn ended(
 {
     let (mem, threads) = (size.mem(), size.threads());
     prove!(mem <= 16_777_216 && threads >= 1);
-    let mut guest = Guest::start(alloc, image, size, 0)?;
+    let mut guest = Guest::<Cpu>::start(alloc, image, size, 0)?;
     for (ask, reply) in accesses {
         let Turn::Asks(asked) = guest.next(image, budget) else {
             return Err(Fail::from("the guest ends early"));

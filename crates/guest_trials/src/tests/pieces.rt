@@ -3,7 +3,7 @@ ghost use Rattle.std.specs.Prelude.{◌≡◌, ◌≤◌, IfOk, length};
 ghost use Rattle.guest_trials.specs.Parts.{MayGoOn};
 
 use super::programs::image_of;
-use a32_step::{Code, Stop};
+use a32_step::{Code, Conditional, Stop};
 use guest_calls::Output;
 use guest_thread::{Finished, Part, Paused, go_on, start_cpu};
 use llsc_base::MachineSize;
@@ -34,7 +34,7 @@ const BUDGET: u64 = 1000;
 fn next_piece<M: SharedMemory, R: Wait>(
     rt: &R,
     mem: &M,
-    code: &mut Code,
+    code: &mut Code<Conditional>,
     part: Part<M::Pass>,
     upto: u64,
     starts: bool,
@@ -62,7 +62,7 @@ fn next_piece<M: SharedMemory, R: Wait>(
 fn ended<M: SharedMemory, R: Wait>(
     rt: &R,
     mem: &M,
-    code: &mut Code,
+    code: &mut Code<Conditional>,
     part: Part<M::Pass>,
     slice: u64,
     starts: bool,

@@ -3,7 +3,7 @@ ghost use Rattle.std.specs.Prelude.{◌≡◌, IfSome};
 
 use super::programs::image_of;
 use super::same;
-use a32_step::{Ask, Code, Port, Stop};
+use a32_step::{Ask, Code, Cpu, Port, Stop};
 use guest_thread::Guest;
 use llsc_base::MachineSize;
 use std::alloc::Global;
@@ -39,7 +39,7 @@ const COPIES: &[u32] = &[0xe5d1_0000, 0xe5c1_0000];
 fn ended(alloc: Global) -> Result<(Stop, u64), Fail> {
     let size = MachineSize::new(65_536, 1, 1, 1)?;
     let image = image_of(alloc, COPIES, &size)?;
-    let mut guest = Guest::start(alloc, &image, &size, 0)?;
+    let mut guest = Guest::<Cpu>::start(alloc, &image, &size, 0)?;
     let mut code = Code::new(alloc, &image)?;
     let stop = guest.run(&mut code, 100, &mut Zeros);
     Ok((stop, guest.steps()))
