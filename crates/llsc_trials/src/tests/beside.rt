@@ -2,6 +2,7 @@
 ghost use Rattle.std.specs.Prelude.{◌≡◌, IfOk, length};
 
 use super::*;
+use a32_step::Cpu;
 use elf32::write;
 use guest_gen::counters;
 use llsc_base::{Image, MachineSize};
@@ -34,7 +35,7 @@ fn counted<R: Threads + Wait + Sync + AllocGlobal + Abort>(
 ) -> Result<u64, AllocError>
     requires { length image.now.bytes ≡ size.now.mem }
 {
-    let done = run_beside(rt, rt.alloc(), size, image, 1_000_000)?;
+    let done = run_beside::<Cpu, R>(rt, rt.alloc(), size, image, 1_000_000)?;
     assert!(rt; done.rows.count() >= 2000);
     Ok(total(&done.rows))
 }
