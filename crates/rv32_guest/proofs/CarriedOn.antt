@@ -5,38 +5,22 @@ use Rattle.a32_instr.specs.declared.outside.Ask.{Ask}
 use Rattle.a32_instr.specs.State.{asks, completes}
 use Rattle.a32_step.specs.declared.phases.Passage.{Passage}
 use Rattle.a32_step.specs.declared.phases.Passage.TheVariants.{Complete, AtStart, UnderWay}
-use Rattle.a32_step.specs.Phase.{PhaseOf}
 use Rattle.a32_step.specs.Phase as phase
 use Rattle.a32_step.specs.Machine.{after_found_of, after_of, begins_of, between, given, moved_on, next_of, IsReady}
 use Rattle.a32_step.specs.Passages.{ComesOf, EndsAtOf, IsCarriedOnOf, starts, replied}
 use Rattle.a32_step.specs.Ports.{goes, refused, stays}
-use Rattle.rv32_guest.specs.declared.cpu.Stage.{Stage}
 use Rattle.rv32_guest.specs.declared.cpu.Stage.TheVariants as stage
 use Rattle.rv32_guest.specs.declared.cpu.RvCpu.TheInside as fields
 use Rattle.rv32_guest.specs.declared.instructions.RvInstr.{RvInstr}
 use Rattle.rv32_guest.specs.Effect.{acts}
-use Rattle.rv32_guest.specs.Inside.{machine_of, phase_of}
+use Rattle.rv32_guest.specs.Inside.{machine_of}
 use Rattle.rv32_guest.specs.Machine.{Machine, instr_at, rv32}
 use Rattle.rv32_guest.specs.Outcome.{replies_of}
 use Rattle.rv32_guest.specs.Passages.{GoesOnWith}
 use Rattle.rv32_guest.specs.State.{RvState, Effect}
+use Rattle.rv32_guest.proofs.Resting.{is_resting}
 
 -- ---- between two instructions
-
-is_between : PhaseOf RvInstr → Type 0
-is_between phase.Between = Unit {0}
-is_between (phase.Inside instr) = ⊥
-is_between (phase.Awaiting instr ask) = ⊥
-is_between (phase.Calling call) = ⊥
-is_between (phase.Stopped stop) = ⊥
-
-rests_at : (instr : RvInstr) (at : Stage) → is_between (phase_of instr at) → at ≡ stage.Between
-unfolding is_between
-rests_at instr stage.Between is = refl
-rests_at instr stage.Inside is = absurd is
-rests_at instr (stage.Awaiting ask) is = absurd is
-rests_at instr (stage.Calling call) is = absurd is
-rests_at instr (stage.Stopped stop) is = absurd is
 
 none_had : (reply : Option ℕ) → replies_of reply ≡ [] → reply ≡ None
 none_had None is = refl
@@ -45,10 +29,9 @@ none_had (Some reply) is = cc
 -- with other registers a core that is between two instructions still is
 pub with_registers : (inside : fields.Inside) (old : Machine) (state now : RvState) → machine_of inside ≡ old → old ≡ between state
     → machine_of (record inside { registers = now }) ≡ between now
-unfolding is_between
 with_registers inside old state now is rest =
     let whole : machine_of inside ≡ between state = is ∙ rest in
-    let at : inside.stage ≡ stage.Between = rests_at inside.instr inside.stage (subst is_between (sym (ap (λ (m : Machine). m.phase) whole)) tt) in
+    let at : inside.stage ≡ stage.Between = is_resting inside.instr inside.stage (machine_of inside) refl (whole ∙ ap between (sym (ap (λ (m : Machine). m.state) whole))) in
     let none : inside.reply ≡ None = none_had inside.reply (ap (λ (m : Machine). m.replies) whole) in
     ap (λ s. machine_of (record inside { registers = now; stage = s })) at
     ∙ ap (λ r. machine_of (record inside { registers = now; stage = stage.Between; reply = r })) none
