@@ -7,7 +7,8 @@ ghost use Rattle.history.specs.declared.entry.Access.{Access};
 ghost use Rattle.history.specs.declared.entry.Entry.{Entry};
 ghost use Rattle.guest_thread.specs.End.{IsEndIn};
 ghost use Rattle.guest_thread.specs.BegunOutcome.{IsOutcomeFrom};
-ghost use Rattle.guest_thread.specs.Outcome.{IsOutcome};
+ghost use Rattle.guest_thread.specs.Outcome.{IsOutcome, IsOutcomeOf};
+ghost use Rattle.rv32_guest.specs.Machine.{rv32};
 ghost use Rattle.guest_thread.specs.Start.{thread_start};
 ghost use Rattle.guest_thread.specs.declared.ends.GuestEnd.{GuestEnd};
 ghost use Rattle.run_record.specs.declared.records.RunRecord.{RunRecord};
@@ -74,12 +75,15 @@ pub fn loads_count_every_round()
 {}
 
 /// In the one history of a run or of a load each store-exclusive that succeeded was undisturbed: the last load-exclusive of its
-/// thread read the same row, and nobody has written in that row since, whatever the value. And each that failed has its cause.
+/// thread read the same row, and nobody has written in that row since, whatever the value. And each that failed has its cause. By
+/// RISC-V instructions these are SC.W and LR.W.
 pub fn store_exclusives_are_exact()
     ensures of_all { (program : Program) (size : Numbers) (budget : ℕ) (history : List Entry) (ends : List GuestEnd) →
         IsOutcome program size budget history ends → AreStoresExact size program.bytes history }
     ensures of_begun { (program : Program) (size : Numbers) (first spare budget : ℕ) (history : List Entry) (ends : List GuestEnd) →
         IsOutcomeFrom program size first spare budget history ends → AreStoresExact size program.bytes history }
+    ensures of_risc_v { (program : Program) (size : Numbers) (budget : ℕ) (history : List Entry) (ends : List GuestEnd) →
+        IsOutcomeOf rv32 program size budget history ends → AreStoresExact size program.bytes history }
 {}
 
 /// The record of a trace is good.
