@@ -2,7 +2,7 @@
 use Rattle.std.specs.Prelude.{ℕ, List, ◌++◌, Result, Ok, Err, codes}
 use Rattle.number_text.specs.Hexadecimal.{word_text}
 use Rattle.a32_instr.specs.declared.instructions.Instr.{Instr}
-use Rattle.a32_instr.specs.declared.instructions.DecodeFault.{DecodeFault}
+use Rattle.llsc_base.specs.declared.decoding.DecodeFault.{DecodeFault}
 use Rattle.a32_instr.specs.Table.{meaning, table}
 use Rattle.a32_syntax.specs.Shown.{instruction_text}
 

@@ -4,7 +4,7 @@ use Rattle.std.proofs.lemmas.Bool.{cases_lt}
 use Rattle.std.proofs.lemmas.Int.{ints, to_z-of_z, fits_signed_from_abs}
 use Rattle.std.specs.Int.{cast_signed, cast_unsigned}
 use Rattle.std.specs.Int.RustNames.{FitsSigned, unsigned_abs}
-use Rattle.a32_instr.specs.Sum.{signed}
+use Rattle.llsc_base.specs.Words.{signed}
 
 pub signed_low : (x : ℕ) → x < 2 ^ 31 → signed x ≡ pos x
 signed_low x low = rw (lt-ltb x (2 ^ 31) low) refl

@@ -1,6 +1,7 @@
 //! Sums of 32-bit numbers, and the data-processing operations on them.
 ghost use Rattle.std.specs.Prelude.{◌≡◌, ◌<◌, ◌+ℤ◌, pos};
-ghost use Rattle.a32_instr.specs.Sum.{signed, is_out_of_range, sum_of};
+ghost use Rattle.llsc_base.specs.Words.{signed};
+ghost use Rattle.a32_instr.specs.Sum.{is_out_of_range, sum_of};
 ghost use Rattle.a32_instr.specs.DataProcessing.{summed, logical, computed, one_if};
 
 use crate::parts::low_word;

@@ -1,7 +1,8 @@
 //! Words, halves and bytes of numbers (DDI 0406C A5.2.8, A5.4.3, A8.8.106).
 ghost use Rattle.std.specs.Prelude.{◌≡◌};
-ghost use Rattle.a32_instr.specs.State.{low32};
-ghost use Rattle.a32_instr.specs.LoadStore.{access_size, half_size, half_value, loaded_part};
+ghost use Rattle.llsc_base.specs.Words.{low32};
+ghost use Rattle.a32_instr.specs.LoadStore.{access_size, half_size, half_value};
+ghost use Rattle.llsc_base.specs.Effects.{loaded_part};
 ghost use Rattle.a32_instr.specs.Moves.{with_top, reversed, extended, width_of};
 
 use a32_instr::HalfKind;

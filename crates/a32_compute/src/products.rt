@@ -1,7 +1,6 @@
 //! Products of 32-bit numbers (DDI 0406C A5.2.5).
 ghost use Rattle.std.specs.Prelude.{◌≡◌, ◌<◌, ◌*◌, ◌+◌, ◌*ℤ◌, ◌^◌};
-ghost use Rattle.a32_instr.specs.State.{low32};
-ghost use Rattle.a32_instr.specs.Sum.{signed};
+ghost use Rattle.llsc_base.specs.Words.{low32, signed};
 ghost use Rattle.a32_instr.specs.Multiply.{less_product, long_product};
 
 use crate::arithmetic::as_signed;

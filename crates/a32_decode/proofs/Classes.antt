@@ -3,12 +3,12 @@ use Rattle.std.proofs.Common.{◌≡◌, ℕ, ◌^◌, ◌<◌, Bool, true, fals
 use Rattle.std.specs.List.{list_all}
 use Rattle.std.proofs.lemmas.Bool.{and_parts, both_ways, eq-eqb}
 use Rattle.std.proofs.lemmas.List.Elements.{All-head}
-use Rattle.a32_instr.specs.Bits.{bits_of}
+use Rattle.llsc_base.specs.Bits.{bits_of}
 use Rattle.a32_instr.specs.Fields.{always, never}
 use Rattle.a32_instr.specs.Table.{Row, AreApart, fits, outcome, meaning, table, alu_imm, alu_by_num, alu_by_reg, half_imm, half_reg, movw, movt, nop, yields, mul, mla, mls, long, clz, extend, rev, word_imm, word_reg, block, branch, branch_reg, svc, load_ex, store_ex, clrex, barrier}
 use Rattle.a32_instr.specs.declared.instructions.Instr.{Instr}
 use Rattle.a32_instr.specs.declared.instructions.Instr.TheVariants.{Clrex}
-use Rattle.a32_instr.specs.declared.instructions.DecodeFault.{DecodeFault}
+use Rattle.llsc_base.specs.declared.decoding.DecodeFault.{DecodeFault}
 use Rattle.a32_instr.proofs.Apart.{rows_clash, clash_is_apart, is_conditional, unconditional_apart, fixed_unconditional}
 use Rattle.a32_decode.specs.Rows.{Fits, NoneFits}
 use Rattle.a32_decode.proofs.Rows.{FollowsRows, chosen}

@@ -1,7 +1,7 @@
 -- Halfwords and signed bytes are no multiplications and no exclusives, whose bits 7:4 are 1001.
 use Rattle.std.proofs.Common.{◌≡◌, ℕ, ◌==◌, ◌&&◌, IsTrue, ⊎_elim, arith}
 use Rattle.std.proofs.lemmas.Bool.{and_parts, or_cases, eqb-true}
-use Rattle.a32_instr.specs.Bits.{bits_of}
+use Rattle.llsc_base.specs.Bits.{bits_of}
 use Rattle.a32_instr.specs.Fields.{half_fits, index_fits}
 use Rattle.a32_instr.specs.Table.{half_imm, half_reg}
 use Rattle.a32_instr.proofs.Apart.{further_of}

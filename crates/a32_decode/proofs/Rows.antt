@@ -2,8 +2,8 @@
 use Rattle.std.proofs.Common.{◌≡◌, ℕ, Bool, true, false, if◌then◌else◌, IsTrue, List, [], ◌∷◌, Result, Err, refl}
 use Rattle.a32_instr.specs.Table.{Row, fits, outcome, meaning}
 use Rattle.a32_instr.specs.declared.instructions.Instr.{Instr}
-use Rattle.a32_instr.specs.declared.instructions.DecodeFault.{DecodeFault}
-use Rattle.a32_instr.specs.declared.instructions.DecodeFault.TheVariants.{Undefined}
+use Rattle.llsc_base.specs.declared.decoding.DecodeFault.{DecodeFault}
+use Rattle.llsc_base.specs.declared.decoding.DecodeFault.TheVariants.{Undefined}
 use Rattle.a32_decode.specs.Rows.{Fits, Means, NoneFits}
 
 -- the answer is what each row that the word fits says

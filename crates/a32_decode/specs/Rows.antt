@@ -2,7 +2,7 @@
 use Rattle.std.specs.Prelude.{◌≡◌, ℕ, false, IsTrue, List, [], ◌∷◌, Result}
 use Rattle.a32_instr.specs.Table.{Row, fits, outcome}
 use Rattle.a32_instr.specs.declared.instructions.Instr.{Instr}
-use Rattle.a32_instr.specs.declared.instructions.DecodeFault.{DecodeFault}
+use Rattle.llsc_base.specs.declared.decoding.DecodeFault.{DecodeFault}
 
 -- the word fits the row
 abbrev pub Fits : Row → ℕ → Type 0

@@ -1,6 +1,6 @@
 //! The fields of a word. Shifts and masks stand here and nowhere else.
 ghost use Rattle.std.specs.Prelude.{◌≡◌, ◌<◌, ◌==◌, ◌^◌};
-ghost use Rattle.a32_instr.specs.Bits.{bits_of};
+ghost use Rattle.llsc_base.specs.Bits.{bits_of};
 
 use a32_instr::{Cond, Reg};
 

@@ -1,12 +1,13 @@
 //! Branches and supervisor calls (DDI 0406C A5.5, A5.6).
 ghost use Rattle.std.specs.Prelude.{◌≡◌, ◌<◌, ◌^◌, ◌∷◌, []};
-ghost use Rattle.a32_instr.specs.Bits.{bits_of};
+ghost use Rattle.llsc_base.specs.Bits.{bits_of};
 ghost use Rattle.a32_instr.specs.Fields.{signed24};
 ghost use Rattle.a32_instr.specs.Table.{branch, branch_reg, svc};
 ghost use Rattle.a32_decode.specs.Rows.{Fits, Means, NoneFits};
 
 use crate::bits::{bit, bits, condition, register};
-use a32_instr::{DecodeFault, Instr};
+use llsc_base::DecodeFault;
+use a32_instr::Instr;
 
 /// A branch: a word whose bits 27:25 are 101 (DDI 0406C A5.5).
 #[inline]

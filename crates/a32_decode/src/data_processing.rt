@@ -1,6 +1,6 @@
 //! Data-processing instructions and their neighbours (DDI 0406C A5.2).
 ghost use Rattle.std.specs.Prelude.{◌≡◌, ◌<◌, ◌==◌, ◌&&◌, ◌∷◌, []};
-ghost use Rattle.a32_instr.specs.Bits.{bits_of};
+ghost use Rattle.llsc_base.specs.Bits.{bits_of};
 ghost use Rattle.a32_instr.specs.Fields.{alu_fits, alu_op, alu_unpredictable, shift_kind};
 ghost use Rattle.a32_instr.specs.Table.{alu_imm, alu_by_num, alu_by_reg, half_imm, half_reg, movw, movt, nop, yields, mul, mla, mls, long, clz, branch_reg, load_ex, store_ex};
 ghost use Rattle.a32_decode.specs.Rows.{Fits, Means, NoneFits};
@@ -8,7 +8,8 @@ ghost use Rattle.a32_decode.specs.Rows.{Fits, Means, NoneFits};
 use crate::bits::{bit, bits, condition, register};
 use crate::pc::{one_of_2_is_pc, one_of_4_is_pc};
 use crate::{branch, extra_load_store, multiply, synchronization};
-use a32_instr::{AluOp, DecodeFault, Instr, Operand2, Reg, ShiftKind};
+use a32_instr::{AluOp, Instr, Operand2, Reg, ShiftKind};
+use llsc_base::DecodeFault;
 
 /// Data processing with registers, multiplications, exclusives, halfwords and signed bytes: a word whose bits 27:25
 /// are 000 (DDI 0406C A5.2).

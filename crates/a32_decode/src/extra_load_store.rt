@@ -1,13 +1,14 @@
 //! Loads and stores of a halfword, and loads of a signed byte (DDI 0406C A5.2.8).
 ghost use Rattle.std.specs.Prelude.{◌≡◌, ◌<◌, ◌∷◌, ◌&&◌, []};
-ghost use Rattle.a32_instr.specs.Bits.{bits_of};
+ghost use Rattle.llsc_base.specs.Bits.{bits_of};
 ghost use Rattle.a32_instr.specs.Fields.{index_fits, index_of, half_fits, half_kind, half_unpredictable};
 ghost use Rattle.a32_instr.specs.Table.{half_imm, half_reg};
 ghost use Rattle.a32_decode.specs.Rows.{Fits, Means, NoneFits};
 
 use crate::bits::{bit, bits, condition, register};
 use crate::load_store::{index, is_index};
-use a32_instr::{DecodeFault, HalfKind, Instr, Offset, Reg, ShiftKind};
+use llsc_base::DecodeFault;
+use a32_instr::{HalfKind, Instr, Offset, Reg, ShiftKind};
 
 /// A load or a store of a halfword, or a load of a signed byte: a word whose bits 27:25 are 000 and whose bits 7 and 4
 /// are set (DDI 0406C A5.2.8).

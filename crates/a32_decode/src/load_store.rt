@@ -1,13 +1,14 @@
 //! Loads and stores of one register (DDI 0406C A5.3).
 ghost use Rattle.std.specs.Prelude.{◌≡◌, ◌<◌, ◌∷◌, ◌==◌, []};
-ghost use Rattle.a32_instr.specs.Bits.{bits_of};
+ghost use Rattle.llsc_base.specs.Bits.{bits_of};
 ghost use Rattle.a32_instr.specs.Fields.{index_fits, index_of, word_unpredictable};
 ghost use Rattle.a32_instr.specs.Table.{word_imm, word_reg};
 ghost use Rattle.a32_decode.specs.Rows.{Fits, Means, NoneFits};
 
 use crate::bits::{bit, bits, condition, register};
 use crate::data_processing::kind_of_shift;
-use a32_instr::{DecodeFault, Index, Instr, Offset, Reg};
+use llsc_base::DecodeFault;
+use a32_instr::{Index, Instr, Offset, Reg};
 
 /// A load or a store with an immediate offset: a word whose bits 27:25 are 010 (DDI 0406C A5.3).
 #[inline]

@@ -1,12 +1,13 @@
 //! Extended parts and reversed bytes (DDI 0406C A5.4.3).
 ghost use Rattle.std.specs.Prelude.{◌≡◌, ◌<◌, ◌∷◌, []};
-ghost use Rattle.a32_instr.specs.Bits.{bits_of};
+ghost use Rattle.llsc_base.specs.Bits.{bits_of};
 ghost use Rattle.a32_instr.specs.Table.{extend, rev};
 ghost use Rattle.a32_decode.specs.Rows.{Fits, Means, NoneFits};
 
 use crate::bits::{bit, bits, condition, register};
 use crate::pc::one_of_2_is_pc;
-use a32_instr::{DecodeFault, Instr};
+use llsc_base::DecodeFault;
+use a32_instr::Instr;
 
 /// A media instruction: a word whose bits 27:25 are 011 and whose bit 4 is set (DDI 0406C A5.4).
 #[inline]

@@ -1,13 +1,14 @@
 //! Multiplications (DDI 0406C A5.2.5).
 ghost use Rattle.std.specs.Prelude.{◌≡◌, ◌<◌, ◌∷◌, []};
-ghost use Rattle.a32_instr.specs.Bits.{bits_of};
+ghost use Rattle.llsc_base.specs.Bits.{bits_of};
 ghost use Rattle.a32_instr.specs.Fields.{long_kind};
 ghost use Rattle.a32_instr.specs.Table.{mul, mla, mls, long};
 ghost use Rattle.a32_decode.specs.Rows.{Fits, Means, NoneFits};
 
 use crate::bits::{bit, bits, condition, register};
 use crate::pc::{one_of_3_is_pc, one_of_4_is_pc};
-use a32_instr::{DecodeFault, Instr, LongKind};
+use llsc_base::DecodeFault;
+use a32_instr::{Instr, LongKind};
 
 /// A multiplication: a word whose bits 27:24 are 0000 and 7:4 are 1001 (DDI 0406C A5.2.5).
 #[inline]

@@ -1,14 +1,14 @@
 //! Synchronization primitives (DDI 0406C A5.2.10) and barriers (A5.7.1).
 ghost use Rattle.std.specs.Prelude.{◌≡◌, ◌<◌, ◌∷◌, []};
-ghost use Rattle.a32_instr.specs.Bits.{bits_of};
+ghost use Rattle.llsc_base.specs.Bits.{bits_of};
 ghost use Rattle.a32_instr.specs.Fields.{barrier_kind, exclusive_size, no_pair, status_clashes};
 ghost use Rattle.a32_instr.specs.Table.{load_ex, store_ex, clrex, barrier};
 ghost use Rattle.a32_decode.specs.Rows.{Fits, Means, NoneFits};
 
 use crate::bits::{bit, bits, condition, register};
 use crate::pc::{one_of_2_is_pc, one_of_3_is_pc};
-use a32_instr::{BarrierKind, DecodeFault, Instr, Reg};
-use llsc_base::Size;
+use a32_instr::{BarrierKind, Instr, Reg};
+use llsc_base::{DecodeFault, Size};
 
 /// A load-exclusive or a store-exclusive: a word whose bits 27:24 are 0001 and 7:4 are 1001.
 #[inline]

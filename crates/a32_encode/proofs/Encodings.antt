@@ -3,7 +3,7 @@ use Rattle.std.proofs.Common.{◌≡◌, ℕ, ◌^◌, ◌<◌, ◌&&◌, Bool, 
 use Rattle.std.proofs.lemmas.Slice.Eq.{bytes_eq-Decides}
 use Rattle.a32_instr.specs.Table.{meaning, table}
 use Rattle.a32_instr.specs.declared.instructions.Instr.{Instr}
-use Rattle.a32_instr.specs.declared.instructions.DecodeFault.{DecodeFault}
+use Rattle.llsc_base.specs.declared.decoding.DecodeFault.{DecodeFault}
 use Rattle.a32_encode.specs.Word.{word_of}
 use Rattle.a32_encode.specs.Encoding.{key_of, is_that, encoding_of}
 use Rattle.a32_encode.proofs.Rows.{only_word}

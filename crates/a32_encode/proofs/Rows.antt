@@ -1,12 +1,12 @@
 -- An instruction's fields give back its word, row by row.
 use Rattle.std.proofs.Common.{◌≡◌, ℕ, zero, suc, ◌+◌, ◌*◌, ◌^◌, ◌<◌, ◌==◌, ◌&&◌, Bool, true, false, if◌then◌else◌, IsTrue, List, [], ◌∷◌, Result, Ok, Err, arith, refl, ◌∙◌, sym, ap}
 use Rattle.std.proofs.lemmas.Bool.{and_parts}
-use Rattle.a32_instr.specs.Bits.{bits_of, field, has_bits, runs_of}
+use Rattle.llsc_base.specs.Bits.{bits_of, field, has_bits, runs_of}
 use Rattle.a32_instr.specs.Fields.{alu_op, shift_kind, long_kind, exclusive_size, barrier_kind, index_of, index_fits, half_kind, half_fits, signed24}
 use Rattle.a32_instr.specs.Table.{Row, fits, condition_fits, meaning, table, c, alu_imm, alu_by_num, alu_by_reg, half_imm, half_reg, movw, movt, nop, yields, mul, mla, mls, long, clz, extend, rev, word_imm, word_reg, block, branch, branch_reg, svc, load_ex, store_ex, clrex, barrier}
 use Rattle.a32_instr.specs.declared.instructions.Instr.{Instr}
-use Rattle.a32_instr.specs.declared.instructions.DecodeFault.{DecodeFault}
-use Rattle.a32_instr.specs.declared.instructions.DecodeFault.TheVariants.{Unpredictable}
+use Rattle.llsc_base.specs.declared.decoding.DecodeFault.{DecodeFault}
+use Rattle.llsc_base.specs.declared.decoding.DecodeFault.TheVariants.{Unpredictable}
 use Rattle.a32_instr.proofs.Apart.{further_of}
 use Rattle.a32_instr.specs.DataProcessing.{one_if}
 use Rattle.a32_encode.specs.Word.{word_of, opcode, shift_bits, long_bits, size_bits, barrier_bits, index_bits, half_bits, branch_bits}

@@ -1,7 +1,7 @@
 -- Words that have the opcode of a compare and don't set the flags are no data processing.
 use Rattle.std.proofs.Common.{◌≡◌, ℕ, zero, suc, ◌+◌, ◌<◌, ◌==◌, ◌&&◌, ◌||◌, not, true, IsTrue, ⊎_elim, arith, refl, subst}
 use Rattle.std.proofs.lemmas.Bool.{and_parts, or_cases, eqb-true, both_ways, not-true}
-use Rattle.a32_instr.specs.Bits.{bits_of}
+use Rattle.llsc_base.specs.Bits.{bits_of}
 use Rattle.a32_instr.specs.declared.instructions.AluOp.{AluOp}
 use Rattle.a32_instr.specs.Fields.{is_compare, is_move, alu_op, alu_fits}
 

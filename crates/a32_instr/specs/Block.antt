@@ -2,10 +2,12 @@
 use Rattle.std.specs.Prelude.{ℕ, ◌+◌, ◌-◌, ◌*◌, ◌/◌, ◌%◌, ◌^◌, ◌==◌, not, nat_lt, if◌then◌else◌, Bool, true, false, Option, Some, None, List, [], ◌∷◌, filter, length, slice_index, slice_set}
 use Rattle.llsc_base.specs.Images.{Program, first_barred, word_place}
 use Rattle.llsc_base.specs.declared.access.BarredWord.{BarredWord}
-use Rattle.a32_instr.specs.declared.outside.Ask.{Ask}
-use Rattle.a32_instr.specs.declared.outside.Ask.TheVariants.{Load, Store}
-use Rattle.a32_instr.specs.State.{State, Effect, asks, completes, stops, low32, register, advanced, jumps}
-use Rattle.a32_instr.specs.LoadStore.{moved, barred}
+use Rattle.llsc_base.specs.declared.outside.Ask.{Ask}
+use Rattle.llsc_base.specs.declared.outside.Ask.TheVariants.{Load, Store}
+use Rattle.a32_instr.specs.State.{State, Effect, register, advanced, jumps}
+use Rattle.llsc_base.specs.Effects.{asks, completes, stops, barred}
+use Rattle.llsc_base.specs.Words.{low32}
+use Rattle.a32_instr.specs.LoadStore.{moved}
 
 -- register r stands in a list where bit r is set
 abbrev pub is_listed : ℕ → ℕ → Bool

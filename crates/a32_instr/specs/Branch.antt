@@ -1,8 +1,10 @@
 -- Branches (DDI 0406C A8.8.18, A8.8.25 to A8.8.27) and the supervisor call (A8.8.228).
 use Rattle.std.specs.Prelude.{ℕ, ◌+◌, ◌^◌, if◌then◌else◌, Bool, ℤ, pos, ◌+ℤ◌, ◌*ℤ◌, unsigned_abs, slice_index, slice_set}
 use Rattle.std.specs.Int.{int_rem_euclid}
-use Rattle.a32_instr.specs.declared.outside.CallAsk.{CallAsk}
-use Rattle.a32_instr.specs.State.{State, Effect, completes, calls, jumps, low32, register}
+use Rattle.llsc_base.specs.declared.outside.CallAsk.{CallAsk}
+use Rattle.a32_instr.specs.State.{State, Effect, jumps, register}
+use Rattle.llsc_base.specs.Effects.{completes, calls}
+use Rattle.llsc_base.specs.Words.{low32}
 
 -- so many words from the address of the instruction plus 8, modulo 2 to the 32
 unfoldable pub target_of : ℕ → ℤ → ℕ

@@ -6,7 +6,8 @@ use Rattle.a32_instr.specs.declared.instructions.AluOp.TheVariants.{And, Eor, Su
 use Rattle.a32_instr.specs.declared.instructions.Operand2.{Operand2}
 use Rattle.a32_instr.specs.declared.instructions.Operand2.TheVariants.{Imm, ByNum, ByReg}
 use Rattle.a32_instr.specs.Fields.{is_compare}
-use Rattle.a32_instr.specs.State.{State, Effect, completes, register, advanced, writes}
+use Rattle.a32_instr.specs.State.{State, Effect, register, advanced, writes}
+use Rattle.llsc_base.specs.Effects.{completes}
 use Rattle.a32_instr.specs.declared.arithmetic.Sum.{Sum}
 use Rattle.a32_instr.specs.declared.arithmetic.Shifted.{Shifted}
 use Rattle.a32_instr.specs.declared.arithmetic.Computed.{Computed}

@@ -4,7 +4,8 @@ use Rattle.llsc_base.specs.Images.{Program}
 use Rattle.a32_instr.specs.declared.instructions.Instr.{Instr}
 use Rattle.a32_instr.specs.declared.instructions.Instr.TheVariants.{Alu, Movw, Movt, Nop, Yield, Mul, Mla, Mls, Long, Clz, Extend, Rev, Word, Half, Block, Branch, BranchReg, Svc, LoadEx, StoreEx, Clrex, Barrier}
 use Rattle.a32_instr.specs.Condition.{always, passes}
-use Rattle.a32_instr.specs.State.{State, Effect, completes, advanced}
+use Rattle.a32_instr.specs.State.{State, Effect, advanced}
+use Rattle.llsc_base.specs.Effects.{completes}
 use Rattle.a32_instr.specs.DataProcessing.{alu}
 use Rattle.a32_instr.specs.Multiply.{multiplies, multiplies_and_adds, multiplies_and_subtracts, multiplies_long}
 use Rattle.a32_instr.specs.Moves.{moves_wide, moves_top, counts_zeros, reverses, extends}

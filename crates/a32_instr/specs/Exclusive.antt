@@ -5,9 +5,11 @@ use Rattle.llsc_base.specs.declared.access.Size.{Size}
 use Rattle.llsc_base.specs.declared.access.Size.TheVariants.{B1, B2, B4, B8}
 use Rattle.llsc_base.specs.declared.access.Place.{Place}
 use Rattle.llsc_base.specs.Images.{Program, bar_of}
-use Rattle.a32_instr.specs.declared.outside.Ask.TheVariants.{LoadEx, StoreEx, Clear}
-use Rattle.a32_instr.specs.State.{State, Effect, asks, completes, low32, register, advanced, with_register}
-use Rattle.a32_instr.specs.LoadStore.{asks_unless, loaded_part}
+use Rattle.llsc_base.specs.declared.outside.Ask.TheVariants.{LoadEx, StoreEx, Clear}
+use Rattle.a32_instr.specs.State.{State, Effect, register, advanced, with_register}
+use Rattle.llsc_base.specs.Effects.{asks, completes, loaded_part}
+use Rattle.llsc_base.specs.Words.{low32}
+use Rattle.a32_instr.specs.LoadStore.{asks_unless}
 
 -- the place of a size at the address that a register has
 abbrev pub place_at : Size → ℕ → State → Place

@@ -1,7 +1,5 @@
-pub mod Bits
 pub mod Fields
 pub mod Table
-pub mod Faults
 pub mod Classes
 pub mod State
 pub mod Condition

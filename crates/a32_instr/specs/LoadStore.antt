@@ -5,7 +5,6 @@ use Rattle.std.specs.Prelude.{ℕ, ◌+◌, ◌-◌, ◌%◌, ◌^◌, if◌then
 use Rattle.llsc_base.specs.declared.access.Size.TheVariants.{B1, B2, B4}
 use Rattle.llsc_base.specs.declared.access.Size.{Size}
 use Rattle.llsc_base.specs.declared.access.Place.{Place}
-use Rattle.llsc_base.specs.Memory.{size_bytes}
 use Rattle.llsc_base.specs.declared.access.Bar.{Bar}
 use Rattle.llsc_base.specs.declared.access.Bar.TheVariants as bar
 use Rattle.llsc_base.specs.Images.{Program, bar_of}
@@ -17,11 +16,11 @@ use Rattle.a32_instr.specs.declared.instructions.HalfKind.{HalfKind}
 use Rattle.a32_instr.specs.declared.instructions.HalfKind.TheVariants.{Strh, Ldrh, Ldrsb, Ldrsh}
 use Rattle.a32_instr.specs.Shift.{shifted_by_number}
 use Rattle.a32_instr.specs.Moves.{widened}
-use Rattle.a32_instr.specs.declared.outside.Ask.{Ask}
-use Rattle.a32_instr.specs.declared.outside.Ask.TheVariants.{Load, Store}
-use Rattle.a32_instr.specs.declared.outside.Stop.{Stop}
-use Rattle.a32_instr.specs.declared.outside.Stop.TheVariants.{Alignment, Outside, ReadOnly}
-use Rattle.a32_instr.specs.State.{State, Effect, asks, completes, stops, low32, register, advanced, writes}
+use Rattle.llsc_base.specs.declared.outside.Ask.{Ask}
+use Rattle.llsc_base.specs.declared.outside.Ask.TheVariants.{Load, Store}
+use Rattle.a32_instr.specs.State.{State, Effect, register, advanced, writes}
+use Rattle.llsc_base.specs.Effects.{asks, completes, stops, barred, loaded_part}
+use Rattle.llsc_base.specs.Words.{low32}
 
 -- whether an offset is added or taken away
 abbrev pub is_added : Offset → Bool
@@ -56,21 +55,10 @@ back_regs Post rn moved regs = slice_set regs rn moved
 abbrev pub written_back : Index → ℕ → ℕ → State → State
 written_back index rn moved state = record state { regs = back_regs index rn moved state.regs }
 
--- the stop of a thread whose access is barred
-abbrev pub barred : Bar → ℕ → Stop
-barred bar.Alignment addr = Alignment addr
-barred bar.Outside addr = Outside addr
-barred bar.ReadOnly addr = ReadOnly addr
-
 -- an access is asked for where nothing bars it
 abbrev pub asks_unless : Option Bar → ℕ → Ask → Effect
 asks_unless None addr ask = asks ask
 asks_unless (Some bar) addr ask = stops (barred bar addr)
-
--- What a load of a size takes of its reply, which may be any number: it is cut to its size, so that the low bits are
--- taken, as many as the place has, and whatever stands above them is dropped. A reply that fits the place is taken whole.
-abbrev pub loaded_part : Size → ℕ → ℕ
-loaded_part size reply = reply % 256 ^ size_bytes size
 
 -- a load asks for its place, and writes what it takes of the reply to its register, with zeros above it, after the
 -- write-back

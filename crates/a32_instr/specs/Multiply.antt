@@ -3,8 +3,9 @@ use Rattle.std.specs.Prelude.{ℕ, ◌+◌, ◌*◌, ◌/◌, ◌^◌, ◌==◌,
 use Rattle.a32_instr.specs.declared.conditions.Flags.{Flags}
 use Rattle.a32_instr.specs.declared.instructions.LongKind.{LongKind}
 use Rattle.a32_instr.specs.declared.instructions.LongKind.TheVariants.{Umull, Umlal, Smull, Smlal}
-use Rattle.a32_instr.specs.State.{State, Effect, completes, low32, register, advanced, with_register, writes}
-use Rattle.a32_instr.specs.Sum.{signed, residue}
+use Rattle.a32_instr.specs.State.{State, Effect, register, advanced, with_register, writes}
+use Rattle.llsc_base.specs.Effects.{completes}
+use Rattle.llsc_base.specs.Words.{low32, signed, residue}
 use Rattle.a32_instr.specs.Shift.{top_bit}
 use Rattle.a32_instr.specs.DataProcessing.{with_flags}
 

@@ -1,7 +1,7 @@
 -- Shifts of 32-bit numbers, with the shifter's carry (DDI 0406C A2.2.1, A8.4.3), in unbounded whole numbers.
 use Rattle.std.specs.Prelude.{ℕ, ◌+◌, ◌-◌, ◌*◌, ◌/◌, ◌%◌, ◌^◌, ◌==◌, nat_le, if◌then◌else◌, Bool, ℤ, pos}
 use Rattle.std.specs.Int.{int_div_euclid}
-use Rattle.a32_instr.specs.Sum.{signed, residue}
+use Rattle.llsc_base.specs.Words.{signed, residue}
 use Rattle.a32_instr.specs.declared.instructions.ShiftKind.{ShiftKind}
 use Rattle.a32_instr.specs.declared.instructions.ShiftKind.TheVariants.{Lsl, Lsr, Asr, Ror}
 use Rattle.a32_instr.specs.declared.arithmetic.Shifted.{Shifted}

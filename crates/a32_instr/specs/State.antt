@@ -1,10 +1,9 @@
 -- The registers, flags and PC of a guest thread, and what an instruction may do with them.
-use Rattle.std.specs.Prelude.{ℕ, ◌+◌, ◌%◌, ◌^◌, ◌==◌, if◌then◌else◌, List, slice_index, slice_set}
+use Rattle.std.specs.Prelude.{ℕ, ◌+◌, ◌%◌, ◌==◌, if◌then◌else◌, List, slice_index, slice_set}
 use Rattle.a32_instr.specs.declared.conditions.Flags.{Flags}
-use Rattle.a32_instr.specs.declared.outside.Ask.{Ask}
-use Rattle.a32_instr.specs.declared.outside.CallAsk.{CallAsk}
-use Rattle.a32_instr.specs.declared.outside.Stop.{Stop}
-use Rattle.a32_instr.specs.declared.outside.Stop.TheVariants.{Unpredictable, Thumb}
+use Rattle.llsc_base.specs.declared.outside.Stop.TheVariants.{Unpredictable, Thumb}
+use Rattle.llsc_base.specs.Effects.{EffectOf, completes, stops}
+use Rattle.llsc_base.specs.Words.{low32}
 
 -- r0 to r14 in order, the flags, and the address of the instruction
 pub record State : Type 0 where
@@ -12,21 +11,9 @@ pub record State : Type 0 where
   pub flags : Flags
   pub pc : ℕ
 
--- What an instruction does next: it asks for an access, makes a guest call, is complete with a new state, or
--- stops the thread. Until it is complete, the state is that of its start.
-pub data EffectOf (S : Type 0) : Type 0 where
-  asks : Ask → EffectOf S
-  calls : CallAsk → EffectOf S
-  completes : S → EffectOf S
-  stops : Stop → EffectOf S
-
 -- what an A32 instruction does next
 abbrev pub Effect : Type 0
 Effect = EffectOf State
-
--- a number modulo 2 to the 32
-abbrev pub low32 : ℕ → ℕ
-low32 x = x % 2 ^ 32
 
 -- a register as an operand: the PC reads as the address of the instruction plus 8 (DDI 0406C A2.3)
 abbrev pub register : State → ℕ → ℕ

@@ -1,15 +1,7 @@
 -- Sums of 32-bit numbers (DDI 0406C A2.2.1, AddWithCarry), in unbounded whole numbers.
-use Rattle.std.specs.Prelude.{ℕ, ◌+◌, ◌-◌, ◌^◌, ◌%◌, nat_le, nat_lt, if◌then◌else◌, ◌||◌, Bool, ℤ, pos, negsuc, ◌+ℤ◌, ◌-ℤ◌, int_lt, unsigned_abs}
-use Rattle.std.specs.Int.{int_rem_euclid}
+use Rattle.std.specs.Prelude.{ℕ, ◌+◌, ◌-◌, ◌^◌, ◌%◌, nat_le, ◌||◌, Bool, ℤ, pos, negsuc, ◌+ℤ◌, int_lt}
 use Rattle.a32_instr.specs.declared.arithmetic.Sum.{Sum}
-
--- a 32-bit number read as signed
-abbrev pub signed : ℕ → ℤ
-signed x = if nat_lt x (2 ^ 31) then pos x else pos x -ℤ pos (2 ^ 32)
-
--- a whole number modulo a number above 0
-abbrev pub residue : ℤ → ℕ → ℕ
-residue z modulus = unsigned_abs (int_rem_euclid z (pos modulus))
+use Rattle.llsc_base.specs.Words.{signed}
 
 -- a signed number is below minus 2 to the 31, or above 2 to the 31 less 1
 abbrev pub is_out_of_range : ℤ → Bool

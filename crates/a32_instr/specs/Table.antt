@@ -1,14 +1,14 @@
 -- The table of instruction words (DDI 0406C A5.1 to A5.7, and A8.8 for each instruction).
 use Rattle.std.specs.Prelude.{◌≡◌, ℕ, ◌^◌, ◌<◌, ◌==◌, ◌&&◌, ◌||◌, not, nat_lt, if◌then◌else◌, Bool, true, IsTrue, All, List, [], ◌∷◌, codes, Result, Ok, Err}
-use Rattle.a32_instr.specs.Bits.{Run, runs, runs_of, field, has_bits}
+use Rattle.llsc_base.specs.Bits.{Run, runs, runs_of, field, has_bits}
 use Rattle.a32_instr.specs.Fields.{alu_op, shift_kind, long_kind, alu_fits, alu_unpredictable, one_of_2_is_pc, one_of_3_is_pc, one_of_4_is_pc, exclusive_size, no_pair, status_clashes, index_fits, index_of, word_unpredictable, half_fits, half_kind, half_unpredictable, block_unpredictable, barrier_kind, signed24, always, never}
 use Rattle.a32_instr.specs.declared.instructions.ShiftKind.TheVariants.{Lsl}
 use Rattle.a32_instr.specs.declared.instructions.Operand2.TheVariants as operand
 use Rattle.a32_instr.specs.declared.instructions.Offset.TheVariants as offset
 use Rattle.a32_instr.specs.declared.instructions.Instr.{Instr}
 use Rattle.a32_instr.specs.declared.instructions.Instr.TheVariants.{Alu, Movw, Movt, Nop, Yield, Mul, Mla, Mls, Long, Clz, Extend, Rev, Word, Half, Block, Branch, BranchReg, Svc, LoadEx, StoreEx, Clrex, Barrier}
-use Rattle.a32_instr.specs.declared.instructions.DecodeFault.{DecodeFault}
-use Rattle.a32_instr.specs.declared.instructions.DecodeFault.TheVariants.{Undefined, Unpredictable}
+use Rattle.llsc_base.specs.declared.decoding.DecodeFault.{DecodeFault}
+use Rattle.llsc_base.specs.declared.decoding.DecodeFault.TheVariants.{Undefined, Unpredictable}
 
 -- A row: its bits; its further condition, where it fits; where a word that fits it is unpredictable; and the
 -- instruction that every other such word means. Each is told the values of the word's fields by their letters.

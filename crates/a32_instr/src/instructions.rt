@@ -1,11 +1,9 @@
 ghost use Rattle.std.specs.Prelude.{◌≡◌};
-ghost use Rattle.a32_instr.specs.Faults.{decode_fault_name};
 ghost use Rattle.a32_instr.specs.Fields.{is_compare, is_move};
 
 use crate::conditions::Cond;
 use crate::registers::Reg;
 use llsc_base::Size;
-use thiserror::Error;
 
 /// A data-processing operation, in the order of the opcodes (DDI 0406C A5.2.1, table A5-3).
 #[derive(Clone, Copy, Debug, PartialEq, Eq)]
@@ -293,27 +291,4 @@ pub enum Instr {
         kind: BarrierKind,
         option: u8,
     },
-}
-
-/// Why a word is no instruction.
-#[derive(Clone, Copy, Debug, PartialEq, Eq, Error)]
-pub enum DecodeFault {
-    /// The word fits no row of the table.
-    #[error("the word is no instruction")]
-    Undefined,
-    /// The word fits a row at which it is unpredictable.
-    #[error("the word is an unpredictable instruction")]
-    Unpredictable,
-}
-
-impl DecodeFault {
-    /// The variant's name.
-    pub fn name(&self) -> &str
-        ensures { result.now ≡ decode_fault_name self.now }
-    {
-        match self {
-            DecodeFault::Undefined => "Undefined",
-            DecodeFault::Unpredictable => "Unpredictable",
-        }
-    }
 }

@@ -2,16 +2,16 @@
 ghost use Rattle.std.specs.Prelude.{◌≡◌, ◌==◌, ◌<◌, ◌^◌, ℕ, List, false, true, negsuc, AllPairs, IsTrue};
 ghost use Rattle.std.specs.List.{list_all};
 ghost use Rattle.llsc_base.specs.Images.{Program};
-ghost use Rattle.a32_instr.specs.Bits.{width_of};
+ghost use Rattle.llsc_base.specs.Bits.{width_of};
 ghost use Rattle.a32_instr.specs.Condition.{passes};
 ghost use Rattle.a32_instr.specs.Effect.{acts, condition_of, effect_of};
-ghost use Rattle.a32_instr.specs.State.{State, advanced, completes};
+ghost use Rattle.a32_instr.specs.State.{State, advanced};
+ghost use Rattle.llsc_base.specs.Effects.{completes};
 ghost use Rattle.a32_instr.specs.Table.{table, meaning, AreApart, FitsNone, MeansItsRow};
 
-use crate::instructions::{
-    AluOp, BarrierKind, DecodeFault, HalfKind, Index, Instr, LongKind, Offset, Operand2, ShiftKind,
-};
-use llsc_base::Size;
+use crate::instructions::{AluOp, BarrierKind, HalfKind, Index, Instr, LongKind, Offset, Operand2, ShiftKind};
+
+use llsc_base::{DecodeFault, Size};
 
 /// Each row of the table has 32 bits.
 pub fn rows_have_32_bits()

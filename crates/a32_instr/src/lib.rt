@@ -11,13 +11,11 @@ mod arithmetic;
 mod conditions;
 mod instructions;
 pub mod laws;
-mod outside;
 mod registers;
 
 pub use arithmetic::{Computed, Shifted, Sum};
 pub use conditions::{Cond, Flags};
 pub use instructions::{
-    AluOp, BarrierKind, DecodeFault, HalfKind, Index, Instr, LongKind, Offset, Operand2, ShiftKind,
+    AluOp, BarrierKind, HalfKind, Index, Instr, LongKind, Offset, Operand2, ShiftKind,
 };
-pub use outside::{Ask, CallAsk, Stop};
 pub use registers::Reg;

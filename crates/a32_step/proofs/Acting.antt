@@ -1,13 +1,14 @@
 -- An instruction that acts over whoever replies to its accesses.
 use Rattle.std.proofs.Common.{◌≡◌, ◌≢◌, ◌<◌, length, ℕ, Option, Some, None, List, [], ◌∷◌, ◌++◌, drop, slice_get, refl, sym, ap, subst, ◌∙◌}
 use Rattle.llsc_base.specs.Images.{Program}
-use Rattle.a32_instr.specs.declared.outside.Ask.{Ask}
-use Rattle.a32_instr.specs.declared.outside.Ask.TheVariants.{Load, LoadEx, Store, StoreEx, Clear}
+use Rattle.llsc_base.specs.declared.outside.Ask.{Ask}
+use Rattle.llsc_base.specs.declared.outside.Ask.TheVariants.{Load, LoadEx, Store, StoreEx, Clear}
 use Rattle.a32_instr.specs.LoadStore.{asks_unless}
-use Rattle.a32_instr.specs.State.{State, Effect, asks, calls, completes, stops}
+use Rattle.a32_instr.specs.State.{State, Effect}
+use Rattle.llsc_base.specs.Effects.{asks, calls, completes, stops}
 use Rattle.a32_step.specs.declared.phases.Progress.{Progress}
 use Rattle.a32_step.specs.declared.phases.Progress.TheVariants as progress
-use Rattle.a32_step.specs.Machine.{PassesTests}
+use Rattle.guest_core.specs.Machine.{PassesTests}
 use Rattle.a32_step.specs.Progress.{progress_of}
 use Rattle.a32_step.specs.ExecutionState.{ExecutionState, Stage, HasRoom, Between, Inside, Awaiting, Calling, Stopped, moves, resting, settled, wanted_at}
 use Rattle.a32_step.specs.Acting.{IsSilent, IsGiven, begins, none_made, one_more, StandsAt, IsActed, IsReplied, had_before, replied, unmade, barred, asked_first, with_reply}

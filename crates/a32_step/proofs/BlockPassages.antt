@@ -3,25 +3,25 @@ use Rattle.std.proofs.Common.{◌≡◌, ◌<◌, ◌≤◌, ◌+◌, ◌*◌, �
 use Rattle.std.proofs.lemmas.Bool.{le-ltb, lt-ltb}
 use Rattle.llsc_base.specs.declared.access.Size.TheVariants.{B4}
 use Rattle.llsc_base.specs.Images.{Program, first_barred}
-use Rattle.a32_instr.specs.declared.outside.Ask.{Ask}
-use Rattle.a32_instr.specs.declared.outside.Ask.TheVariants.{Load, Store}
+use Rattle.llsc_base.specs.declared.outside.Ask.{Ask}
+use Rattle.llsc_base.specs.declared.outside.Ask.TheVariants.{Load, Store}
 use Rattle.a32_instr.specs.Block.{block, block_ask, block_at, block_back, block_done, block_next, block_size, count_of, is_listed, lowest_address, registers_of, unless_barred}
-use Rattle.a32_instr.specs.State.{State, Effect, asks, stops, register}
+use Rattle.a32_instr.specs.State.{State, Effect, register}
+use Rattle.llsc_base.specs.Effects.{asks, stops, barred}
 use Rattle.a32_step.specs.declared.execution.blocks.Transfer.{Transfer}
 use Rattle.a32_step.specs.declared.phases.Progress.{Progress}
 use Rattle.a32_step.specs.declared.phases.Progress.TheVariants as progress
 use Rattle.a32_step.specs.ExecutionState.{ExecutionState, Awaiting, Inside, Stopped, moves, resting}
-use Rattle.a32_instr.specs.LoadStore.{barred}
 use Rattle.llsc_base.specs.declared.access.BarredWord.{BarredWord}
 use Rattle.a32_step.specs.Progress.{progress_of}
 use Rattle.a32_step.specs.Acting.{IsActed, IsGiven, begins, word_ask}
 use Rattle.a32_step.proofs.Acting.{acted_by, given_same, stands_over}
-use Rattle.a32_step.specs.Ports.{IsAskIn}
-use Rattle.a32_step.specs.Words.{AreWords}
+use Rattle.guest_core.specs.Ports.{IsAskIn}
+use Rattle.llsc_base.specs.Words.{AreWords}
 use Rattle.a32_step.proofs.Blocks.{ask_sound}
 use Rattle.a32_compute.specs.Lists.{AreLeft}
 use Rattle.a32_compute.proofs.Lists.{less, next_listed}
-use Rattle.a32_step.proofs.Placed.{passed_placed}
+use Rattle.guest_core.proofs.Placed.{passed_placed}
 use Rattle.a32_step.proofs.Instructions.{register_fits}
 
 -- the next word's address

@@ -4,7 +4,9 @@ use Rattle.std.proofs.lemmas.Bool.{ltb-true}
 use Rattle.llsc_base.specs.Images.{Program, bar_of, first_barred, or_later, word_place}
 use Rattle.llsc_base.specs.declared.access.Bar.{Bar}
 use Rattle.llsc_base.specs.declared.access.BarredWord.{BarredWord}
-use Rattle.a32_instr.specs.State.{State, Effect, asks, completes, low32, register, advanced, jumps}
+use Rattle.a32_instr.specs.State.{State, Effect, register, advanced, jumps}
+use Rattle.llsc_base.specs.Effects.{asks, completes}
+use Rattle.llsc_base.specs.Words.{low32}
 use Rattle.a32_instr.specs.Block.{is_listed, registers_of, count_of, block_ask, block_loaded, block_done, block_next, block_at, unless_barred, with_block}
 use Rattle.a32_compute.proofs.Lists.{registers_most}
 use Rattle.a32_step.proofs.Effects.{IsSound, Stands, barred_own, chosen, jumps_stands}

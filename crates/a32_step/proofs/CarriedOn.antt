@@ -2,18 +2,21 @@
 use Rattle.std.proofs.Common.{◌≡◌, ℕ, Bool, true, false, if◌then◌else◌, Option, List, [], ◌∷◌, ◌++◌, Ok, refl, sym, ap, subst, ◌∙◌}
 use Rattle.llsc_base.specs.Images.{Program}
 use Rattle.a32_instr.specs.declared.instructions.Instr.{Instr}
-use Rattle.a32_instr.specs.declared.outside.Ask.{Ask}
+use Rattle.llsc_base.specs.declared.outside.Ask.{Ask}
 use Rattle.a32_instr.specs.Condition.{passes}
-use Rattle.a32_instr.specs.State.{State, Effect, asks, calls, completes, stops, advanced}
+use Rattle.a32_instr.specs.State.{State, Effect, advanced}
+use Rattle.llsc_base.specs.Effects.{asks, calls, completes, stops}
 use Rattle.a32_instr.specs.Effect.{acts, condition_of, effect_of}
-use Rattle.a32_step.specs.declared.phases.Passage.{Passage}
-use Rattle.a32_step.specs.declared.phases.Passage.TheVariants.{Complete, AtStart}
+use Rattle.guest_core.specs.declared.phases.Passage.{Passage}
+use Rattle.guest_core.specs.declared.phases.Passage.TheVariants.{Complete, AtStart}
 use Rattle.a32_step.specs.ExecutionState.{ExecutionState, resting, machine_in}
 use Rattle.a32_step.specs.ExecutionState as stage
-use Rattle.a32_step.specs.Machine.{Machine, between, instr_at, IsReady, moved_on, next_effect, after_next, given}
-use Rattle.a32_step.specs.Ports.{Leads, goes, refused, stays}
+use Rattle.a32_step.specs.Machine.{Machine, instr_at, next_effect, after_next}
+use Rattle.guest_core.specs.Machine.{between, IsReady, moved_on, given}
+use Rattle.guest_core.specs.Ports.{Leads, goes, refused, stays}
 use Rattle.a32_step.specs.Acting.{IsGiven, begins, none_made, one_more, StandsAt, IsActed}
-use Rattle.a32_step.specs.Passages.{Comes, starts, replied, EndsAt, IsCarriedOn, in_hand, passage_of}
+use Rattle.a32_step.specs.Passages.{Comes, EndsAt, IsCarriedOn}
+use Rattle.guest_core.specs.Passages.{starts, replied, in_hand, passage_of}
 use Rattle.a32_step.specs.declared.phases.Progress.{Progress}
 use Rattle.a32_step.specs.declared.phases.Progress.TheVariants as progress
 use Rattle.a32_step.specs.Progress.{progress_of}

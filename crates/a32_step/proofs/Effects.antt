@@ -3,11 +3,11 @@ use Rattle.std.proofs.Common.{ℕ, ◌%◌, ◌<◌, ◌==◌, if◌then◌else�
 use Rattle.llsc_base.specs.Images.{Program}
 use Rattle.llsc_base.specs.declared.access.Bar.{Bar}
 use Rattle.llsc_base.specs.declared.access.Bar.TheVariants as bar
-use Rattle.a32_instr.specs.declared.outside.Ask.{Ask}
-use Rattle.a32_instr.specs.State.{State, Effect, asks, calls, completes, stops, jumps, writes}
-use Rattle.a32_instr.specs.LoadStore.{barred}
-pub use Rattle.a32_step.specs.Machine.{IsOwn}
-use Rattle.a32_step.specs.Machine.{wanted_of, IsTested, PassesTests, ValueFits}
+use Rattle.llsc_base.specs.declared.outside.Ask.{Ask}
+use Rattle.a32_instr.specs.State.{State, Effect, jumps, writes}
+use Rattle.llsc_base.specs.Effects.{asks, calls, completes, stops, barred}
+pub use Rattle.guest_core.specs.Machine.{IsOwn}
+use Rattle.guest_core.specs.Machine.{wanted_of, IsTested, PassesTests, ValueFits}
 
 -- an access that is asked for: it has passed its tests, fewer than 16 came before it, and where registers are words its value fits
 pub record IsSound (words : Type 0) (program : Program) (replies : List ℕ) (ask : Ask) : Type 0 where

@@ -2,16 +2,17 @@
 use Rattle.std.proofs.Common.{◌≡◌, ◌<◌, ◌∷◌, ◌++◌, ℕ, List, [], length, refl, sym, ap, subst, ◌∙◌}
 use Rattle.llsc_base.specs.Images.{Program}
 use Rattle.a32_instr.specs.declared.instructions.Instr.{Instr}
-use Rattle.a32_instr.specs.declared.outside.CallAsk.{CallAsk}
-use Rattle.a32_instr.specs.State.{Effect, asks, calls, completes, stops}
+use Rattle.llsc_base.specs.declared.outside.CallAsk.{CallAsk}
+use Rattle.a32_instr.specs.State.{Effect}
+use Rattle.llsc_base.specs.Effects.{asks, calls, completes, stops}
 use Rattle.a32_instr.specs.Effect.{acts}
 use Rattle.a32_step.specs.declared.phases.Progress.{Progress}
-use Rattle.a32_step.specs.declared.phases.Wanted.{Wanted}
+use Rattle.guest_core.specs.declared.phases.Wanted.{Wanted}
 use Rattle.a32_step.specs.Progress.{progress_of}
-use Rattle.a32_step.specs.Phase.{Phase}
-use Rattle.a32_step.specs.Phase as phase
+use Rattle.a32_step.specs.Machine.{Phase, Machine, next_effect, next_in, after_in, after_next, HasBegun}
+use Rattle.guest_core.specs.Phase as phase
 use Rattle.a32_step.specs.ExecutionState.{ExecutionState, Stage, Between, Inside, Awaiting, Calling, Stopped, HasRoom, IsAwaited, IsCalled, moves, settled, wanted_at, phase_of, machine_in}
-use Rattle.a32_step.specs.Machine.{Machine, between, given, next_effect, next_in, after_in, after_next, moved_on, wanted_of, HasBegun, IsAwaiting, IsCalling, IsInside}
+use Rattle.guest_core.specs.Machine.{between, given, moved_on, wanted_of, IsAwaiting, IsCalling, IsInside}
 
 -- one that is awaited has room
 pub room_of : (stage : Stage) (replies : List ℕ) → IsAwaited stage → HasRoom stage replies → length replies < 16

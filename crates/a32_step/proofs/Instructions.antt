@@ -7,27 +7,28 @@ use Rattle.llsc_base.specs.declared.access.Bar.{Bar}
 use Rattle.llsc_base.specs.declared.access.Place.{Place}
 use Rattle.llsc_base.specs.declared.access.Size.{Size}
 use Rattle.llsc_base.specs.declared.access.Size.TheVariants.{B1, B2, B4, B8}
-use Rattle.a32_instr.specs.declared.outside.Ask.{Ask}
-use Rattle.a32_instr.specs.declared.outside.Ask.TheVariants as ask
+use Rattle.llsc_base.specs.declared.outside.Ask.{Ask}
+use Rattle.llsc_base.specs.declared.outside.Ask.TheVariants as ask
 use Rattle.a32_instr.specs.declared.instructions.Instr.{Instr}
 use Rattle.a32_instr.specs.declared.instructions.Instr.TheVariants.{Alu, Movw, Movt, Nop, Yield, Mul, Mla, Mls, Long, Clz, Extend, Rev, Word, Half, Block, Branch, BranchReg, Svc, LoadEx, StoreEx, Clrex, Barrier}
 use Rattle.a32_instr.specs.declared.instructions.AluOp.{AluOp}
 use Rattle.a32_instr.specs.declared.instructions.HalfKind.{HalfKind}
 use Rattle.a32_instr.specs.declared.instructions.HalfKind.TheVariants.{Strh, Ldrh, Ldrsb, Ldrsh}
 use Rattle.a32_instr.specs.declared.arithmetic.Computed.{Computed}
-use Rattle.a32_instr.specs.State.{State, completes, low32, register, advanced, writes}
+use Rattle.a32_instr.specs.State.{State, register, advanced, writes}
+use Rattle.llsc_base.specs.Effects.{completes, loaded_part}
+use Rattle.llsc_base.specs.Words.{low32, AreWords}
 use Rattle.a32_instr.specs.Fields.{is_compare}
 use Rattle.a32_instr.specs.Shift.{top_bit, rotated_right}
 use Rattle.a32_instr.specs.DataProcessing.{operand_of, computed, with_flags, alu_done}
 use Rattle.a32_instr.specs.Multiply.{multiplied, product_flags, less_product}
 use Rattle.a32_instr.specs.Moves.{with_top, reversed, extended, width_of}
-use Rattle.a32_instr.specs.LoadStore.{asks_unless, loads, loads_half, stores, accesses, half_accesses, half_size, half_value, loaded_part, accessed_address, moved_address, written_back, access_size, part_of}
+use Rattle.a32_instr.specs.LoadStore.{asks_unless, loads, loads_half, stores, accesses, half_accesses, half_size, half_value, accessed_address, moved_address, written_back, access_size, part_of}
 use Rattle.a32_instr.specs.Block.{block_back, block_size, lowest_address}
 use Rattle.a32_instr.specs.Branch.{linked}
 use Rattle.a32_instr.specs.Exclusive.{next_register, place_at, stored_part, loads_exclusive, stores_exclusive}
 use Rattle.a32_instr.specs.Effect.{acts}
-use Rattle.a32_step.specs.Words.{AreWords}
-use Rattle.a32_step.specs.Machine.{PassesTests, ValueFits}
+use Rattle.guest_core.specs.Machine.{PassesTests, ValueFits}
 use Rattle.a32_step.proofs.Blocks.{block_stands}
 use Rattle.a32_step.proofs.Effects.{Stands, barred_own, chosen, jumps_stands, writes_stands}
 

@@ -1,5 +1,4 @@
 pub mod Follows
-pub mod Words
 pub mod Effects
 pub mod Blocks
 pub mod Instructions
@@ -7,9 +6,7 @@ pub mod Tested
 pub mod Replied
 pub mod Slots
 pub mod ExecutionStates
-pub mod Learnt
 pub mod Acting
-pub mod Placed
 pub mod Places
 pub mod BlockPassages
 pub mod CarriedOn

@@ -9,7 +9,7 @@ use Rattle.a32_instr.specs.declared.instructions.Index.{Index}
 use Rattle.a32_instr.specs.declared.instructions.Offset.{Offset}
 use Rattle.a32_instr.specs.declared.instructions.HalfKind.{HalfKind}
 use Rattle.a32_instr.specs.declared.instructions.HalfKind.TheVariants.{Strh, Ldrh, Ldrsb, Ldrsh}
-use Rattle.a32_instr.specs.declared.outside.Ask.TheVariants.{LoadEx, StoreEx}
+use Rattle.llsc_base.specs.declared.outside.Ask.TheVariants.{LoadEx, StoreEx}
 use Rattle.a32_instr.specs.Effect.{acts}
 use Rattle.a32_instr.specs.Exclusive.{load_exclusive, store_exclusive, stored_part}
 use Rattle.a32_instr.specs.LoadStore.{access_size, accessed_address, accesses, half_accesses, half_by, half_size, loads_half, moved_address, stores, word_by, written_back}

@@ -3,10 +3,12 @@ use Rattle.std.proofs.Common.{◌≡◌, ℕ, Bool, true, false, if◌then◌els
 use Rattle.llsc_base.specs.Images.{Program}
 use Rattle.a32_instr.specs.declared.instructions.Instr.{Instr}
 use Rattle.a32_instr.specs.Condition.{passes}
-use Rattle.a32_instr.specs.State.{State, Effect, asks, calls, completes, stops, advanced}
+use Rattle.a32_instr.specs.State.{State, Effect, advanced}
+use Rattle.llsc_base.specs.Effects.{asks, calls, completes, stops}
 use Rattle.a32_instr.specs.Effect.{acts, condition_of, effect_of}
-use Rattle.a32_step.specs.Phase.{Inside}
-use Rattle.a32_step.specs.Machine.{Machine, between, begins, instr_at, after_instr, moved_on, next_effect, after_next, given}
+use Rattle.guest_core.specs.Phase.{Inside}
+use Rattle.a32_step.specs.Machine.{Machine, begins, instr_at, after_instr, next_effect, after_next}
+use Rattle.guest_core.specs.Machine.{between, moved_on, given}
 use Rattle.a32_step.specs.Replied.{IsAsk, replied, replied_in_turn, AsksForEach, IsAskedForEach}
 
 -- inside an instruction, with these replies

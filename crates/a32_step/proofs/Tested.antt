@@ -1,21 +1,23 @@
 -- What a machine asks for next has passed its tests, and a stop that it comes to is an instruction's.
 use Rattle.std.proofs.Common.{◌≡◌, ℕ, ◌<◌, Option, Some, None, Result, Ok, Err, List, [], length, refl, sym, subst}
 use Rattle.llsc_base.specs.Images.{Program, word_at}
-use Rattle.a32_instr.specs.declared.outside.Ask.{Ask}
-use Rattle.a32_instr.specs.declared.outside.Stop.{Stop}
-use Rattle.a32_instr.specs.declared.instructions.DecodeFault.{DecodeFault}
-use Rattle.a32_instr.specs.declared.instructions.DecodeFault.TheVariants as fault
+use Rattle.llsc_base.specs.declared.outside.Ask.{Ask}
+use Rattle.llsc_base.specs.declared.outside.Stop.{Stop}
+use Rattle.llsc_base.specs.declared.decoding.DecodeFault.{DecodeFault}
+use Rattle.llsc_base.specs.declared.decoding.DecodeFault.TheVariants as fault
 use Rattle.a32_instr.specs.declared.instructions.Instr.{Instr}
-use Rattle.a32_instr.specs.State.{State, asks, completes, stops, advanced}
+use Rattle.a32_instr.specs.State.{State, advanced}
+use Rattle.llsc_base.specs.Effects.{asks, completes, stops}
 use Rattle.a32_instr.specs.Condition.{passes}
 use Rattle.a32_instr.specs.Effect.{acts, condition_of}
 use Rattle.a32_instr.specs.Table.{table, meaning}
-use Rattle.a32_step.specs.declared.phases.Wanted.{Wanted}
-use Rattle.a32_step.specs.Words.{AreWords}
-use Rattle.a32_step.specs.Phase.{Phase, Between, Inside, Awaiting, Calling, Stopped}
-pub use Rattle.a32_step.specs.Machine.{GoesOn, GoesOnWith}
-use Rattle.a32_step.specs.Machine.{Machine, wanted_of, begins, decoded, instr_of_word, next_in, next_effect, IsReady, IsTested, PassesTests}
-use Rattle.a32_step.proofs.Effects.{IsOwn, IsSound, Stands, allowed, chosen}
+use Rattle.guest_core.specs.declared.phases.Wanted.{Wanted}
+use Rattle.llsc_base.specs.Words.{AreWords}
+use Rattle.a32_step.specs.Machine.{Phase, Machine, begins, decoded, instr_of_word, next_in, next_effect}
+use Rattle.guest_core.specs.Phase.{Between, Inside, Awaiting, Calling, Stopped}
+pub use Rattle.guest_core.specs.Machine.{GoesOn, GoesOnWith}
+use Rattle.guest_core.specs.Machine.{wanted_of, IsReady, IsTested, PassesTests, IsOwn}
+use Rattle.a32_step.proofs.Effects.{IsSound, Stands, allowed, chosen}
 use Rattle.a32_step.proofs.Instructions.{acts_stand}
 
 -- the instruction that a decoded word means, or the stop at one that means none

@@ -2,14 +2,15 @@
 use Rattle.std.specs.Prelude.{◌≡◌, ℕ, Bool, true, false, Option, Some, None, List, [], ◌∷◌, ◌++◌, slice_get}
 use Rattle.llsc_base.specs.Images.{Program, bar_of}
 use Rattle.llsc_base.specs.declared.access.Size.TheVariants.{B4}
-use Rattle.a32_instr.specs.declared.outside.Ask.{Ask}
-use Rattle.a32_instr.specs.declared.outside.Ask.TheVariants.{Load, LoadEx, Store, StoreEx, Clear}
-use Rattle.a32_instr.specs.declared.outside.Stop.{Stop}
+use Rattle.llsc_base.specs.declared.outside.Ask.{Ask}
+use Rattle.llsc_base.specs.declared.outside.Ask.TheVariants.{Load, LoadEx, Store, StoreEx, Clear}
+use Rattle.llsc_base.specs.declared.outside.Stop.{Stop}
 use Rattle.a32_instr.specs.LoadStore.{asks_unless}
-use Rattle.a32_instr.specs.State.{State, Effect, asks, calls, completes, stops, register}
+use Rattle.a32_instr.specs.State.{State, Effect, register}
+use Rattle.llsc_base.specs.Effects.{asks, calls, completes, stops}
 use Rattle.a32_step.specs.declared.phases.Progress.{Progress}
 use Rattle.a32_step.specs.ExecutionState.{ExecutionState, Awaiting, Calling, Stopped, resting}
-use Rattle.a32_step.specs.Machine.{PassesTests}
+use Rattle.guest_core.specs.Machine.{PassesTests}
 use Rattle.a32_step.specs.Progress.{progress_of}
 
 -- nobody replies

@@ -1,17 +1,17 @@
 -- An instruction as it is carried out, the instruction itself being held elsewhere.
 use Rattle.std.specs.Prelude.{◌≡◌, ◌<◌, ℕ, List, [], length}
 use Rattle.a32_instr.specs.declared.instructions.Instr.{Instr}
-use Rattle.a32_instr.specs.declared.outside.Ask.{Ask}
-use Rattle.a32_instr.specs.declared.outside.CallAsk.{CallAsk}
-use Rattle.a32_instr.specs.declared.outside.Stop.{Stop}
-use Rattle.a32_instr.specs.State.{State, Effect, asks, calls, completes, stops}
+use Rattle.llsc_base.specs.declared.outside.Ask.{Ask}
+use Rattle.llsc_base.specs.declared.outside.CallAsk.{CallAsk}
+use Rattle.llsc_base.specs.declared.outside.Stop.{Stop}
+use Rattle.a32_instr.specs.State.{State, Effect}
+use Rattle.llsc_base.specs.Effects.{asks, calls, completes, stops}
 use Rattle.a32_step.specs.declared.phases.Progress.{Progress}
 use Rattle.a32_step.specs.declared.phases.Progress.TheVariants.{Complete, Held}
-use Rattle.a32_step.specs.declared.phases.Wanted.{Wanted}
-use Rattle.a32_step.specs.declared.phases.Wanted.TheVariants as wanted
-use Rattle.a32_step.specs.Phase.{Phase}
-use Rattle.a32_step.specs.Phase as phase
-use Rattle.a32_step.specs.Machine.{Machine}
+use Rattle.guest_core.specs.declared.phases.Wanted.{Wanted}
+use Rattle.guest_core.specs.declared.phases.Wanted.TheVariants as wanted
+use Rattle.a32_step.specs.Machine.{Phase, Machine}
+use Rattle.guest_core.specs.Phase as phase
 
 -- A phase without its instruction.
 pub data Stage : Type 0 where

@@ -4,7 +4,7 @@ use Rattle.a32_step.specs.declared.phases.Point.{Point}
 use Rattle.a32_step.specs.declared.phases.Point.TheVariants as point
 use Rattle.a32_step.specs.declared.phases.Hold.{Hold}
 use Rattle.a32_step.specs.declared.phases.Hold.TheVariants as hold
-use Rattle.a32_step.specs.Words.{AreWords}
+use Rattle.llsc_base.specs.Words.{AreWords}
 use Rattle.a32_step.specs.ExecutionState.{ExecutionState, Stage, Between, Inside, Awaiting, Calling, Stopped, HasRoom}
 use Rattle.a32_step.specs.declared.execution.Execution.TheInside as fields
 

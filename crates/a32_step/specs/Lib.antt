@@ -1,13 +1,9 @@
 pub mod Machine
 pub mod Replied
 pub mod Inside
-pub mod Words
 pub mod Progress
 pub mod Classes
-pub mod Phase
 pub mod ExecutionState
 pub mod Slots
-pub mod Ports
-pub mod Known
 pub mod Passages
 pub mod Acting

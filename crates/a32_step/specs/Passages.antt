@@ -1,49 +1,10 @@
--- A machine whose instruction is carried on over a port.
-use Rattle.std.specs.Prelude.{◌≡◌, ℕ, Option, List, [], ◌∷◌, ◌++◌}
+-- An A32 machine whose instruction is carried on over a port.
+use Rattle.std.specs.Prelude.{ℕ, Option, List}
 use Rattle.llsc_base.specs.Images.{Program}
-use Rattle.a32_instr.specs.declared.outside.Ask.{Ask}
-use Rattle.a32_instr.specs.State.{asks, completes}
-use Rattle.a32_step.specs.declared.phases.Passage.{Passage}
-use Rattle.a32_step.specs.declared.phases.Passage.TheVariants.{Complete, AtStart, UnderWay}
-use Rattle.a32_step.specs.Machine.{Machine, MachineOf, InstructionSet, a32, next_of, after_of, given, between, IsReady}
-use Rattle.a32_step.specs.Phase as phase
-use Rattle.a32_step.specs.Ports.{Leads}
-
--- a machine that goes on in an instruction after these replies; where it has had none, between two instructions
-abbrev pub in_hand : {I S : Type 0} → I → S → List ℕ → MachineOf I S
-in_hand instr state [] = between state
-in_hand instr state (reply ∷ had) = record { state = state; phase = phase.Inside instr; replies = reply ∷ had }
-
--- how far an instruction has come that is not complete with these replies
-abbrev pub passage_of : List ℕ → Passage
-passage_of [] = AtStart
-passage_of (reply ∷ had) = UnderWay
-
-module _ {I S : Type 0} (set : InstructionSet I S) where
-  -- a machine comes to another by accesses, each of which it asks for next, and the replies to them
-  pub data ComesOf (program : Program) (from : MachineOf I S) : List (Ask × ℕ) → MachineOf I S → Type 0 where
-    starts : ComesOf program from [] from
-    replied : (pairs : List (Ask × ℕ)) (machine : MachineOf I S) (ask : Ask) (reply : ℕ)
-        → ComesOf program from pairs machine → next_of set program machine ≡ asks ask
-        → ComesOf program from (pairs ++ (ask, reply) ∷ []) (given (after_of set program machine) reply)
-
-  -- it is complete there, or it goes on from there
-  abbrev pub EndsAtOf : Program → MachineOf I S → Passage → MachineOf I S → Type 0
-  EndsAtOf program machine Complete new =
-      (state : S) × (next_of set program machine ≡ completes state) × (new ≡ after_of set program machine) × (new ≡ between state)
-  EndsAtOf program machine AtStart new = (new ≡ machine) × IsReady machine.phase
-  EndsAtOf program machine UnderWay new = (new ≡ machine) × IsReady machine.phase
-
-  -- a machine between two instructions was carried on over a port, through an instruction or as far as it came
-  pub record IsCarriedOnOf {P : Type 0} (replies : P → Ask → Option ℕ → P → Type 0) (program : Program) (old : MachineOf I S) (from : P) (passage : Passage)
-      (new : MachineOf I S) (to : P) : Type 0 where
-    pub pairs : List (Ask × ℕ)
-    pub machine : MachineOf I S
-    pub leads : Leads replies from pairs to
-    pub comes : ComesOf program old pairs machine
-    pub ends : EndsAtOf program machine passage new
-
--- The same of A32.
+use Rattle.llsc_base.specs.declared.outside.Ask.{Ask}
+use Rattle.guest_core.specs.declared.phases.Passage.{Passage}
+use Rattle.guest_core.specs.Passages.{ComesOf, EndsAtOf, IsCarriedOnOf}
+use Rattle.a32_step.specs.Machine.{Machine, a32}
 
 abbrev pub Comes : Program → Machine → List (Ask × ℕ) → Machine → Type 0
 Comes = ComesOf a32

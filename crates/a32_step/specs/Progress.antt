@@ -1,7 +1,8 @@
 -- How far an instruction has come.
 use Rattle.std.specs.Prelude.{Option, Some, None}
-use Rattle.a32_instr.specs.declared.outside.Stop.{Stop}
-use Rattle.a32_instr.specs.State.{Effect, asks, calls, completes, stops}
+use Rattle.llsc_base.specs.declared.outside.Stop.{Stop}
+use Rattle.a32_instr.specs.State.{Effect}
+use Rattle.llsc_base.specs.Effects.{asks, calls, completes, stops}
 use Rattle.a32_step.specs.declared.phases.Progress.{Progress}
 use Rattle.a32_step.specs.declared.phases.Progress.TheVariants.{Complete, Held}
 

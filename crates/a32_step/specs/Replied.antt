@@ -2,9 +2,11 @@
 use Rattle.std.specs.Prelude.{◌≡◌, ℕ, List, [], ◌∷◌, ◌++◌}
 use Rattle.llsc_base.specs.Images.{Program}
 use Rattle.a32_instr.specs.declared.instructions.Instr.{Instr}
-use Rattle.a32_instr.specs.State.{State, Effect, asks, calls, completes, stops}
+use Rattle.a32_instr.specs.State.{State, Effect}
+use Rattle.llsc_base.specs.Effects.{asks, calls, completes, stops}
 use Rattle.a32_instr.specs.Effect.{effect_of}
-use Rattle.a32_step.specs.Machine.{Machine, next_effect, after_next, given}
+use Rattle.a32_step.specs.Machine.{Machine, next_effect, after_next}
+use Rattle.guest_core.specs.Machine.{given}
 
 -- an effect that asks for an access
 abbrev pub IsAsk : Effect → Type 0

@@ -2,20 +2,21 @@
 ghost use Rattle.std.specs.Prelude.{◌≡◌, ◌≤◌, ◌%◌, ◌+◌, ◌^◌, length, slice_index, IfSome, IfNone, IsTrue, Ok, []};
 ghost use Rattle.a32_instr.specs.declared.instructions.Instr.{Instr};
 ghost use Rattle.a32_instr.specs.State.{answered};
-ghost use Rattle.a32_step.specs.Words.{AreWords};
-ghost use Rattle.a32_step.specs.Passages.{IsCarriedOn, in_hand, passage_of};
-ghost use Rattle.a32_step.specs.Phase as phase;
-ghost use Rattle.a32_step.specs.Machine.{start_of, given, next_effect, wanted_of, after_next, after_instr, begins, instr_at, between, Follows, HasBegun, IsReady, IsTested, IsAwaiting, IsCalling};
+ghost use Rattle.llsc_base.specs.Words.{AreWords};
+ghost use Rattle.a32_step.specs.Passages.{IsCarriedOn};
+ghost use Rattle.guest_core.specs.Passages.{in_hand, passage_of};
+ghost use Rattle.guest_core.specs.Phase as phase;
+ghost use Rattle.a32_step.specs.Machine.{start_of, next_effect, after_next, after_instr, begins, instr_at, HasBegun};
+ghost use Rattle.guest_core.specs.Machine.{given, wanted_of, between, Follows, IsReady, IsTested, IsAwaiting, IsCalling};
 
-use crate::code::Code;
+use guest_core::{Code, Passage, Port, Wanted};
 use crate::execution::Execution;
-use crate::phases::{Passage, Point, Progress, Wanted};
-use crate::ports::Port;
-use crate::ready::Conditional;
+use crate::phases::{Point, Progress};
+use crate::conditional::Conditional;
 use crate::slot::Slot;
 use crate::sources::Nobody;
-use a32_instr::{CallAsk, Flags};
-use llsc_base::Image;
+use llsc_base::{CallAsk, Image};
+use a32_instr::Flags;
 use std::marker::Model;
 
 /// The core of one guest thread: r0 to r14, the flags, the PC, and where it stands in its
@@ -41,7 +42,7 @@ impl Model for Cpu {
 impl Cpu {
     /// The start of guest thread `t` of `n`: r0 is `t`, r1 is `n`, r13 is `sp`, all other registers
     /// are 0, all flags clear, and the PC is `entry`, a multiple of 4.
-    #[tactic(auto, using(crate::proofs::Words::words_none, crate::proofs::Words::words_more))]
+    #[tactic(auto, using(llsc_base::proofs::Words::words_none, llsc_base::proofs::Words::words_more))]
     pub fn start(entry: u32, t: u32, n: u32, sp: u32) -> Cpu
         requires { entry % 4 ≡ 0 }
         ensures { result ≡ start_of entry t n sp }

@@ -1,23 +1,26 @@
 //! The instruction at the PC of one guest thread as it is carried out.
 ghost use Rattle.llsc_base.specs.Images.{Program};
 ghost use Rattle.std.specs.Prelude.{◌≡◌, ◌≢◌, ◌<◌, ◌≤◌, ◌%◌, ◌+◌, ◌^◌, ◌∷◌, ◌++◌, length, slice_index, IsFalse, IsTrue, []};
-ghost use Rattle.a32_instr.specs.State.{State, register, with_register, advanced, jumps, writes, answered, stops};
+ghost use Rattle.a32_instr.specs.State.{State, register, with_register, advanced, jumps, writes, answered};
+ghost use Rattle.llsc_base.specs.Effects.{stops};
 ghost use Rattle.a32_instr.specs.Condition.{passes};
 ghost use Rattle.a32_instr.specs.Effect.{acts};
 ghost use Rattle.a32_step.specs.Progress.{progress_of, stop_of};
-ghost use Rattle.a32_step.specs.Words.{AreWords};
+ghost use Rattle.llsc_base.specs.Words.{AreWords};
 ghost use Rattle.a32_step.specs.Classes.{instr_class, IsApart};
 ghost use Rattle.a32_step.specs.Acting.{IsActed};
 ghost use Rattle.a32_step.specs.ExecutionState.{Between, Inside, Awaiting, Calling, Stopped, IsAwaited, IsCalled, resting, moves, settled, wanted_at};
 ghost use Rattle.a32_step.specs.Inside.{stage_held};
-ghost use Rattle.a32_step.specs.Machine.{wanted_of};
+ghost use Rattle.guest_core.specs.Machine.{wanted_of};
 
-use crate::phases::{Hold, Point, Progress, Wanted};
+use crate::phases::{Hold, Point, Progress};
+
+use guest_core::Wanted;
 use crate::replies::Replies;
 use crate::sources::Source;
 use a32_compute::conditions::passes;
-use a32_instr::{Ask, CallAsk, Cond, Flags, Instr, Reg, Stop};
-use llsc_base::Image;
+use llsc_base::{Ask, CallAsk, Image, Stop};
+use a32_instr::{Cond, Flags, Instr, Reg};
 use std::marker::Model;
 
 mod accesses;
@@ -211,7 +214,7 @@ impl Execution {
     }
 
     /// The answer of a guest call: it goes to r0, and the call is over.
-    #[tactic(auto, using(crate::proofs::Words::words_set))]
+    #[tactic(auto, using(llsc_base::proofs::Words::words_set))]
     pub fn answer(&mut self, r0: u32)
         ensures { self.new ≡ resting (answered self.old.state r0) }
     {
@@ -233,7 +236,7 @@ impl Execution {
     }
 
     /// One of r0 to r14 set to a value.
-    #[tactic(auto, using(crate::proofs::Words::words_set, crate::proofs::Words::set_past))]
+    #[tactic(auto, using(llsc_base::proofs::Words::words_set, llsc_base::proofs::Words::set_past))]
     fn set(&mut self, r: Reg, value: u32)
         ensures { self.new ≡ record self.old { state = with_register self.old.state r value } }
     {
@@ -318,7 +321,7 @@ impl Execution {
     }
 
     /// The instruction is complete with a value in a register, and with these flags.
-    #[tactic(auto, using(crate::proofs::Words::words_set))]
+    #[tactic(auto, using(llsc_base::proofs::Words::words_set))]
     fn write(&mut self, flags: Flags, r: Reg, value: u32) -> Progress
         ensures progress { result ≡ progress_of (writes (record self.old.state { flags = flags }) r value) }
         ensures state { self.new ≡ moves self.old (writes (record self.old.state { flags = flags }) r value) }

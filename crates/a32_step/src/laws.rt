@@ -4,7 +4,8 @@ ghost use Rattle.llsc_base.specs.Images.{Program};
 ghost use Rattle.a32_instr.specs.declared.instructions.Instr.{Instr};
 ghost use Rattle.a32_instr.specs.State.{State};
 ghost use Rattle.a32_instr.specs.Effect.{effect_of};
-ghost use Rattle.a32_step.specs.Machine.{instr_at, between, next_effect, after_next, moved_on};
+ghost use Rattle.a32_step.specs.Machine.{instr_at, next_effect, after_next};
+ghost use Rattle.guest_core.specs.Machine.{between, moved_on};
 ghost use Rattle.a32_step.specs.Replied.{replied_in_turn, AsksForEach, IsAskedForEach};
 
 /// A machine that begins an instruction and is given replies in turn, each to the access that it asked for, does next what

@@ -10,24 +10,18 @@
 //! access by access, and decodes the words of a loop once.
 #![tactic(auto)]
 
-mod code;
+mod conditional;
 mod cores;
 mod cpu;
 mod execution;
 pub mod laws;
 mod phases;
-mod ports;
-mod ready;
 mod remembering;
 mod replies;
 mod slot;
 mod sources;
 
-pub use a32_instr::{Ask, CallAsk, Flags, Stop};
-pub use code::Code;
-pub use cores::Core;
+pub use a32_instr::Flags;
+pub use conditional::Conditional;
 pub use cpu::Cpu;
-pub use phases::{Passage, Wanted};
-pub use ports::Port;
-pub use ready::{Conditional, Ready};
 pub use remembering::Remembering;

@@ -1,4 +1,4 @@
-use a32_instr::{Ask, CallAsk, Stop};
+use llsc_base::{Ask, CallAsk, Stop};
 
 /// The point that a thread has reached in its instruction.
 #[derive(Clone, Copy)]
@@ -22,19 +22,6 @@ pub enum Hold {
     Stopped(Stop),
 }
 
-/// What a thread wants from outside.
-#[derive(Clone, Copy, Debug, PartialEq, Eq)]
-pub enum Wanted {
-    /// The reply to an access.
-    Access(Ask),
-    /// The answer of a guest call.
-    Call(CallAsk),
-    /// Nothing: an instruction is complete.
-    Done,
-    /// Nothing any more.
-    Stopped(Stop),
-}
-
 /// How far an instruction has come.
 #[derive(Clone, Copy, PartialEq, Eq)]
 pub enum Progress {
@@ -42,15 +29,4 @@ pub enum Progress {
     Complete,
     /// It isn't: it waits, or the thread has stopped.
     Held,
-}
-
-/// How far an instruction came that was carried on over a port.
-#[derive(Clone, Copy, Debug, PartialEq, Eq)]
-pub enum Passage {
-    /// It is complete.
-    Complete,
-    /// It is at its start, and has not done anything.
-    AtStart,
-    /// It is under way: it has had replies, and goes on.
-    UnderWay,
 }

@@ -1,15 +1,11 @@
 //! The core of a guest thread that remembers words, so that the words of a loop are decoded once.
 ghost use Rattle.std.specs.Prelude.{◌≡◌};
 
-use crate::code::Code;
-use crate::cores::Core;
+use guest_core::{Code, Core, Passage, Port, Wanted};
 use crate::cpu::Cpu;
-use crate::phases::{Passage, Wanted};
-use crate::ports::Port;
-use crate::ready::Conditional;
+use crate::conditional::Conditional;
 use crate::slot::Slot;
-use a32_instr::CallAsk;
-use llsc_base::Image;
+use llsc_base::{CallAsk, Image};
 use std::marker::Model;
 
 /// How many words are remembered: the words of a loop of this many instructions, one after another.

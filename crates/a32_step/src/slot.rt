@@ -7,8 +7,8 @@ ghost use Rattle.a32_step.specs.Machine.{decoded, instr_at};
 
 use a32_compute::conditions::condition;
 use a32_decode::decode;
-use a32_instr::{Cond, DecodeFault, Instr, Stop};
-use llsc_base::Image;
+use a32_instr::{Cond, Instr};
+use llsc_base::{DecodeFault, Image, Stop};
 use std::marker::Model;
 
 /// The word NOP (DDI 0406C A8.8.119).

@@ -1,10 +1,10 @@
 //! Where an instruction has the replies from that it hasn't had yet.
 ghost use Rattle.std.specs.Prelude.{◌≡◌, Bool, ◌<◌, ◌≤◌, ◌+◌, ◌^◌, ℕ, Option};
-ghost use Rattle.a32_instr.specs.declared.outside.Ask.{Ask};
-ghost use Rattle.a32_step.specs.Ports.{IsAskIn};
+ghost use Rattle.llsc_base.specs.declared.outside.Ask.{Ask};
+ghost use Rattle.guest_core.specs.Ports.{IsAskIn};
 
-use crate::ports::Port;
-use a32_instr::Ask;
+use guest_core::Port;
+use llsc_base::Ask;
 
 /// Who is asked for the accesses to which an instruction has had no reply: a port, which replies at once, or nobody, so that the
 /// core says what it wants.

@@ -1,13 +1,13 @@
 -- What a word means has its fields in their ranges, row by row.
 use Rattle.std.proofs.Common.{◌≡◌, ℕ, zero, suc, ◌^◌, ◌<◌, ◌==◌, ◌&&◌, ◌||◌, not, ℤ, pos, negsuc, ◌-◌, nat_lt, ⊎_elim, Bool, true, false, if◌then◌else◌, IsTrue, List, [], ◌∷◌, Result, Ok, Err, arith, refl, subst}
 use Rattle.std.proofs.lemmas.Bool.{and_parts, or_cases, eqb-true, ltb-true, both_ways, not-true}
-use Rattle.a32_instr.specs.Bits.{bits_of, field, has_bits, runs_of}
+use Rattle.llsc_base.specs.Bits.{bits_of, field, has_bits, runs_of}
 use Rattle.a32_instr.specs.Fields.{alu_op, alu_fits, exclusive_size, no_pair, one_of_2_is_pc, one_of_3_is_pc, status_clashes, block_unpredictable, signed24, is_compare, is_move}
 use Rattle.a32_instr.specs.Table.{Row, fits, condition_fits, meaning, table, c, alu_imm, alu_by_num, alu_by_reg, half_imm, half_reg, movw, movt, nop, yields, mul, mla, mls, long, clz, extend, rev, word_imm, word_reg, block, branch, branch_reg, svc, load_ex, store_ex, clrex, barrier}
 use Rattle.a32_instr.specs.declared.instructions.AluOp.{AluOp}
 use Rattle.a32_instr.specs.declared.instructions.Instr.{Instr}
-use Rattle.a32_instr.specs.declared.instructions.DecodeFault.{DecodeFault}
-use Rattle.a32_instr.specs.declared.instructions.DecodeFault.TheVariants.{Unpredictable}
+use Rattle.llsc_base.specs.declared.decoding.DecodeFault.{DecodeFault}
+use Rattle.llsc_base.specs.declared.decoding.DecodeFault.TheVariants.{Unpredictable}
 use Rattle.a32_instr.proofs.Apart.{further_of}
 use Rattle.a32_syntax.specs.Formed.{IsFormed, OperationFits, PairFits, DistanceFits}
 

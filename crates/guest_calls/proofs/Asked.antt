@@ -4,12 +4,12 @@ use Rattle.std.proofs.Common.{◌≡◌, ℕ, zero, suc, ◌+◌, ◌-◌, ◌<�
 use Rattle.std.specs.Option.{option_map}
 use Rattle.llsc_base.specs.Images.{Program}
 use Rattle.llsc_base.specs.declared.access.Place.{Place}
-use Rattle.a32_instr.specs.declared.outside.Ask.{Ask}
-use Rattle.a32_instr.specs.declared.outside.Ask.TheVariants.{Store}
-use Rattle.a32_instr.specs.declared.outside.Stop.{Stop}
-use Rattle.a32_instr.specs.declared.outside.Stop.TheVariants.{TagLimit}
-use Rattle.a32_instr.specs.State.{asks, calls}
-use Rattle.a32_step.specs.Machine.{MachineOf, InstructionSet, next_of}
+use Rattle.llsc_base.specs.declared.outside.Ask.{Ask}
+use Rattle.llsc_base.specs.declared.outside.Ask.TheVariants.{Store}
+use Rattle.llsc_base.specs.declared.outside.Stop.{Stop}
+use Rattle.llsc_base.specs.declared.outside.Stop.TheVariants.{TagLimit}
+use Rattle.llsc_base.specs.Effects.{asks, calls}
+use Rattle.guest_core.specs.Machine.{MachineOf, InstructionSet, next_of}
 use Rattle.guest_calls.specs.Run.{Pair, byte_load, byte_loads, ReachesOf, EndsOf, EndsOnOf, by_itself, by_limit, AsksOf, asks_access, asks_byte}
 use Rattle.guest_calls.proofs.Decided.{Replies, AreDecided, Spot, spot_at, replied, followed, bytes_by, printed, answered_so, decided_front, loads_on, first_found, came, ended, asking, rest_by_call, Rests, rests_by, one_way, ends_rest}
 use Rattle.guest_calls.proofs.Listed.{reply_after, list_decides, list_ends, one_end_of_list}

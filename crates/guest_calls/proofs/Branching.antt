@@ -4,7 +4,8 @@ use Rattle.llsc_base.specs.Images.{Program}
 use Rattle.a32_instr.specs.Branch.{branched, branches}
 use Rattle.a32_instr.specs.Condition.{passes}
 use Rattle.a32_instr.specs.Effect.{effect_of}
-use Rattle.a32_instr.specs.State.{State, advanced, completes}
+use Rattle.a32_instr.specs.State.{State, advanced}
+use Rattle.llsc_base.specs.Effects.{completes}
 use Rattle.a32_instr.specs.declared.instructions.Instr.TheVariants.{Branch}
 
 -- BEQ goes on behind itself where Z isn't set

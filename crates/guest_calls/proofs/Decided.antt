@@ -3,11 +3,11 @@ use Rattle.std.proofs.Common.{◌≡◌, ℕ, zero, suc, ◌+◌, ◌-◌, ◌<�
 use Rattle.std.specs.Option.{option_map}
 use Rattle.std.proofs.lemmas.Bool.{lt-ltb, le-ltb}
 use Rattle.llsc_base.specs.Images.{Program}
-use Rattle.a32_instr.specs.declared.outside.Ask.{Ask}
-use Rattle.a32_instr.specs.declared.outside.Stop.{Stop}
-use Rattle.a32_instr.specs.declared.outside.Stop.TheVariants.{Exit, Budget}
-use Rattle.a32_instr.specs.State.{EffectOf, asks, calls, completes, stops}
-use Rattle.a32_step.specs.Machine.{MachineOf, InstructionSet, next_of, after_of, given, returned_of}
+use Rattle.llsc_base.specs.declared.outside.Ask.{Ask}
+use Rattle.llsc_base.specs.declared.outside.Stop.{Stop}
+use Rattle.llsc_base.specs.declared.outside.Stop.TheVariants.{Exit, Budget}
+use Rattle.llsc_base.specs.Effects.{EffectOf, asks, calls, completes, stops}
+use Rattle.guest_core.specs.Machine.{MachineOf, InstructionSet, next_of, after_of, given, returned_of}
 use Rattle.guest_calls.specs.Calls.{CallEffect, exits, answers, writes_bytes}
 use Rattle.guest_calls.specs.Run.{Pair, byte_load, byte_loads, effect_of_call_of, ReachesOf, begins, accesses, steps_on, returns, prints, EndsOf, halts, leaves, spends}
 

@@ -2,13 +2,13 @@
 -- instruction that isn't complete.
 use Rattle.std.proofs.Common.{◌≡◌, ℕ, ◌+◌, ◌*◌, ◌<◌, ◌≤◌, List, [], ◌∷◌, ◌++◌, length, refl, sym, ap, subst, ◌∙◌, length-append, arith}
 use Rattle.llsc_base.specs.Images.{Program}
-use Rattle.a32_instr.specs.declared.outside.Ask.{Ask}
-use Rattle.a32_instr.specs.State.{asks}
-use Rattle.a32_instr.specs.declared.outside.Stop.{Stop}
-use Rattle.a32_step.specs.Phase.{PhaseOf, Between, Inside, Awaiting, Calling, Stopped}
-use Rattle.a32_step.specs.Machine.{MachineOf, wanted_of, between, after_of, given, given_in, IsReady, IsAwaiting, InstructionSet, next_of, GoesOnWith}
-use Rattle.a32_step.specs.declared.phases.Wanted.TheVariants as wanted
-use Rattle.a32_step.proofs.Follows.{follows_of}
+use Rattle.llsc_base.specs.declared.outside.Ask.{Ask}
+use Rattle.llsc_base.specs.Effects.{asks}
+use Rattle.llsc_base.specs.declared.outside.Stop.{Stop}
+use Rattle.guest_core.specs.Phase.{PhaseOf, Between, Inside, Awaiting, Calling, Stopped}
+use Rattle.guest_core.specs.Machine.{MachineOf, wanted_of, between, after_of, given, given_in, IsReady, IsAwaiting, InstructionSet, next_of, GoesOnWith}
+use Rattle.guest_core.specs.declared.phases.Wanted.TheVariants as wanted
+use Rattle.guest_core.proofs.Follows.{follows_of}
 use Rattle.guest_calls.specs.Bound.{most_accesses_in}
 use Rattle.guest_calls.specs.Calls.{most_output}
 use Rattle.guest_calls.specs.Run.{Pair, PointOf, first_point, byte_loads, ReachesOf, ReachesFromOf, begins, accesses, steps_on, returns, prints, EndsOf, halts, leaves, spends, EndsOnOf, by_itself, by_limit}

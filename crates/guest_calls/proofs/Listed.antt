@@ -1,9 +1,9 @@
 -- A list of accesses and replies decides the end of a run that has them.
 use Rattle.std.proofs.Common.{◌≡◌, ℕ, Option, Some, None, List, [], ◌∷◌, ◌++◌, refl, ap, ◌∙◌}
 use Rattle.llsc_base.specs.Images.{Program}
-use Rattle.a32_instr.specs.declared.outside.Ask.{Ask}
-use Rattle.a32_instr.specs.declared.outside.Stop.{Stop}
-use Rattle.a32_step.specs.Machine.{MachineOf, InstructionSet}
+use Rattle.llsc_base.specs.declared.outside.Ask.{Ask}
+use Rattle.llsc_base.specs.declared.outside.Stop.{Stop}
+use Rattle.guest_core.specs.Machine.{MachineOf, InstructionSet}
 use Rattle.guest_calls.specs.Run.{Pair, EndsOf}
 use Rattle.guest_calls.proofs.Decided.{AreDecided, one_end}
 

@@ -3,14 +3,16 @@ use Rattle.std.proofs.Common.{◌≡◌, ℕ, List, [], ◌∷◌, ◌++◌, len
 use Rattle.std.proofs.lemmas.List.{append-nil}
 use Rattle.llsc_base.specs.Images.{Program}
 use Rattle.a32_instr.specs.declared.instructions.Instr.{Instr}
-use Rattle.a32_instr.specs.declared.outside.Ask.{Ask}
-use Rattle.a32_instr.specs.declared.outside.CallAsk.{CallAsk}
-use Rattle.a32_instr.specs.declared.outside.Stop.{Stop}
-use Rattle.a32_instr.specs.declared.outside.Stop.TheVariants.{Exit}
+use Rattle.llsc_base.specs.declared.outside.Ask.{Ask}
+use Rattle.llsc_base.specs.declared.outside.CallAsk.{CallAsk}
+use Rattle.llsc_base.specs.declared.outside.Stop.{Stop}
+use Rattle.llsc_base.specs.declared.outside.Stop.TheVariants.{Exit}
 use Rattle.a32_instr.specs.Effect.{acts, effect_of}
-use Rattle.a32_instr.specs.State.{State, asks, calls, completes, stops}
-use Rattle.a32_step.specs.Machine.{Machine, next_effect, after_next, given, between, begins, after_instr, moved_on, instr_at}
-use Rattle.a32_step.specs.Phase.{Inside}
+use Rattle.a32_instr.specs.State.{State}
+use Rattle.llsc_base.specs.Effects.{asks, calls, completes, stops}
+use Rattle.a32_step.specs.Machine.{Machine, next_effect, after_next, begins, after_instr, instr_at}
+use Rattle.guest_core.specs.Machine.{given, between, moved_on}
+use Rattle.guest_core.specs.Phase.{Inside}
 use Rattle.guest_calls.specs.Calls.{exits, answers, writes_bytes}
 use Rattle.guest_calls.specs.Run.{Pair, byte_loads, effect_of_call, Reaches, accesses, steps_on, returns, prints, returned, Ends, halts, leaves, spends, EndsOn, by_itself, by_limit}
 use Rattle.guest_calls.specs.Run.{begins as at_start}

@@ -7,7 +7,7 @@ use Rattle.history.specs.Parts.{accesses_of, entries_of}
 use Rattle.history.specs.declared.entry.Cause.{Cause}
 use Rattle.history.specs.declared.entry.Entry.{Entry}
 use Rattle.history.specs.declared.entry.Entry.TheVariants.{Read, Write, Fail, Clear, Watch, Miss, Begin, End, Start}
-use Rattle.a32_instr.specs.declared.outside.Ask.TheVariants as ask
+use Rattle.llsc_base.specs.declared.outside.Ask.TheVariants as ask
 use Rattle.guest_calls.specs.Pairs.{pair_of}
 use Rattle.guest_calls.specs.Run.{Pair}
 

@@ -1,8 +1,9 @@
 -- Pieces of a run one behind another; and what a thread with a stock does without a start, it does without a stock.
 use Rattle.std.proofs.Common.{ℕ, ◌+◌, Bool, false, List, ◌∷◌, [], ◌++◌, length, refl, sym, subst, append-nil, append_assoc}
 use Rattle.llsc_base.specs.Images.{Program}
-use Rattle.a32_instr.specs.declared.outside.Stop.{Stop}
-use Rattle.a32_step.specs.Machine.{Machine, after_next, given}
+use Rattle.llsc_base.specs.declared.outside.Stop.{Stop}
+use Rattle.a32_step.specs.Machine.{Machine, after_next}
+use Rattle.guest_core.specs.Machine.{given}
 use Rattle.guest_calls.specs.Run.{Pair, Point, byte_loads, returned, ReachesBy, begins, accesses, steps_on, returns, prints, EndsFrom, halts, leaves, spends, EndsOnFrom, by_itself, by_limit}
 
 -- ---- one piece behind another

@@ -2,7 +2,7 @@
 use Rattle.std.proofs.Common.{◌≡◌, ℕ, ◌%◌, ◌^◌, List, [], ◌∷◌, sym, subst, inl, inr}
 use Rattle.std.proofs.lemmas.Bool.{cases_eq}
 use Rattle.llsc_base.specs.declared.access.Place.{Place}
-use Rattle.a32_instr.specs.declared.outside.Ask.TheVariants.{LoadEx, StoreEx}
+use Rattle.llsc_base.specs.declared.outside.Ask.TheVariants.{LoadEx, StoreEx}
 use Rattle.guest_calls.specs.Run.{Pair}
 
 -- one turn: a load-exclusive of a place, and a store-exclusive of what is made of its value. Where that was replied 0 in its 32

@@ -5,13 +5,14 @@ use Rattle.llsc_base.specs.declared.access.Place.{Place}
 use Rattle.llsc_base.specs.Memory.{number_of}
 use Rattle.a32_instr.specs.Condition.{passes}
 use Rattle.a32_instr.specs.Fields.{exclusive_size, index_fits, index_of, no_pair, one_of_3_is_pc, status_clashes, word_unpredictable}
-use Rattle.a32_instr.specs.State.{asks, calls, stops}
+use Rattle.llsc_base.specs.Effects.{asks, calls, stops}
 use Rattle.a32_instr.specs.Table.{meaning}
-use Rattle.a32_instr.specs.declared.outside.Ask.{Ask}
-use Rattle.a32_instr.specs.declared.outside.Ask.TheVariants.{Load, Store, StoreEx}
-use Rattle.a32_instr.specs.declared.outside.Stop.{Stop}
-use Rattle.a32_instr.specs.declared.outside.Stop.TheVariants.{Exit, Budget, TagLimit, Outside, ReadOnly}
-use Rattle.a32_step.specs.Machine.{Machine, after_next, given, next_effect, a32}
+use Rattle.llsc_base.specs.declared.outside.Ask.{Ask}
+use Rattle.llsc_base.specs.declared.outside.Ask.TheVariants.{Load, Store, StoreEx}
+use Rattle.llsc_base.specs.declared.outside.Stop.{Stop}
+use Rattle.llsc_base.specs.declared.outside.Stop.TheVariants.{Exit, Budget, TagLimit, Outside, ReadOnly}
+use Rattle.a32_step.specs.Machine.{Machine, after_next, next_effect, a32}
+use Rattle.guest_core.specs.Machine.{given}
 use Rattle.guest_calls.specs.Run.{Pair, byte_load, Reaches, begins, accesses, steps_on, returns, prints, returned, Ends, halts, leaves, spends, EndsOn, by_itself, by_limit, Asks, asks_access, asks_byte}
 use Rattle.guest_calls.specs.Worked.{byte_at, call, calling, loading, storing, storing_exclusively, thread_at, word}
 use Rattle.guest_calls.proofs.Asked.{asks_or_ends, one_ask}

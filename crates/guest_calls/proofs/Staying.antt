@@ -2,8 +2,8 @@
 use Rattle.std.proofs.Common.{◌≡◌, ◌==◌, ℕ, true, false, List, length, refl, sym, ap, ◌∙◌, eqb-true}
 use Rattle.std.proofs.lemmas.Bool.{and_parts}
 use Rattle.llsc_base.specs.Images.{Program}
-use Rattle.a32_instr.specs.declared.outside.CallAsk.{CallAsk}
-use Rattle.a32_instr.specs.State.{asks, calls, completes}
+use Rattle.llsc_base.specs.declared.outside.CallAsk.{CallAsk}
+use Rattle.llsc_base.specs.Effects.{asks, calls, completes}
 use Rattle.a32_step.specs.Machine.{Machine, next_effect}
 use Rattle.guest_calls.specs.Calls.{answers, call_effect, is_start_call, no_call, writes_bytes}
 use Rattle.guest_calls.specs.Run.{Pair, effect_of_call, first_point, ReachesBy, begins, accesses, steps_on, returns, prints}

@@ -1,7 +1,7 @@
 -- The bytes of a write lie in memory, and have room in the output.
 use Rattle.std.proofs.Common.{◌≡◌, ℕ, ◌+◌, ◌≤◌, ◌==◌, ◌||◌, ◌%◌, nat_lt, not, if◌then◌else◌, Bool, true, false, refl, subst}
 use Rattle.std.proofs.lemmas.Bool.{ltb-false}
-use Rattle.a32_instr.specs.declared.outside.CallAsk.{CallAsk}
+use Rattle.llsc_base.specs.declared.outside.CallAsk.{CallAsk}
 use Rattle.guest_calls.specs.Calls.{CallEffect, exits, answers, writes_bytes, call_effect, write_effect, no_call, bad_descriptor, bad_address, no_room, most_output}
 
 written : (descriptor none past full : Bool) (buffer number from count : ℕ)

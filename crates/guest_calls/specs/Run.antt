@@ -4,13 +4,15 @@ use Rattle.llsc_base.specs.Images.{Program}
 use Rattle.llsc_base.specs.declared.access.Place.{Place}
 use Rattle.llsc_base.specs.declared.access.Size.TheVariants.{B1}
 use Rattle.a32_instr.specs.declared.instructions.Instr.{Instr}
-use Rattle.a32_instr.specs.declared.outside.Ask.{Ask}
-use Rattle.a32_instr.specs.declared.outside.Ask.TheVariants.{Load, Store}
-use Rattle.a32_instr.specs.declared.outside.CallAsk.{CallAsk}
-use Rattle.a32_instr.specs.declared.outside.Stop.{Stop}
-use Rattle.a32_instr.specs.declared.outside.Stop.TheVariants.{Exit, Budget, TagLimit}
-use Rattle.a32_instr.specs.State.{State, asks, calls, completes, stops}
-use Rattle.a32_step.specs.Machine.{MachineOf, Machine, InstructionSet, a32, next_of, after_of, returned_of, given}
+use Rattle.llsc_base.specs.declared.outside.Ask.{Ask}
+use Rattle.llsc_base.specs.declared.outside.Ask.TheVariants.{Load, Store}
+use Rattle.llsc_base.specs.declared.outside.CallAsk.{CallAsk}
+use Rattle.llsc_base.specs.declared.outside.Stop.{Stop}
+use Rattle.llsc_base.specs.declared.outside.Stop.TheVariants.{Exit, Budget, TagLimit}
+use Rattle.a32_instr.specs.State.{State}
+use Rattle.llsc_base.specs.Effects.{asks, calls, completes, stops}
+use Rattle.guest_core.specs.Machine.{MachineOf, InstructionSet, next_of, after_of, returned_of, given}
+use Rattle.a32_step.specs.Machine.{Machine, a32}
 use Rattle.guest_calls.specs.Calls.{CallEffect, exits, answers, writes_bytes, call_effect, is_start_call}
 
 -- an access and the reply to it

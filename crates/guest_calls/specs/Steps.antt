@@ -1,6 +1,7 @@
 -- What the code makes of a guest call.
 use Rattle.std.specs.Prelude.{ℕ, ◌+◌, ◌<◌, ◌≤◌}
-use Rattle.a32_step.specs.Machine.{MachineOf, Machine, InstructionSet, a32, returned_of}
+use Rattle.guest_core.specs.Machine.{MachineOf, InstructionSet, returned_of}
+use Rattle.a32_step.specs.Machine.{Machine, a32}
 use Rattle.guest_calls.specs.declared.calls.CallStep.{CallStep}
 use Rattle.guest_calls.specs.declared.calls.CallStep.TheVariants.{Exit, Answered, Bytes}
 use Rattle.guest_calls.specs.Calls.{CallEffect, exits, answers, writes_bytes, most_output}

@@ -3,8 +3,9 @@ use Rattle.std.specs.Prelude.{ℕ, true, false, List, [], ◌∷◌, ◌++◌, r
 use Rattle.llsc_base.specs.Images.{Program}
 use Rattle.llsc_base.specs.declared.access.Place.{Place}
 use Rattle.llsc_base.specs.declared.access.Size.TheVariants.{B1, B4}
-use Rattle.a32_instr.specs.declared.outside.CallAsk.{CallAsk}
-use Rattle.a32_step.specs.Machine.{Machine, between}
+use Rattle.llsc_base.specs.declared.outside.CallAsk.{CallAsk}
+use Rattle.a32_step.specs.Machine.{Machine}
+use Rattle.guest_core.specs.Machine.{between}
 
 -- a call by SVC with the immediate 0: its number, and r0 to r2
 abbrev pub call : (number a b c : ℕ) → CallAsk

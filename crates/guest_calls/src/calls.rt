@@ -1,12 +1,13 @@
 //! The table of guest calls.
 ghost use Rattle.std.specs.Prelude.{◌≡◌, length};
-ghost use Rattle.a32_step.specs.Machine.{IsCalling};
+ghost use Rattle.guest_core.specs.Machine.{IsCalling};
 ghost use Rattle.guest_calls.specs.Calls.{call_effect, is_start_call, write_effect};
 ghost use Rattle.guest_calls.specs.Outcomes.{effect_of_outcome};
 ghost use Rattle.guest_calls.specs.Steps.{step_of, after_call_of, HaveRoom};
 
 use crate::output::Output;
-use a32_step::{CallAsk, Core};
+use llsc_base::CallAsk;
+use guest_core::Core;
 
 /// The number of exit, in r7.
 const EXIT: u32 = 1;

@@ -1,10 +1,11 @@
 //! The laws of runs, each a function of no effect whose contract is the law.
 ghost use Rattle.std.specs.Prelude.{◌≡◌, ◌≤◌, ℕ, Bool, List, length};
 ghost use Rattle.llsc_base.specs.Images.{Program};
-ghost use Rattle.a32_instr.specs.declared.outside.Ask.{Ask};
-ghost use Rattle.a32_instr.specs.declared.outside.Stop.{Stop};
+ghost use Rattle.llsc_base.specs.declared.outside.Ask.{Ask};
+ghost use Rattle.llsc_base.specs.declared.outside.Stop.{Stop};
 ghost use Rattle.a32_instr.specs.State.{State};
-ghost use Rattle.a32_step.specs.Machine.{Machine, between};
+ghost use Rattle.a32_step.specs.Machine.{Machine};
+ghost use Rattle.guest_core.specs.Machine.{between};
 ghost use Rattle.guest_calls.specs.Bound.{most_accesses_in};
 ghost use Rattle.guest_calls.specs.Run.{Pair, Point, ReachesBy, ReachesFrom, Ends, EndsOn, Asks};
 

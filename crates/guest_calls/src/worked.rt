@@ -8,7 +8,7 @@ ghost use Rattle.guest_calls.specs.Steps.{HaveRoom};
 ghost use Rattle.guest_calls.specs.Worked.{byte_at, call, calling, word};
 
 use crate::calls::CallStep;
-use a32_step::Ask;
+use llsc_base::Ask;
 use history::{Cause, Deed, Entry};
 
 /// Exit leaves with the low byte of r0, write goes by its own rules, and sched_yield is answered by 0; every other number is

@@ -1,12 +1,12 @@
 //! Worked runs of threads of one instruction, a call, a load or a store, which has its arguments from the thread's start.
 ghost use Rattle.std.specs.Prelude.{◌≡◌, ◌∷◌, [], ℕ, List, true};
-ghost use Rattle.a32_instr.specs.declared.outside.Ask.{Ask};
-ghost use Rattle.a32_instr.specs.declared.outside.Stop.{Stop};
+ghost use Rattle.llsc_base.specs.declared.outside.Ask.{Ask};
+ghost use Rattle.llsc_base.specs.declared.outside.Stop.{Stop};
 ghost use Rattle.a32_step.specs.Machine.{Machine};
 ghost use Rattle.guest_calls.specs.Run.{Asks, Ends, EndsOn, Pair, Reaches, ReachesBy, ReachesFrom, first_point, returned};
 ghost use Rattle.guest_calls.specs.Worked.{byte_at, calling, loading, storing, storing_exclusively, thread_at, word};
 
-use a32_step::{Ask, Stop};
+use llsc_base::{Ask, Stop};
 
 /// An answer stands in r0, and the thread goes on behind the call.
 pub fn threads_after_an_answer()

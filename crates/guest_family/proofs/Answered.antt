@@ -7,7 +7,7 @@ use Rattle.llsc_base.specs.Images.{Program}
 use Rattle.history.specs.Starts.{Started, starts_in}
 use Rattle.history.specs.declared.entry.Entry.{Entry}
 use Rattle.shared_memory.specs.Origin.{Origin}
-use Rattle.a32_instr.specs.declared.outside.CallAsk.{CallAsk}
+use Rattle.llsc_base.specs.declared.outside.CallAsk.{CallAsk}
 use Rattle.a32_step.specs.Machine.{Machine, after_next}
 use Rattle.guest_calls.specs.Pairs.{pairs_of}
 use Rattle.guest_calls.specs.Run.{Point, returned}

@@ -4,13 +4,15 @@ use Rattle.std.specs.Option.{is_some, option_map}
 use Rattle.std.proofs.lemmas.Bool.{and_parts, cases_Bool, lt-ltb, le-ltb}
 use Rattle.llsc_base.specs.Images.{Program}
 use Rattle.history.specs.Starts.{Started}
-use Rattle.a32_instr.specs.declared.outside.Ask.{Ask}
-use Rattle.a32_instr.specs.declared.outside.Ask.TheVariants.{Store}
-use Rattle.a32_instr.specs.declared.outside.CallAsk.{CallAsk}
-use Rattle.a32_instr.specs.declared.outside.Stop.{Stop}
-use Rattle.a32_instr.specs.declared.outside.Stop.TheVariants.{Exit, Budget, TagLimit}
-use Rattle.a32_instr.specs.State.{Effect, asks, calls, completes, stops}
-use Rattle.a32_step.specs.Machine.{Machine, next_effect, after_next, given}
+use Rattle.llsc_base.specs.declared.outside.Ask.{Ask}
+use Rattle.llsc_base.specs.declared.outside.Ask.TheVariants.{Store}
+use Rattle.llsc_base.specs.declared.outside.CallAsk.{CallAsk}
+use Rattle.llsc_base.specs.declared.outside.Stop.{Stop}
+use Rattle.llsc_base.specs.declared.outside.Stop.TheVariants.{Exit, Budget, TagLimit}
+use Rattle.a32_instr.specs.State.{Effect}
+use Rattle.llsc_base.specs.Effects.{asks, calls, completes, stops}
+use Rattle.a32_step.specs.Machine.{Machine, next_effect, after_next}
+use Rattle.guest_core.specs.Machine.{given}
 use Rattle.guest_calls.specs.Calls.{CallEffect, exits, answers, writes_bytes, call_effect, is_start_call, no_call}
 use Rattle.guest_calls.specs.Run.{Pair, Point, first_point, byte_load, byte_loads, effect_of_call, returned, ReachesBy, begins, accesses, steps_on, returns, prints, halts, leaves, spends, EndsOnFrom, by_itself, by_limit}
 use Rattle.guest_calls.proofs.Decided.{AreDecided, Replies, bytes_by, decided_front, first_found, loads_on}

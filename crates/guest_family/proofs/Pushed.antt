@@ -10,7 +10,7 @@ use Rattle.history.specs.Started.{child_of}
 use Rattle.history.specs.declared.entry.Entry.{Entry}
 use Rattle.shared_memory.specs.Origin.{Origin}
 use Rattle.a32_step.specs.Machine.{Machine, a32}
-use Rattle.a32_step.specs.declared.ready.Conditional.{Conditional}
+use Rattle.a32_step.specs.declared.conditional.Conditional.{Conditional}
 use Rattle.guest_thread.specs.Crews.{IsFresh}
 use Rattle.guest_thread.specs.declared.crews.Job.{Job}
 use Rattle.guest_family.specs.Kin.{AreSpares, AreStarters, IsSpare, IsStarter, MayRun, heads_of, spares_of}

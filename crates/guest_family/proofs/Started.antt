@@ -15,7 +15,7 @@ use Rattle.history.proofs.Born.{may-act-later}
 use Rattle.history.proofs.Starts.{starts_from-length, starts_in-start}
 use Rattle.shared_memory.specs.Origin.{Origin}
 use Rattle.shared_memory.specs.Seen.{IsSingle, Sees}
-use Rattle.a32_instr.specs.declared.outside.CallAsk.{CallAsk}
+use Rattle.llsc_base.specs.declared.outside.CallAsk.{CallAsk}
 use Rattle.a32_step.specs.Machine.{Machine, after_next}
 use Rattle.guest_calls.specs.Pairs.{pair_of, pairs_of}
 use Rattle.guest_calls.specs.Run.{Pair, Point, returned}

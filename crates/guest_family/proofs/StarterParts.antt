@@ -15,7 +15,8 @@ use Rattle.history.proofs.Born.{child-below}
 use Rattle.history.proofs.Starts.{starts_from-length, starts_from-own}
 use Rattle.shared_memory.specs.Origin.{Origin}
 use Rattle.shared_memory.specs.Seen.{IsFront, IsOneOf, IsSingle, SaysAllOf, Sees, joint}
-use Rattle.a32_step.specs.Machine.{Machine, between}
+use Rattle.a32_step.specs.Machine.{Machine}
+use Rattle.guest_core.specs.Machine.{between}
 use Rattle.guest_calls.specs.Pairs.{pair_of, pairs_of}
 use Rattle.guest_calls.specs.Run.{Pair, first_point}
 use Rattle.guest_thread.specs.Begun.{child_start, stock_of}

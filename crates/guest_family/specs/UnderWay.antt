@@ -8,10 +8,11 @@ use Rattle.history.specs.Starts.{made_by, starts_in}
 use Rattle.history.specs.declared.entry.Entry.{Entry}
 use Rattle.shared_memory.specs.Origin.{Origin}
 use Rattle.shared_memory.specs.Seen.{IsFront, IsSingle}
-use Rattle.a32_instr.specs.declared.outside.CallAsk.{CallAsk}
-use Rattle.a32_instr.specs.declared.outside.Stop.TheVariants.{TagLimit}
-use Rattle.a32_instr.specs.State.{calls}
-use Rattle.a32_step.specs.Machine.{Machine, IsCalling, between, next_effect, after_next}
+use Rattle.llsc_base.specs.declared.outside.CallAsk.{CallAsk}
+use Rattle.llsc_base.specs.declared.outside.Stop.TheVariants.{TagLimit}
+use Rattle.llsc_base.specs.Effects.{calls}
+use Rattle.a32_step.specs.Machine.{Machine, next_effect, after_next}
+use Rattle.guest_core.specs.Machine.{IsCalling, between}
 use Rattle.guest_calls.specs.Calls.{is_start_call}
 use Rattle.guest_calls.specs.Pairs.{pairs_of}
 use Rattle.guest_thread.specs.Begun.{stock_of}

@@ -11,9 +11,8 @@ ghost use denote.Param.Send.{IsSync, IsSend};
 
 use crate::kin::{Kin, Starter};
 use crate::starters::{StarterEnd, StarterPart, run_on};
-use a32_step::Stop;
+use llsc_base::{Image, Stop};
 use guest_thread::{GuestEnd, Job, Part, Ran};
-use llsc_base::Image;
 use shared_memory::StartMemory;
 use std::sync::Wait;
 use std::thread::{Threads, join};

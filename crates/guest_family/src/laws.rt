@@ -4,7 +4,7 @@ ghost use Rattle.llsc_base.specs.Images.{Program};
 ghost use Rattle.llsc_base.specs.Sizes.{Numbers};
 ghost use Rattle.history.specs.Starts.{Started};
 ghost use Rattle.history.specs.declared.entry.Entry.{Entry};
-ghost use Rattle.a32_instr.specs.declared.outside.Stop.{Stop};
+ghost use Rattle.llsc_base.specs.declared.outside.Stop.{Stop};
 ghost use Rattle.a32_step.specs.Machine.{Machine};
 ghost use Rattle.guest_calls.specs.Run.{Pair};
 ghost use Rattle.guest_thread.specs.BegunOutcome.{IsOutcomeFrom};

@@ -3,12 +3,15 @@ ghost use Rattle.std.specs.Prelude.{◌≡◌, ◌<◌, ◌≤◌, ◌^◌, ℕ,
 ghost use Rattle.llsc_base.specs.Limits.{most_budget};
 ghost use Rattle.history.specs.Starts.{starts_in};
 ghost use Rattle.shared_memory.specs.Seen.{IsSingle};
-ghost use Rattle.a32_step.specs.Machine.{Machine, IsCalling};
+ghost use Rattle.a32_step.specs.Machine.{Machine};
+ghost use Rattle.guest_core.specs.Machine.{IsCalling};
 ghost use Rattle.guest_thread.specs.Begun.{stock_of};
 ghost use Rattle.guest_family.specs.Next.{HasNoneLeft, IsAligned, IsNext, after_answer, refusal_of};
 ghost use Rattle.guest_family.specs.UnderWay.{HasEnded, IsUnderWay};
 
-use a32_step::{Code, Conditional};
+use guest_core::Code;
+
+use a32_step::Conditional;
 use guest_thread::{Finished, Part, Paused, go_on};
 use shared_memory::StartMemory;
 use std::sync::Wait;

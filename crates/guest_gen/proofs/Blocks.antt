@@ -9,8 +9,8 @@ use Rattle.a32_instr.specs.declared.instructions.Instr.TheVariants.{Alu, Branch,
 use Rattle.a32_instr.specs.declared.instructions.AluOp.TheVariants.{Add, Cmp, Mov, Sub}
 use Rattle.a32_instr.specs.declared.instructions.Operand2.TheVariants.{ByNum, Imm}
 use Rattle.a32_instr.specs.declared.instructions.ShiftKind.TheVariants.{Lsl, Lsr}
-use Rattle.a32_instr.specs.declared.outside.Ask.TheVariants as ask
-use Rattle.a32_instr.specs.declared.outside.Stop.TheVariants.{Exit}
+use Rattle.llsc_base.specs.declared.outside.Ask.TheVariants as ask
+use Rattle.llsc_base.specs.declared.outside.Stop.TheVariants.{Exit}
 use Rattle.a32_instr.specs.Branch.{target_of}
 use Rattle.a32_instr.specs.Condition.{passes}
 use Rattle.a32_instr.specs.LoadStore.{asks_unless}

@@ -1,7 +1,7 @@
 -- All rounds of a thread of the counter guest: each is tried until its store-exclusive succeeds.
 use Rattle.std.proofs.Common.{◌≡◌, ℕ, zero, suc, ◌%◌, ◌^◌, ◌<◌, List, ◌∷◌, [], sym, ap, subst, ◌∙◌, arith}
 use Rattle.a32_instr.specs.declared.conditions.Flags.{Flags}
-use Rattle.a32_instr.specs.declared.outside.Ask.TheVariants as ask
+use Rattle.llsc_base.specs.declared.outside.Ask.TheVariants as ask
 use Rattle.guest_calls.specs.Run.{Pair}
 use Rattle.guest_calls.proofs.Retries.{AreTurns, IsTurn, last, turns}
 use Rattle.guest_calls.proofs.Retries.{failed as failed_turn}

@@ -4,9 +4,10 @@ use Rattle.llsc_base.specs.Images.{Program}
 use Rattle.llsc_base.specs.Sizes.{Numbers}
 use Rattle.a32_instr.specs.declared.conditions.Flags.{Flags}
 use Rattle.a32_instr.specs.declared.instructions.Instr.{Instr}
-use Rattle.a32_instr.specs.declared.outside.Stop.TheVariants.{Exit}
+use Rattle.llsc_base.specs.declared.outside.Stop.TheVariants.{Exit}
 use Rattle.a32_instr.specs.State.{State}
-use Rattle.a32_step.specs.Machine.{between, instr_at}
+use Rattle.guest_core.specs.Machine.{between}
+use Rattle.a32_step.specs.Machine.{instr_at}
 use Rattle.guest_calls.specs.Run.{Pair}
 use Rattle.guest_calls.proofs.Onward.{RunsOn}
 use Rattle.guest_gen.specs.Counters.{counter_image}

@@ -3,7 +3,7 @@ use Rattle.std.proofs.Common.{◌≡◌, ℕ, true, List, [], ◌∷◌, map, sy
 use Rattle.history.specs.declared.entry.Cause.{Cause}
 use Rattle.history.specs.declared.entry.Entry.{Entry}
 use Rattle.history.specs.declared.entry.Entry.TheVariants.{Read, Write, Fail}
-use Rattle.a32_instr.specs.declared.outside.Ask.TheVariants as ask
+use Rattle.llsc_base.specs.declared.outside.Ask.TheVariants as ask
 use Rattle.guest_calls.specs.Pairs.{pair_of}
 use Rattle.guest_calls.specs.Run.{Pair}
 use Rattle.guest_calls.proofs.OwnAccesses.{AreOwn, fail_by, read_by, write_by}

@@ -1,7 +1,7 @@
 -- What a thread of the counter guest asks, and what is replied.
 use Rattle.guest_gen.specs.Counters.{counter_place}
 use Rattle.std.specs.Prelude.{◌≡◌, ℕ, ◌+◌, ◌%◌, ◌^◌, List, [], ◌∷◌}
-use Rattle.a32_instr.specs.declared.outside.Ask.TheVariants.{LoadEx, StoreEx}
+use Rattle.llsc_base.specs.declared.outside.Ask.TheVariants.{LoadEx, StoreEx}
 use Rattle.guest_calls.specs.Run.{Pair}
 
 -- a word that was loaded, and one more

@@ -17,7 +17,7 @@ ghost use Rattle.guest_thread.specs.declared.ends.GuestEnd.{GuestEnd};
 ghost use Rattle.guest_gen.specs.Namings.{first_draw, named_in, namings_of};
 ghost use Rattle.std.specs.List.{range_with_len, sum_by};
 
-use a32_step::Stop;
+use llsc_base::Stop;
 
 /// The counter guest has 25 words, and its counters are its data: the first stands where the data begins, and the program ends
 /// behind the last.

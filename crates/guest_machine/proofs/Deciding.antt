@@ -12,8 +12,8 @@ use Rattle.history.specs.declared.entry.Entry.TheVariants as entry
 use Rattle.history.specs.declared.entry.Cause.{Cause}
 use Rattle.history.specs.declared.entry.Cause.TheVariants.{Absent}
 use Rattle.history.proofs.Marks.{IsAsLarge-accessed}
-use Rattle.a32_instr.specs.declared.outside.Ask.{Ask}
-use Rattle.a32_instr.specs.declared.outside.Ask.TheVariants.{StoreEx}
+use Rattle.llsc_base.specs.declared.outside.Ask.{Ask}
+use Rattle.llsc_base.specs.declared.outside.Ask.TheVariants.{StoreEx}
 use Rattle.guest_calls.specs.Run.{Pair}
 use Rattle.guest_calls.specs.Pairs.{pair_of, pairs_of, reply_of}
 use Rattle.history.specs.Accesses.{entry_of, entry_by}

@@ -6,8 +6,8 @@ use Rattle.std.proofs.lemmas.Bool.{cases_lt}
 use Rattle.llsc_base.specs.Images.{Program}
 use Rattle.llsc_base.specs.Sizes.{Numbers}
 use Rattle.history.specs.declared.entry.Access.{Access}
-use Rattle.a32_instr.specs.declared.outside.Ask.{Ask}
-use Rattle.a32_instr.specs.declared.outside.Stop.{Stop}
+use Rattle.llsc_base.specs.declared.outside.Ask.{Ask}
+use Rattle.llsc_base.specs.declared.outside.Stop.{Stop}
 use Rattle.a32_step.specs.Machine.{a32}
 use Rattle.guest_calls.specs.Run.{Asks, Ends}
 use Rattle.guest_calls.proofs.Asked.{one_ask, asks_or_ends}

@@ -5,8 +5,8 @@ use Rattle.history.specs.Monitor.{Monitor, is_on, marked_row}
 use Rattle.history.specs.declared.entry.Access.{Access}
 use Rattle.history.specs.declared.entry.Deed.TheVariants as deed
 use Rattle.history.specs.declared.entry.Entry.{Entry}
-use Rattle.a32_instr.specs.declared.outside.Ask.{Ask}
-use Rattle.a32_instr.specs.declared.outside.Ask.TheVariants.{Load, LoadEx, Store, StoreEx, Clear}
+use Rattle.llsc_base.specs.declared.outside.Ask.{Ask}
+use Rattle.llsc_base.specs.declared.outside.Ask.TheVariants.{Load, LoadEx, Store, StoreEx, Clear}
 use Rattle.guest_calls.specs.Pairs.{pair_of, pairs_of, pairs_in, reply_of}
 use Rattle.history.specs.Accesses.{history_of, entry_of, entry_by}
 use Rattle.guest_thread.specs.Accesses.{access_by}

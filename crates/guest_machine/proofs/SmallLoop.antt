@@ -9,9 +9,10 @@ use Rattle.a32_instr.specs.Branch.{target_of}
 use Rattle.a32_instr.specs.Condition.{passes}
 use Rattle.a32_instr.specs.Fields.{index_fits, index_of, signed24, word_unpredictable}
 use Rattle.a32_instr.specs.Table.{meaning}
-use Rattle.a32_instr.specs.declared.outside.Ask.TheVariants.{Load}
-use Rattle.a32_instr.specs.declared.outside.Stop.TheVariants.{Budget}
-use Rattle.a32_step.specs.Machine.{Machine, between}
+use Rattle.llsc_base.specs.declared.outside.Ask.TheVariants.{Load}
+use Rattle.llsc_base.specs.declared.outside.Stop.TheVariants.{Budget}
+use Rattle.a32_step.specs.Machine.{Machine}
+use Rattle.guest_core.specs.Machine.{between}
 use Rattle.guest_calls.specs.Pairs.{pairs_in}
 use Rattle.guest_calls.specs.Run.{Asks, Ends, Pair, Reaches, asks_access, accesses, begins, spends, steps_on}
 use Rattle.guest_thread.specs.Accesses.{access_by, monitor_of}

@@ -5,8 +5,8 @@ use Rattle.a32_instr.specs.Condition.{passes}
 use Rattle.a32_instr.specs.Fields.{alu_op, alu_fits, alu_unpredictable, index_fits, index_of, word_unpredictable}
 use Rattle.a32_instr.specs.Shift.{turned}
 use Rattle.a32_instr.specs.Table.{meaning}
-use Rattle.a32_instr.specs.declared.outside.Ask.TheVariants.{Load}
-use Rattle.a32_instr.specs.declared.outside.Stop.TheVariants.{Exit, Budget}
+use Rattle.llsc_base.specs.declared.outside.Ask.TheVariants.{Load}
+use Rattle.llsc_base.specs.declared.outside.Stop.TheVariants.{Exit, Budget}
 use Rattle.guest_calls.specs.Run.{Asks, Ends, asks_access, accesses, begins, steps_on, leaves, spends}
 use Rattle.guest_thread.specs.Start.{thread_start}
 use Rattle.guest_machine.specs.Worked.{first_word, leaving, loading, small_machine}

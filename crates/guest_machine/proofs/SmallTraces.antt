@@ -3,8 +3,8 @@ use Rattle.std.proofs.Common.{ℕ, ◌<◌, false, [], ◌∷◌, refl, lit<, li
 use Rattle.llsc_base.specs.Memory.{number_of}
 use Rattle.history.specs.ArmLegal.{IsSound}
 use Rattle.history.specs.declared.entry.Entry.TheVariants.{Read}
-use Rattle.a32_instr.specs.declared.outside.Ask.TheVariants.{Load}
-use Rattle.a32_instr.specs.declared.outside.Stop.TheVariants.{Exit, Budget}
+use Rattle.llsc_base.specs.declared.outside.Ask.TheVariants.{Load}
+use Rattle.llsc_base.specs.declared.outside.Stop.TheVariants.{Exit, Budget}
 use Rattle.std.specs.List.{All}
 use Rattle.std.proofs.lemmas.List.Elements.{All-cons, All-nil}
 use Rattle.run_record.specs.Limits.{IsAccess}

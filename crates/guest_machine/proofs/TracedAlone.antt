@@ -4,7 +4,7 @@ use Rattle.llsc_base.specs.Images.{Program}
 use Rattle.llsc_base.specs.Sizes.{Numbers}
 use Rattle.history.specs.Monitor.{Monitor, accessed, at_rest_by}
 use Rattle.history.specs.declared.entry.Access.{Access}
-use Rattle.a32_instr.specs.declared.outside.Ask.{Ask}
+use Rattle.llsc_base.specs.declared.outside.Ask.{Ask}
 use Rattle.guest_calls.proofs.Decided.{AreDecided}
 use Rattle.guest_calls.specs.Pairs.{pairs_in, reply_of}
 use Rattle.guest_calls.specs.Run.{Pair}

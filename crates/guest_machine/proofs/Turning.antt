@@ -12,8 +12,8 @@ use Rattle.history.specs.ArmLegal.{IsArmLegal, MayAccess}
 use Rattle.history.specs.Monitor.{Monitor, IsAsLarge, accessed, at_rest_by}
 use Rattle.history.specs.declared.entry.Access.{Access}
 use Rattle.history.proofs.Appends.{IsArmLegal-push}
-use Rattle.a32_instr.specs.declared.outside.Ask.{Ask}
-use Rattle.a32_instr.specs.declared.outside.Stop.{Stop}
+use Rattle.llsc_base.specs.declared.outside.Ask.{Ask}
+use Rattle.llsc_base.specs.declared.outside.Stop.{Stop}
 use Rattle.guest_calls.specs.Run.{Pair, ReachesByOf, Asks, Ends}
 use Rattle.history.specs.Accesses.{entry_of, history_of}
 use Rattle.guest_calls.specs.Pairs.{pairs_in, reply_of}

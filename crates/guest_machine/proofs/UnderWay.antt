@@ -2,7 +2,7 @@
 use Rattle.std.proofs.Common.{◌≡◌, ℕ, ◌+◌, ◌≤◌, arith, Bool, true, false, if◌then◌else◌, List, [], ◌∷◌, ◌++◌, refl, sym, ◌∙◌, ap, subst, inl, inr}
 use Rattle.guest_calls.specs.Run.{Pair, Ends}
 use Rattle.guest_thread.specs.Ports.{EndsBy}
-use Rattle.a32_step.specs.Ports.{Leads, goes, refused, stays}
+use Rattle.guest_core.specs.Ports.{Leads, goes, refused, stays}
 use Rattle.guest_machine.specs.Served.{IsServed, IsServedBy}
 use Rattle.guest_machine.specs.Alone.{IsAlone}
 use Rattle.llsc_base.specs.Images.{Program}
@@ -15,9 +15,9 @@ use Rattle.history.specs.declared.entry.Entry.{Entry}
 use Rattle.history.specs.declared.entry.Entry.TheVariants as entry
 use Rattle.guest_thread.specs.Counts.{reads_in, writes_in, fails_in}
 use Rattle.history.proofs.Appends.{monitor_after-push, IsArmLegal-push}
-use Rattle.a32_instr.specs.declared.outside.Ask.{Ask}
-use Rattle.a32_instr.specs.declared.outside.Ask.TheVariants.{Load, LoadEx, Store, StoreEx, Clear}
-use Rattle.a32_instr.specs.declared.outside.Stop.{Stop}
+use Rattle.llsc_base.specs.declared.outside.Ask.{Ask}
+use Rattle.llsc_base.specs.declared.outside.Ask.TheVariants.{Load, LoadEx, Store, StoreEx, Clear}
+use Rattle.llsc_base.specs.declared.outside.Stop.{Stop}
 use Rattle.a32_step.specs.Machine.{Machine}
 use Rattle.guest_calls.specs.Pairs.{pairs_of, reply_of}
 use Rattle.guest_thread.proofs.Pushed.{thread_is}

@@ -7,7 +7,7 @@ use Rattle.llsc_base.specs.Sizes.{Numbers}
 use Rattle.history.specs.ArmLegal.{IsArmLegal}
 use Rattle.history.specs.Monitor.{Monitor, at_rest_by}
 use Rattle.history.specs.declared.entry.Access.{Access}
-use Rattle.a32_instr.specs.declared.outside.Stop.{Stop}
+use Rattle.llsc_base.specs.declared.outside.Stop.{Stop}
 use Rattle.guest_calls.specs.Run.{Pair, Ends}
 use Rattle.a32_step.specs.Machine.{Machine}
 use Rattle.history.specs.Accesses.{history_of}

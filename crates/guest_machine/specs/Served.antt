@@ -3,7 +3,7 @@ use Rattle.std.specs.Prelude.{◌≡◌, ◌+◌, ℕ, Option, Some, None}
 use Rattle.history.specs.Accesses.{entry_of}
 use Rattle.history.specs.ArmLegal.{MayAccess}
 use Rattle.history.specs.Monitor.{accessed}
-use Rattle.a32_instr.specs.declared.outside.Ask.{Ask}
+use Rattle.llsc_base.specs.declared.outside.Ask.{Ask}
 use Rattle.guest_calls.specs.Pairs.{reply_of}
 use Rattle.guest_thread.specs.Accesses.{access_by}
 use Rattle.guest_thread.specs.Counts.{reads_in, writes_in, fails_in}

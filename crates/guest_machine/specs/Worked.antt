@@ -8,7 +8,7 @@ use Rattle.history.specs.Monitor.{Monitor, at_rest_by, monitor_after}
 use Rattle.history.specs.declared.entry.Access.{Access}
 use Rattle.history.specs.declared.entry.Deed.TheVariants as deed
 use Rattle.history.specs.declared.entry.Entry.{Entry}
-use Rattle.a32_instr.specs.declared.outside.Stop.{Stop}
+use Rattle.llsc_base.specs.declared.outside.Stop.{Stop}
 use Rattle.guest_thread.specs.declared.ends.GuestEnd.{GuestEnd}
 use Rattle.run_record.specs.declared.records.RunRecord.{RunRecord}
 

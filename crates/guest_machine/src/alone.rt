@@ -4,11 +4,12 @@ ghost use Rattle.llsc_base.specs.Limits.{most_budget};
 ghost use Rattle.guest_machine.specs.Alone.{IsSoloEnd};
 
 use crate::serving::serve;
-use a32_step::{Ask, Code, Cpu, Port};
+use llsc_base::{Ask, Image, MachineSize};
+use guest_core::{Code, Port};
+use a32_step::Cpu;
 use guest_calls::reply_of;
 use guest_thread::{Counts, Guest, GuestEnd};
 use history::PlainMemory;
-use llsc_base::{Image, MachineSize};
 use std::alloc::{AllocError, Global};
 
 /// The memory that a thread has to itself, and how many accesses of each kind it made.

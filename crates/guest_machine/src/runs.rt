@@ -8,9 +8,10 @@ ghost use Rattle.guest_thread.specs.Outcome.{AreEndsOnOf};
 ghost use Rattle.guest_thread.specs.declared.ends.GuestEnd.{GuestEnd};
 ghost use denote.Param.Send.{IsSync, IsSend};
 
-use a32_step::{Core, Stop};
+use guest_core::Core;
+
+use llsc_base::{Image, Stop};
 use guest_thread::{Crew, Finished, GuestEnd, Job, Ran, begin, gather, run_thread, take_last};
-use llsc_base::Image;
 use shared_memory::SharedMemory;
 use std::sync::Wait;
 use std::thread::{Threads, join};

@@ -3,9 +3,10 @@ ghost use Rattle.std.specs.Prelude.{◌≡◌, IfOk, map};
 ghost use Rattle.std.specs.List.{range_with_len};
 ghost use Rattle.guest_machine.specs.Seats.{first_seat};
 
-use a32_step::{Remembering, Stop};
+use a32_step::Remembering;
+
+use llsc_base::{Image, MachineSize, Stop};
 use guest_thread::Guest;
-use llsc_base::{Image, MachineSize};
 use std::alloc::{AllocError, Global};
 
 /// A thread, and its stop once it has stopped.

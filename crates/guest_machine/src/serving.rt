@@ -6,9 +6,9 @@ ghost use Rattle.history.specs.Monitor.{IsAsLarge, accessed};
 ghost use Rattle.run_record.specs.Limits.{IsAccess};
 ghost use Rattle.guest_calls.specs.Pairs.{reply_of};
 ghost use Rattle.guest_thread.specs.Accesses.{access_by};
-ghost use Rattle.a32_step.specs.Ports.{IsAskIn, ReplyFits};
+ghost use Rattle.guest_core.specs.Ports.{IsAskIn, ReplyFits};
 
-use a32_step::Ask;
+use llsc_base::Ask;
 use guest_thread::tried_by;
 use history::{Access, PlainMemory};
 

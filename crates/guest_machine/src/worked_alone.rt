@@ -4,7 +4,7 @@ ghost use Rattle.history.specs.Worked.{beside, next_row, word};
 ghost use Rattle.guest_machine.specs.Alone.{AllFailUnmarked, FailsUnmarked, IsAlone, IsSoloEnd};
 ghost use Rattle.guest_machine.specs.Worked.{first_word, leaving, loading, lone_after, silent_end, small_machine, zeros};
 
-use a32_step::Stop;
+use llsc_base::Stop;
 use history::{Cause, Entry};
 
 /// A store-exclusive fails unmarked where its thread has no mark or one on another row, whose width is by the granule.

@@ -11,12 +11,13 @@ use Rattle.history.specs.declared.entry.Entry.{Entry}
 use Rattle.history.proofs.Born.{may-act-later}
 use Rattle.shared_memory.specs.Origin.{Origin}
 use Rattle.shared_memory.specs.Seen.{IsFront, IsSingle}
-use Rattle.a32_instr.specs.declared.outside.CallAsk.{CallAsk}
-use Rattle.a32_instr.specs.declared.outside.Stop.{Stop}
-use Rattle.a32_instr.specs.declared.outside.Stop.TheVariants as stop
-use Rattle.a32_step.specs.Machine.{Machine, a32, between, wanted_of, IsCalling}
-use Rattle.a32_step.specs.Phase.{Phase, Calling}
-use Rattle.a32_step.specs.Ports.{Leads}
+use Rattle.llsc_base.specs.declared.outside.CallAsk.{CallAsk}
+use Rattle.llsc_base.specs.declared.outside.Stop.{Stop}
+use Rattle.llsc_base.specs.declared.outside.Stop.TheVariants as stop
+use Rattle.a32_step.specs.Machine.{Machine, a32, Phase}
+use Rattle.guest_core.specs.Machine.{between, wanted_of, IsCalling}
+use Rattle.guest_core.specs.Phase.{Calling}
+use Rattle.guest_core.specs.Ports.{Leads}
 use Rattle.guest_calls.specs.Calls.{most_output}
 use Rattle.guest_calls.specs.Pairs.{pair_of, pairs_of}
 use Rattle.guest_calls.specs.Run.{Pair, Point, by_itself}

@@ -1,13 +1,13 @@
 -- What a thread comes to by a guest call.
 use Rattle.std.proofs.Common.{◌≡◌, ◌&&◌, true, false, ℕ, ◌+◌, ◌<◌, List, [], length, refl, sym, ap, ◌∙◌, subst, append-nil, add-zero, Some, None, MatchOption, Result, Ok, Err, Bool}
 use Rattle.llsc_base.specs.Images.{Program}
-use Rattle.a32_instr.specs.declared.outside.CallAsk.{CallAsk}
-use Rattle.a32_instr.specs.declared.outside.Stop.{Stop}
-use Rattle.a32_instr.specs.declared.outside.Stop.TheVariants as stop
-use Rattle.a32_instr.specs.State.{calls}
-use Rattle.a32_step.specs.declared.phases.Wanted.TheVariants as wanted
-use Rattle.a32_step.specs.Phase.{PhaseOf, Between, Inside, Awaiting, Calling, Stopped}
-use Rattle.a32_step.specs.Machine.{MachineOf, begins_of, moved_on, after_found_of, next_in_of, after_in_of, next_of, after_of, wanted_of, InstructionSet, returned_of}
+use Rattle.llsc_base.specs.declared.outside.CallAsk.{CallAsk}
+use Rattle.llsc_base.specs.declared.outside.Stop.{Stop}
+use Rattle.llsc_base.specs.declared.outside.Stop.TheVariants as stop
+use Rattle.llsc_base.specs.Effects.{calls}
+use Rattle.guest_core.specs.declared.phases.Wanted.TheVariants as wanted
+use Rattle.guest_core.specs.Phase.{PhaseOf, Between, Inside, Awaiting, Calling, Stopped}
+use Rattle.guest_core.specs.Machine.{MachineOf, begins_of, moved_on, after_found_of, next_in_of, after_in_of, next_of, after_of, wanted_of, InstructionSet, returned_of}
 use Rattle.guest_calls.specs.Calls.{CallEffect, exits, answers, is_start_call, writes_bytes}
 use Rattle.guest_calls.specs.Run.{Pair, byte_load, effect_of_call_of, ReachesByOf, EndsFromOf, returns, leaves, PointOf}
 use Rattle.guest_thread.specs.declared.guests.Called.{Called}

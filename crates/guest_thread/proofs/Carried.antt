@@ -2,15 +2,15 @@
 use Rattle.std.proofs.Common.{◌≡◌, ◌⊎◌, inl, inr, ℕ, ◌+◌, ◌<◌, ◌≤◌, List, [], ◌∷◌, ◌++◌, Option, Some, None, length, refl, sym, subst, ap, ◌∙◌, append_assoc, append-nil, arith, Bool}
 use Rattle.std.proofs.lemmas.List.{length-append}
 use Rattle.llsc_base.specs.Images.{Program}
-use Rattle.a32_instr.specs.declared.outside.Ask.{Ask}
-use Rattle.a32_step.specs.declared.phases.Passage.{Passage}
-use Rattle.a32_step.specs.declared.phases.Passage.TheVariants.{Complete, AtStart, UnderWay}
-use Rattle.a32_step.specs.declared.phases.Wanted.TheVariants as wanted
-use Rattle.a32_step.specs.Machine.{MachineOf, InstructionSet, between, IsReady, IsAwaiting, after_of, given, given_in, wanted_of}
-use Rattle.a32_step.specs.Phase.{PhaseOf, Between, Inside, Awaiting, Calling, Stopped}
-use Rattle.a32_step.specs.Passages.{ComesOf, starts, replied, EndsAtOf, IsCarriedOnOf}
-use Rattle.a32_step.specs.Ports.{Leads, goes, refused, stays}
-use Rattle.a32_step.proofs.Follows.{follows_of}
+use Rattle.llsc_base.specs.declared.outside.Ask.{Ask}
+use Rattle.guest_core.specs.declared.phases.Passage.{Passage}
+use Rattle.guest_core.specs.declared.phases.Passage.TheVariants.{Complete, AtStart, UnderWay}
+use Rattle.guest_core.specs.declared.phases.Wanted.TheVariants as wanted
+use Rattle.guest_core.specs.Machine.{MachineOf, InstructionSet, between, IsReady, IsAwaiting, after_of, given, given_in, wanted_of}
+use Rattle.guest_core.specs.Phase.{PhaseOf, Between, Inside, Awaiting, Calling, Stopped}
+use Rattle.guest_core.specs.Passages.{ComesOf, starts, replied, EndsAtOf, IsCarriedOnOf}
+use Rattle.guest_core.specs.Ports.{Leads, goes, refused, stays}
+use Rattle.guest_core.proofs.Follows.{follows_of}
 use Rattle.guest_calls.specs.Run.{Pair, ReachesByOf, accesses, steps_on, PointOf}
 use Rattle.guest_calls.specs.Calls.{most_output}
 use Rattle.guest_calls.proofs.FewAccesses.{given_one}

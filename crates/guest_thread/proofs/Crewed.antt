@@ -14,7 +14,7 @@ use Rattle.history.specs.declared.entry.Entry.{Entry}
 use Rattle.atomic_table.specs.Seated.{TableId}
 use Rattle.shared_memory.specs.Origin.{Origin}
 use Rattle.shared_memory.specs.Seen.{IsFront, IsOneOf, SaysAllOf, joint}
-use Rattle.a32_step.specs.Machine.{MachineOf, InstructionSet}
+use Rattle.guest_core.specs.Machine.{MachineOf, InstructionSet}
 use Rattle.guest_calls.specs.Pairs.{pair_of}
 use Rattle.guest_calls.specs.Run.{EndsOnOf}
 use Rattle.guest_thread.specs.Counts.{reads_of, writes_of, fails_of}

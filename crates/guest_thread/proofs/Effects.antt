@@ -1,11 +1,11 @@
 -- What is wanted names the effect.
 use Rattle.std.proofs.Common.{◌≡◌, refl}
-use Rattle.a32_instr.specs.declared.outside.Ask.{Ask}
-use Rattle.a32_instr.specs.declared.outside.CallAsk.{CallAsk}
-use Rattle.a32_instr.specs.declared.outside.Stop.{Stop}
-use Rattle.a32_instr.specs.State.{EffectOf, asks, calls, completes, stops}
-use Rattle.a32_step.specs.declared.phases.Wanted.TheVariants as wanted
-use Rattle.a32_step.specs.Machine.{wanted_of}
+use Rattle.llsc_base.specs.declared.outside.Ask.{Ask}
+use Rattle.llsc_base.specs.declared.outside.CallAsk.{CallAsk}
+use Rattle.llsc_base.specs.declared.outside.Stop.{Stop}
+use Rattle.llsc_base.specs.Effects.{EffectOf, asks, calls, completes, stops}
+use Rattle.guest_core.specs.declared.phases.Wanted.TheVariants as wanted
+use Rattle.guest_core.specs.Machine.{wanted_of}
 
 pub effect_asks : {S : Type 0} (effect : EffectOf S) (ask : Ask) → wanted.Access ask ≡ wanted_of effect → effect ≡ asks ask
 effect_asks (asks other) ask e = cc

@@ -8,9 +8,9 @@ use Rattle.llsc_base.specs.Sizes.{Numbers}
 use Rattle.history.specs.Parts.{accesses_of, entries_of}
 use Rattle.history.specs.declared.entry.Entry.{Entry}
 use Rattle.history.specs.declared.entry.Entry.TheVariants.{Read, Write, Fail, Clear, Watch, Miss, Begin, End, Start}
-use Rattle.a32_instr.specs.declared.outside.Ask.{Ask}
-use Rattle.a32_instr.specs.State.{asks}
-use Rattle.a32_step.specs.Machine.{MachineOf, InstructionSet, GoesOnWith, between, next_of}
+use Rattle.llsc_base.specs.declared.outside.Ask.{Ask}
+use Rattle.llsc_base.specs.Effects.{asks}
+use Rattle.guest_core.specs.Machine.{MachineOf, InstructionSet, GoesOnWith, between, next_of}
 use Rattle.guest_calls.specs.Bound.{most_accesses_in}
 use Rattle.guest_calls.specs.Pairs.{pair_of}
 use Rattle.guest_calls.proofs.FewAccesses.{few_accesses, steps_within}

@@ -2,18 +2,18 @@
 use Rattle.std.proofs.Common.{◌≡◌, inl, inr, ℕ, true, false, List, [], sym, subst, ap, ◌∙◌}
 use Rattle.llsc_base.specs.Images.{Program}
 use Rattle.history.specs.declared.entry.Entry.{Entry}
-use Rattle.a32_instr.specs.declared.outside.Stop.{Stop}
-use Rattle.a32_instr.specs.declared.outside.Stop.TheVariants.{TagLimit}
-use Rattle.a32_instr.specs.declared.outside.Ask.{Ask}
-use Rattle.a32_instr.specs.State.{asks, stops}
-use Rattle.a32_step.specs.Machine.{MachineOf, InstructionSet, next_of, between, GoesOn, IsOwn, PassesTests}
+use Rattle.llsc_base.specs.declared.outside.Stop.{Stop}
+use Rattle.llsc_base.specs.declared.outside.Stop.TheVariants.{TagLimit}
+use Rattle.llsc_base.specs.declared.outside.Ask.{Ask}
+use Rattle.llsc_base.specs.Effects.{asks, stops}
+use Rattle.guest_core.specs.Machine.{MachineOf, InstructionSet, next_of, between, GoesOn, IsOwn, PassesTests}
 use Rattle.guest_calls.specs.Pairs.{pairs_of}
 use Rattle.guest_calls.specs.Run.{Pair, first_point, EndsOnOf, by_itself}
 use Rattle.guest_thread.specs.Counting.{AreCounts, counts_in}
 use Rattle.guest_thread.specs.Outcome.{IsSpent, IsEndOnOf}
 use Rattle.guest_thread.specs.Ports.{EndsByOf}
 use Rattle.guest_thread.specs.Sharing.{SharingState, IsServedBy, RefusesAt}
-use Rattle.a32_step.specs.Ports.{Leads}
+use Rattle.guest_core.specs.Ports.{Leads}
 use Rattle.atomic_table.specs.Seated.{TableId}
 use Rattle.history.specs.Parts.{entries_of}
 use Rattle.shared_memory.specs.Origin.{Origin}

@@ -1,14 +1,15 @@
 -- A piece of a thread's run, from a point on: how far it comes, within how many steps, and by how many accesses.
 use Rattle.std.proofs.Common.{◌≡◌, inl, inr, ℕ, ◌+◌, ◌*◌, ◌≤◌, Bool, List, ◌++◌, length, refl, sym, ap, subst, ◌∙◌, arith}
 use Rattle.llsc_base.specs.Images.{Program}
-use Rattle.a32_instr.specs.declared.outside.CallAsk.{CallAsk}
-use Rattle.a32_instr.specs.declared.outside.Stop.{Stop}
-use Rattle.a32_instr.specs.declared.outside.Stop.TheVariants.{Budget, TagLimit}
-use Rattle.a32_step.specs.Machine.{Machine, a32, after_next, between, wanted_of, IsReady}
-use Rattle.a32_step.specs.Phase.{Phase, Between, Inside, Awaiting, Calling, Stopped}
-use Rattle.a32_step.specs.declared.phases.Wanted.TheVariants as wanted
+use Rattle.llsc_base.specs.declared.outside.CallAsk.{CallAsk}
+use Rattle.llsc_base.specs.declared.outside.Stop.{Stop}
+use Rattle.llsc_base.specs.declared.outside.Stop.TheVariants.{Budget, TagLimit}
+use Rattle.a32_step.specs.Machine.{Machine, a32, after_next, Phase}
+use Rattle.guest_core.specs.Machine.{between, wanted_of, IsReady, GoesOn}
+use Rattle.guest_core.specs.Phase.{Between, Inside, Awaiting, Calling, Stopped}
+use Rattle.guest_core.specs.declared.phases.Wanted.TheVariants as wanted
 use Rattle.a32_step.proofs.Follows.{next_follows}
-use Rattle.a32_step.proofs.Tested.{GoesOn, next_room}
+use Rattle.a32_step.proofs.Tested.{next_room}
 use Rattle.guest_calls.specs.Bound.{most_accesses_in}
 use Rattle.guest_calls.specs.Calls.{most_output}
 use Rattle.guest_calls.specs.Run.{Pair, Point, ReachesBy, begins, accesses, steps_on, returns, prints, EndsFrom, halts, leaves, spends, EndsOnFrom, by_itself, by_limit}

@@ -1,12 +1,12 @@
 -- What a thread keeps by a turn, and how far it comes by a byte.
 use Rattle.std.proofs.Common.{◌≡◌, ℕ, ◌+◌, ◌*◌, ◌≤◌, List, length, refl, sym, subst, ap, ◌∙◌, Result, Ok, Err}
 use Rattle.llsc_base.specs.Images.{Program}
-use Rattle.a32_instr.specs.declared.outside.CallAsk.{CallAsk}
-use Rattle.a32_instr.specs.declared.outside.Stop.{Stop}
-use Rattle.a32_instr.specs.State.{EffectOf, calls, stops}
-use Rattle.a32_step.specs.Phase.{PhaseOf, Between, Inside, Awaiting, Calling, Stopped}
-use Rattle.a32_step.specs.declared.phases.Wanted.TheVariants as wanted
-use Rattle.a32_step.specs.Machine.{MachineOf, begins_of, moved_on, after_found_of, next_in_of, after_in_of, next_of, after_of, wanted_of, InstructionSet}
+use Rattle.llsc_base.specs.declared.outside.CallAsk.{CallAsk}
+use Rattle.llsc_base.specs.declared.outside.Stop.{Stop}
+use Rattle.llsc_base.specs.Effects.{EffectOf, calls, stops}
+use Rattle.guest_core.specs.Phase.{PhaseOf, Between, Inside, Awaiting, Calling, Stopped}
+use Rattle.guest_core.specs.declared.phases.Wanted.TheVariants as wanted
+use Rattle.guest_core.specs.Machine.{MachineOf, begins_of, moved_on, after_found_of, next_in_of, after_in_of, next_of, after_of, wanted_of, InstructionSet}
 use Rattle.guest_calls.specs.Calls.{most_output}
 use Rattle.guest_thread.specs.Progress.{HasKept, IsBounded, progress_of}
 use Rattle.guest_thread.specs.ThreadState.{ThreadOf}

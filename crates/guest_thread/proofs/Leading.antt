@@ -1,8 +1,8 @@
 -- One port leads to another by all accesses of a way between them.
 use Rattle.std.proofs.Common.{ℕ, Option, List, [], ◌∷◌, ◌++◌, sym, subst, append_assoc, append-nil}
-use Rattle.a32_instr.specs.declared.outside.Ask.{Ask}
+use Rattle.llsc_base.specs.declared.outside.Ask.{Ask}
 use Rattle.guest_calls.specs.Run.{Pair}
-use Rattle.a32_step.specs.Ports.{Leads, goes, refused, stays}
+use Rattle.guest_core.specs.Ports.{Leads, goes, refused, stays}
 
 pub leads_on : {S : Type 0} (replies : S → Ask → Option ℕ → S → Type 0) (from at next : S) (pairs more : List Pair)
     → Leads replies from pairs at → Leads replies at more next → Leads replies from (pairs ++ more) next

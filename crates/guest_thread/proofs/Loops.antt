@@ -1,7 +1,7 @@
 -- What holds of a thread between two of its turns.
 use Rattle.std.proofs.Common.{ℕ, ◌≤◌, List}
 use Rattle.llsc_base.specs.Images.{Program}
-use Rattle.a32_step.specs.Machine.{MachineOf, InstructionSet}
+use Rattle.guest_core.specs.Machine.{MachineOf, InstructionSet}
 use Rattle.guest_calls.specs.Run.{Pair}
 use Rattle.guest_thread.specs.Progress.{IsBounded, HasKept}
 use Rattle.guest_thread.specs.ThreadState.{ThreadOf}

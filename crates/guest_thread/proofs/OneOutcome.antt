@@ -4,7 +4,8 @@ use Rattle.llsc_base.specs.Images.{Program}
 use Rattle.llsc_base.specs.Sizes.{Numbers}
 use Rattle.history.specs.Parts.{entries_of}
 use Rattle.history.specs.declared.entry.Entry.{Entry}
-use Rattle.a32_step.specs.Machine.{MachineOf, InstructionSet, a32}
+use Rattle.guest_core.specs.Machine.{MachineOf, InstructionSet}
+use Rattle.a32_step.specs.Machine.{a32}
 use Rattle.guest_calls.specs.Pairs.{pairs_of}
 use Rattle.guest_calls.specs.Run.{EndsOnOf, by_itself}
 use Rattle.guest_calls.proofs.Asked.{one_end_on}

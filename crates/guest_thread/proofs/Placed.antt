@@ -2,20 +2,20 @@
 use Rattle.std.proofs.Common.{◌≡◌, Bool, false, ℕ, ◌+◌, ◌≤◌, ◌%◌, List, length, refl, sym, ap, subst, arith}
 use Rattle.std.proofs.lemmas.Bool.{eq-eqb}
 use Rattle.llsc_base.specs.Images.{Program}
-use Rattle.a32_instr.specs.declared.outside.Ask.{Ask}
-use Rattle.a32_instr.specs.declared.outside.Stop.{Stop}
-use Rattle.a32_instr.specs.declared.outside.Stop.TheVariants as stop
-use Rattle.a32_instr.specs.State.{asks, stops}
-use Rattle.a32_step.specs.Phase.{PhaseOf, Between, Inside, Awaiting, Calling, Stopped}
-use Rattle.a32_step.specs.Machine.{Machine, MachineOf, next_of, PassesTests, a32, wanted_of, after_of, given_in, IsReady, IsAwaiting, InstructionSet}
-use Rattle.a32_step.specs.declared.phases.Wanted.TheVariants as wanted
-use Rattle.a32_step.proofs.Follows.{follows_of}
+use Rattle.llsc_base.specs.declared.outside.Ask.{Ask}
+use Rattle.llsc_base.specs.declared.outside.Stop.{Stop}
+use Rattle.llsc_base.specs.declared.outside.Stop.TheVariants as stop
+use Rattle.llsc_base.specs.Effects.{asks, stops}
+use Rattle.guest_core.specs.Phase.{PhaseOf, Between, Inside, Awaiting, Calling, Stopped}
+use Rattle.a32_step.specs.Machine.{Machine, a32}
+use Rattle.guest_core.specs.Machine.{MachineOf, next_of, PassesTests, wanted_of, after_of, given_in, IsReady, IsAwaiting, InstructionSet, IsOwn, GoesOn}
+use Rattle.guest_core.specs.declared.phases.Wanted.TheVariants as wanted
+use Rattle.guest_core.proofs.Follows.{follows_of}
 use Rattle.guest_calls.specs.Run.{Pair, PointOf, first_point, ReachesByOf, begins, accesses, steps_on, returns, prints, EndsFromOf, halts, leaves, spends, AsksFromOf, asks_access, asks_byte, Point, ReachesBy, EndsFrom, Ends, Asks}
 use Rattle.guest_calls.proofs.Written.{written_within}
-use Rattle.a32_step.specs.Ports.{IsPlaced}
-use Rattle.a32_step.proofs.Placed.{passed_placed}
-use Rattle.a32_step.proofs.Effects.{IsOwn}
-use Rattle.a32_step.proofs.Tested.{GoesOn, next_own, next_passes}
+use Rattle.guest_core.specs.Ports.{IsPlaced}
+use Rattle.guest_core.proofs.Placed.{passed_placed}
+use Rattle.a32_step.proofs.Tested.{next_own, next_passes}
 
 -- ---- what a thread asks for
 

@@ -8,7 +8,7 @@ use Rattle.history.specs.declared.entry.Entry.{Entry}
 use Rattle.atomic_table.specs.Seated.{TableId}
 use Rattle.shared_memory.specs.Origin.{Origin}
 use Rattle.shared_memory.specs.Seen.{IsOneOf, all_but}
-use Rattle.a32_step.specs.Machine.{MachineOf, InstructionSet}
+use Rattle.guest_core.specs.Machine.{MachineOf, InstructionSet}
 use Rattle.guest_thread.specs.Crews.{AreFresh, IsFresh, threads_of}
 use Rattle.guest_thread.specs.declared.crews.Job.{Job}
 

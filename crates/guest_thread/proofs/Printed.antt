@@ -2,8 +2,8 @@
 use Rattle.std.proofs.Common.{◌≡◌, ℕ, ◌+◌, ◌<◌, Bool, true, false, nat_lt, if◌then◌else◌, List, [], ◌∷◌, ◌++◌, length, refl, sym, ap, ◌∙◌, subst, append_assoc, length-append, add-zero, arith, Some}
 use Rattle.std.proofs.lemmas.Bool.Decides.{nat_tests}
 use Rattle.llsc_base.specs.Images.{Program}
-use Rattle.a32_instr.specs.declared.outside.Ask.{Ask}
-use Rattle.a32_step.specs.Machine.{after_of, InstructionSet, returned_of}
+use Rattle.llsc_base.specs.declared.outside.Ask.{Ask}
+use Rattle.guest_core.specs.Machine.{after_of, InstructionSet, returned_of}
 use Rattle.guest_calls.specs.Calls.{writes_bytes}
 use Rattle.guest_calls.specs.Run.{Pair, byte_load, byte_loads, ReachesByOf, AsksFromOf, prints, asks_byte, PointOf}
 use Rattle.guest_thread.specs.declared.guests.Printing.{Printing}

@@ -2,10 +2,10 @@
 use Rattle.std.proofs.Common.{◌≡◌, ℕ, List, subst, Option, None, Some, Bool}
 use Rattle.llsc_base.specs.Images.{Program}
 use Rattle.llsc_base.specs.declared.access.Place.{Place}
-use Rattle.a32_instr.specs.declared.outside.Ask.{Ask}
-use Rattle.a32_instr.specs.declared.outside.Ask.TheVariants.{Store}
-use Rattle.a32_instr.specs.declared.outside.Stop.TheVariants.{TagLimit}
-use Rattle.a32_step.specs.Machine.{InstructionSet}
+use Rattle.llsc_base.specs.declared.outside.Ask.{Ask}
+use Rattle.llsc_base.specs.declared.outside.Ask.TheVariants.{Store}
+use Rattle.llsc_base.specs.declared.outside.Stop.TheVariants.{TagLimit}
+use Rattle.guest_core.specs.Machine.{InstructionSet}
 use Rattle.guest_calls.specs.Run.{Pair, EndsOnFromOf, by_limit, PointOf}
 use Rattle.guest_thread.specs.ThreadState.{ThreadOf}
 use Rattle.guest_thread.specs.Under.{AwaitsFromOf, AwaitsByOf}

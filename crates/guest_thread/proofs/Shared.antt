@@ -14,8 +14,8 @@ use Rattle.shared_memory.specs.Origin.{Origin}
 use Rattle.history.proofs.Appends.{accesses_of-append, entries_of-append}
 use Rattle.history.proofs.Starts.{starts_from-own, starts_in-same}
 use Rattle.shared_memory.specs.Seen.{IsFront, IsUsedUp, Sees}
-use Rattle.a32_instr.specs.declared.outside.Ask.{Ask}
-use Rattle.a32_step.specs.Ports.{Leads, stays, goes, refused}
+use Rattle.llsc_base.specs.declared.outside.Ask.{Ask}
+use Rattle.guest_core.specs.Ports.{Leads, stays, goes, refused}
 use Rattle.guest_calls.specs.Pairs.{pair_of, pairs_of}
 use Rattle.guest_calls.specs.Run.{Pair}
 use Rattle.guest_thread.specs.Counting.{AreCounts, accesses_counted}

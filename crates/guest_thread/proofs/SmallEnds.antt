@@ -1,6 +1,6 @@
 -- The ends of the two threads of the program that leaves, and what differs from them.
 use Rattle.std.proofs.Common.{◌≡◌, ℕ, zero, suc, [], ◌∷◌, Some, slice_get, refl, subst}
-use Rattle.a32_instr.specs.declared.outside.Stop.TheVariants.{Exit}
+use Rattle.llsc_base.specs.declared.outside.Stop.TheVariants.{Exit}
 use Rattle.guest_calls.specs.Run.{by_itself}
 use Rattle.guest_thread.specs.End.{IsEndIn}
 use Rattle.guest_thread.specs.Ends.{AreEnds}

@@ -5,12 +5,13 @@ use Rattle.llsc_base.specs.Sizes.{Numbers}
 use Rattle.a32_instr.specs.Condition.{passes}
 use Rattle.a32_instr.specs.Fields.{alu_fits, alu_op, alu_unpredictable, index_fits, index_of, word_unpredictable}
 use Rattle.a32_instr.specs.Shift.{turned}
-use Rattle.a32_instr.specs.State.{asks, calls}
+use Rattle.llsc_base.specs.Effects.{asks, calls}
 use Rattle.a32_instr.specs.Table.{meaning}
-use Rattle.a32_instr.specs.declared.outside.Ask.TheVariants.{Load, Store}
-use Rattle.a32_instr.specs.declared.outside.CallAsk.{CallAsk}
-use Rattle.a32_instr.specs.declared.outside.Stop.TheVariants.{Exit, Budget, TagLimit}
-use Rattle.a32_step.specs.Machine.{Machine, after_next, given, next_effect}
+use Rattle.llsc_base.specs.declared.outside.Ask.TheVariants.{Load, Store}
+use Rattle.llsc_base.specs.declared.outside.CallAsk.{CallAsk}
+use Rattle.llsc_base.specs.declared.outside.Stop.TheVariants.{Exit, Budget, TagLimit}
+use Rattle.a32_step.specs.Machine.{Machine, after_next, next_effect}
+use Rattle.guest_core.specs.Machine.{given}
 use Rattle.guest_calls.specs.Run.{Reaches, begins, accesses, steps_on, Ends, leaves, spends, EndsOn, by_limit, Asks, asks_access}
 use Rattle.guest_thread.specs.Start.{thread_start}
 use Rattle.guest_thread.specs.Worked.{leaving, loading, storing, word}

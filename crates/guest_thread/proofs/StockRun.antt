@@ -2,7 +2,7 @@
 use Rattle.std.proofs.Common.{◌≡◌, ℕ, false, Option, Some, None, List, [], refl, sym, subst, ◌∙◌}
 use Rattle.llsc_base.specs.Images.{Program}
 use Rattle.history.specs.Starts.{Started}
-use Rattle.a32_instr.specs.declared.outside.Stop.{Stop}
+use Rattle.llsc_base.specs.declared.outside.Stop.{Stop}
 use Rattle.a32_step.specs.Machine.{Machine}
 use Rattle.guest_calls.specs.Run.{Pair, Point, first_point, begins, Reaches, EndsOn}
 use Rattle.guest_calls.proofs.Pieces.{ends_on_later, reaches_on}

@@ -1,9 +1,9 @@
 -- Ways of a thread over a port, one after another, of whatever instruction set.
 use Rattle.std.proofs.Common.{◌≡◌, ℕ, ◌<◌, Bool, List, [], ◌++◌, Option, length, sym, subst, ap, append_assoc, append-nil, arith}
 use Rattle.llsc_base.specs.Images.{Program}
-use Rattle.a32_instr.specs.declared.outside.Ask.{Ask}
-use Rattle.a32_step.specs.Machine.{InstructionSet}
-use Rattle.a32_step.specs.Ports.{Leads, stays}
+use Rattle.llsc_base.specs.declared.outside.Ask.{Ask}
+use Rattle.guest_core.specs.Machine.{InstructionSet}
+use Rattle.guest_core.specs.Ports.{Leads, stays}
 use Rattle.guest_calls.specs.Run.{Pair, PointOf}
 use Rattle.guest_thread.specs.Progress.{IsBounded, progress_of}
 use Rattle.guest_thread.specs.ThreadState.{ThreadOf}

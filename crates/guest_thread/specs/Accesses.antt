@@ -7,8 +7,8 @@ use Rattle.history.specs.Made.{made}
 use Rattle.history.specs.Monitor.{Monitor, at_rest_by, monitor_after}
 use Rattle.history.specs.declared.entry.Access.{Access}
 use Rattle.history.specs.declared.entry.Deed.TheVariants as deed
-use Rattle.a32_instr.specs.declared.outside.Ask.{Ask}
-use Rattle.a32_instr.specs.declared.outside.Ask.TheVariants.{Load, LoadEx, Store, StoreEx, Clear}
+use Rattle.llsc_base.specs.declared.outside.Ask.{Ask}
+use Rattle.llsc_base.specs.declared.outside.Ask.TheVariants.{Load, LoadEx, Store, StoreEx, Clear}
 
 -- the access that a thread tries by what it asks. A load is tried with no value, and CLREX has the place of one byte at
 -- address 0.

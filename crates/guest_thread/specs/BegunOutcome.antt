@@ -6,7 +6,7 @@ use Rattle.history.specs.Legal.{IsLegal, IsComplete}
 use Rattle.history.specs.Started.{AreBorn}
 use Rattle.history.specs.Starts.{starts_in}
 use Rattle.history.specs.declared.entry.Entry.{Entry}
-use Rattle.a32_instr.specs.declared.outside.Stop.TheVariants.{TagLimit}
+use Rattle.llsc_base.specs.declared.outside.Stop.TheVariants.{TagLimit}
 use Rattle.a32_step.specs.Machine.{Machine}
 use Rattle.guest_calls.specs.Pairs.{pairs_of}
 use Rattle.guest_thread.specs.Begun.{BeginsAs, begun_in, stock_of}

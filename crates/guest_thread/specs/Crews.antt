@@ -7,8 +7,8 @@ use Rattle.history.specs.Parts.{entries_of}
 use Rattle.history.specs.declared.entry.Entry.{Entry}
 use Rattle.shared_memory.specs.Origin.{Origin}
 use Rattle.shared_memory.specs.Seen.{IsOneOf, IsSingle}
-use Rattle.a32_instr.specs.declared.outside.Stop.TheVariants.{TagLimit}
-use Rattle.a32_step.specs.Machine.{MachineOf, InstructionSet}
+use Rattle.llsc_base.specs.declared.outside.Stop.TheVariants.{TagLimit}
+use Rattle.guest_core.specs.Machine.{MachineOf, InstructionSet}
 use Rattle.guest_thread.specs.Counting.{accesses_counted, counts_in}
 use Rattle.guest_thread.specs.Outcome.{IsEndOnOf}
 use Rattle.guest_thread.specs.Start.{thread_start_of}

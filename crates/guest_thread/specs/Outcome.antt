@@ -8,8 +8,9 @@ use Rattle.history.specs.Legal.{IsLegal, IsComplete}
 use Rattle.history.specs.Marked.{byte_place}
 use Rattle.history.specs.Started.{AreBorn}
 use Rattle.history.specs.declared.entry.Entry.{Entry}
-use Rattle.a32_instr.specs.declared.outside.Stop.TheVariants.{Exit, TagLimit}
-use Rattle.a32_step.specs.Machine.{MachineOf, Machine, InstructionSet, a32}
+use Rattle.llsc_base.specs.declared.outside.Stop.TheVariants.{Exit, TagLimit}
+use Rattle.guest_core.specs.Machine.{MachineOf, InstructionSet}
+use Rattle.a32_step.specs.Machine.{Machine, a32}
 use Rattle.guest_calls.specs.Run.{EndsOnOf}
 use Rattle.guest_calls.specs.Pairs.{pairs_of}
 use Rattle.guest_thread.specs.Counting.{AreCounts, counts_in}

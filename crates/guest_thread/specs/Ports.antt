@@ -1,9 +1,10 @@
 -- How a thread's run over a port ends.
 use Rattle.std.specs.Prelude.{◌≡◌, ◌⊎◌, ℕ, Bool, false, List, None}
 use Rattle.llsc_base.specs.Images.{Program}
-use Rattle.a32_instr.specs.declared.outside.Stop.{Stop}
-use Rattle.a32_instr.specs.declared.outside.Stop.TheVariants.{TagLimit}
-use Rattle.a32_step.specs.Machine.{MachineOf, Machine, InstructionSet, a32, between}
+use Rattle.llsc_base.specs.declared.outside.Stop.{Stop}
+use Rattle.llsc_base.specs.declared.outside.Stop.TheVariants.{TagLimit}
+use Rattle.guest_core.specs.Machine.{MachineOf, InstructionSet, between}
+use Rattle.a32_step.specs.Machine.{Machine, a32}
 use Rattle.guest_calls.specs.Run.{Pair, PointOf, Point, first_point, EndsFromOf, EndsOnFromOf}
 use Rattle.guest_thread.specs.Progress.{IsBounded}
 use Rattle.guest_thread.specs.ThreadState.{ThreadOf, ThreadState, IsReadyIn, StopsWithin}

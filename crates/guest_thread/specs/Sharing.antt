@@ -6,7 +6,7 @@ use Rattle.history.specs.Starts.{starts_in}
 use Rattle.history.specs.declared.entry.Entry.{Entry}
 use Rattle.shared_memory.specs.Origin.{Origin}
 use Rattle.shared_memory.specs.Seen.{IsFront}
-use Rattle.a32_instr.specs.declared.outside.Ask.{Ask}
+use Rattle.llsc_base.specs.declared.outside.Ask.{Ask}
 use Rattle.guest_calls.specs.Pairs.{pairs_of}
 use Rattle.guest_thread.specs.Counting.{AreCounts, accesses_counted}
 use Rattle.guest_thread.specs.Outcome.{IsSpent}

@@ -2,7 +2,8 @@
 use Rattle.std.specs.Prelude.{ℕ, ◌+◌, ◌*◌, [], None}
 use Rattle.llsc_base.specs.Images.{Program}
 use Rattle.llsc_base.specs.Sizes.{Numbers, room_of}
-use Rattle.a32_step.specs.Machine.{MachineOf, Machine, InstructionSet, a32, start_in}
+use Rattle.guest_core.specs.Machine.{MachineOf, InstructionSet, start_in}
+use Rattle.a32_step.specs.Machine.{Machine, a32}
 use Rattle.guest_thread.specs.ThreadState.{ThreadOf, ThreadState}
 
 module _ {I S : Type 0} (set : InstructionSet I S) where

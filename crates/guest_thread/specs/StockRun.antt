@@ -3,9 +3,9 @@ use Rattle.std.specs.Prelude.{◌≡◌, ℕ, ◌+◌, ◌%◌, ◌<◌, ◌==�
 use Rattle.std.specs.Option.{is_some}
 use Rattle.llsc_base.specs.Images.{Program}
 use Rattle.history.specs.Starts.{Started}
-use Rattle.a32_instr.specs.declared.outside.CallAsk.{CallAsk}
-use Rattle.a32_instr.specs.declared.outside.Stop.{Stop}
-use Rattle.a32_instr.specs.State.{calls}
+use Rattle.llsc_base.specs.declared.outside.CallAsk.{CallAsk}
+use Rattle.llsc_base.specs.declared.outside.Stop.{Stop}
+use Rattle.llsc_base.specs.Effects.{calls}
 use Rattle.a32_step.specs.Machine.{Machine, next_effect, after_next}
 use Rattle.guest_calls.specs.Calls.{is_start_call}
 use Rattle.guest_calls.specs.Run.{Pair, Point, first_point, returned, ReachesBy, EndsOnFrom}

@@ -1,10 +1,11 @@
 -- Where a guest thread stands between two of its accesses, and while it waits for the reply to one.
 use Rattle.std.specs.Prelude.{◌≡◌, ◌⊎◌, ℕ, ◌+◌, ◌-◌, ◌^◌, ◌<◌, ◌≤◌, List, length, Option, Some, None}
-use Rattle.a32_instr.specs.declared.outside.Ask.{Ask}
-use Rattle.a32_instr.specs.declared.outside.Stop.{Stop}
-use Rattle.a32_instr.specs.declared.outside.Stop.TheVariants.{Exit}
-use Rattle.a32_step.specs.Machine.{MachineOf, Machine, IsReady, IsAwaiting, IsCalling}
-use Rattle.a32_step.specs.Ports.{IsAskIn, ReplyFits}
+use Rattle.llsc_base.specs.declared.outside.Ask.{Ask}
+use Rattle.llsc_base.specs.declared.outside.Stop.{Stop}
+use Rattle.llsc_base.specs.declared.outside.Stop.TheVariants.{Exit}
+use Rattle.guest_core.specs.Machine.{MachineOf, IsReady, IsAwaiting, IsCalling}
+use Rattle.a32_step.specs.Machine.{Machine}
+use Rattle.guest_core.specs.Ports.{IsAskIn, ReplyFits}
 use Rattle.guest_calls.specs.Calls.{most_output}
 use Rattle.guest_thread.specs.declared.guests.Event.{Event}
 use Rattle.guest_thread.specs.declared.guests.Event.TheVariants as event

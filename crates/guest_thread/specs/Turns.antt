@@ -1,7 +1,8 @@
 -- What one turn makes of a guest thread between two accesses, none of which is awaited.
 use Rattle.std.specs.Prelude.{◌≡◌, ℕ, ◌+◌, ◌<◌, ◌≤◌, nat_lt, if◌then◌else◌, [], ◌∷◌, ◌++◌, length, Option, Some, None}
-use Rattle.a32_instr.specs.declared.outside.Stop.TheVariants as stop
-use Rattle.a32_step.specs.Machine.{InstructionSet, a32, returned_of, IsReady}
+use Rattle.llsc_base.specs.declared.outside.Stop.TheVariants as stop
+use Rattle.guest_core.specs.Machine.{InstructionSet, returned_of, IsReady}
+use Rattle.a32_step.specs.Machine.{a32}
 use Rattle.guest_calls.specs.Calls.{CallEffect, exits, answers, writes_bytes, most_output}
 use Rattle.guest_calls.specs.Run.{byte_load}
 use Rattle.guest_thread.specs.declared.guests.Printing.{Printing}

@@ -1,10 +1,11 @@
 -- A guest thread under way, as its run has it.
 use Rattle.std.specs.Prelude.{◌≡◌, ℕ, ◌+◌, ◌<◌, Bool, true, false, List, ◌++◌, length, Option, Some, None}
 use Rattle.llsc_base.specs.Images.{Program}
-use Rattle.a32_instr.specs.declared.outside.Ask.{Ask}
-use Rattle.a32_instr.specs.declared.outside.CallAsk.{CallAsk}
-use Rattle.a32_instr.specs.State.{asks, calls}
-use Rattle.a32_step.specs.Machine.{MachineOf, Machine, InstructionSet, a32, next_of, after_of}
+use Rattle.llsc_base.specs.declared.outside.Ask.{Ask}
+use Rattle.llsc_base.specs.declared.outside.CallAsk.{CallAsk}
+use Rattle.llsc_base.specs.Effects.{asks, calls}
+use Rattle.guest_core.specs.Machine.{MachineOf, InstructionSet, next_of, after_of}
+use Rattle.a32_step.specs.Machine.{Machine, a32}
 use Rattle.guest_calls.specs.Calls.{is_start_call, writes_bytes}
 use Rattle.guest_calls.specs.Run.{Pair, PointOf, Point, first_point, byte_load, byte_loads, effect_of_call_of, ReachesByOf, EndsFromOf, AsksFromOf}
 use Rattle.guest_thread.specs.declared.guests.Event.{Event}

@@ -8,7 +8,7 @@ use Rattle.history.specs.declared.entry.Access.{Access}
 use Rattle.history.specs.declared.entry.Deed.{Deed}
 use Rattle.history.specs.declared.entry.Entry.{Entry}
 use Rattle.history.specs.declared.entry.Entry.TheVariants.{Write, Begin, End}
-use Rattle.a32_instr.specs.declared.outside.Stop.{Stop}
+use Rattle.llsc_base.specs.declared.outside.Stop.{Stop}
 use Rattle.guest_thread.specs.declared.ends.GuestEnd.{GuestEnd}
 
 -- a machine of so many threads, with so many classes and writes of a class

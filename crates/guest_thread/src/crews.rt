@@ -7,7 +7,7 @@ ghost use Rattle.guest_thread.specs.Crews.{AreFresh, IsFresh, IsReady, threads_o
 
 use crate::ends::GuestEnd;
 use crate::starts::start_cpu;
-use a32_step::{Code, Core, Ready};
+use guest_core::{Code, Core, Ready};
 use guest_calls::Output;
 use llsc_base::Image;
 use shared_memory::SharedMemory;

@@ -1,4 +1,4 @@
-use a32_step::Stop;
+use llsc_base::Stop;
 use guest_calls::Output;
 
 /// How a guest thread ended.

@@ -6,7 +6,7 @@ ghost use Rattle.guest_thread.specs.Crews.{AreFresh, IsFresh};
 use crate::crews::Job;
 use crate::ends::GuestEnd;
 use crate::running::Finished;
-use a32_step::Core;
+use guest_core::Core;
 use llsc_base::Image;
 use shared_memory::SharedMemory;
 

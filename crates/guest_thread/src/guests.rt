@@ -2,10 +2,10 @@
 ghost use Rattle.std.specs.Prelude.{◌≡◌, ◌≤◌, ◌<◌, ◌+◌, ◌^◌, ℕ, Bool, List, [], None, Some, ◌∷◌, ◌++◌, length, true, IfNone, IfOk, IfSome, IsTrue, MatchOption};
 ghost use Rattle.llsc_base.specs.Limits.{most_budget};
 ghost use Rattle.llsc_base.specs.Images.{Program};
-ghost use Rattle.a32_instr.specs.declared.outside.Ask.{Ask};
-ghost use Rattle.a32_instr.specs.declared.outside.CallAsk.{CallAsk};
-ghost use Rattle.a32_step.specs.Phase as phase;
-ghost use Rattle.a32_step.specs.Machine.{MachineOf, IsReady, IsCalling};
+ghost use Rattle.llsc_base.specs.declared.outside.Ask.{Ask};
+ghost use Rattle.llsc_base.specs.declared.outside.CallAsk.{CallAsk};
+ghost use Rattle.guest_core.specs.Phase as phase;
+ghost use Rattle.guest_core.specs.Machine.{MachineOf, IsReady, IsCalling};
 ghost use Rattle.guest_calls.specs.Run.{Pair, PointOf, byte_load, effect_of_call_of};
 ghost use Rattle.guest_thread.specs.Ports.{IsAtRest};
 ghost use Rattle.guest_thread.specs.Progress.{HasKept, HasMoved, IsBounded};
@@ -15,9 +15,9 @@ ghost use Rattle.guest_thread.specs.Turns.{AfterCallOf, IsAtTurn, IsOneStepOn, a
 ghost use Rattle.guest_thread.specs.Under.{HasComeOf, HasComeFromOf, AwaitsOf, AwaitsFromOf, ComesToOf, ComesToEventOf};
 
 use crate::starts::start_cpu;
-use a32_step::{Ask, CallAsk, Core, Stop, Wanted};
+use llsc_base::{Ask, CallAsk, Image, MachineSize, Place, Size, Stop};
+use guest_core::{Core, Wanted};
 use guest_calls::{CallStep, Output, guest_call, is_start_call};
-use llsc_base::{Image, MachineSize, Place, Size};
 use std::alloc::{AllocError, Global};
 use std::marker::Model;
 

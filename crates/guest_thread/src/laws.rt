@@ -4,7 +4,7 @@ ghost use Rattle.llsc_base.specs.Images.{Program};
 ghost use Rattle.llsc_base.specs.Sizes.{Numbers};
 ghost use Rattle.history.specs.Starts.{Started};
 ghost use Rattle.history.specs.declared.entry.Entry.{Entry};
-ghost use Rattle.a32_instr.specs.declared.outside.Stop.{Stop};
+ghost use Rattle.llsc_base.specs.declared.outside.Stop.{Stop};
 ghost use Rattle.a32_step.specs.Machine.{Machine};
 ghost use Rattle.guest_calls.specs.Run.{Pair, Ends, EndsOn};
 ghost use Rattle.guest_thread.specs.BegunOutcome.{IsOutcomeFrom};
@@ -14,7 +14,7 @@ ghost use Rattle.guest_thread.specs.Start.{thread_start};
 ghost use Rattle.guest_thread.specs.StockRun.{IsStockRun};
 ghost use Rattle.guest_thread.specs.declared.ends.GuestEnd.{GuestEnd};
 
-use a32_step::Stop;
+use llsc_base::Stop;
 
 /// No run of a thread ends by itself since a class of rows has no write left: that is for memory to answer.
 pub fn runs_reach_no_limit()

@@ -3,10 +3,10 @@ ghost use Rattle.std.specs.Prelude.{◌≡◌, ◌<◌, ◌≤◌, ℕ, None, le
 ghost use Rattle.llsc_base.specs.Limits.{most_budget};
 ghost use Rattle.history.specs.Started.{MayAct};
 ghost use Rattle.shared_memory.specs.Seen.{IsSingle};
-ghost use Rattle.a32_instr.specs.declared.outside.CallAsk.{CallAsk};
-ghost use Rattle.a32_instr.specs.declared.outside.Stop.{Stop};
-ghost use Rattle.a32_step.specs.Machine.{between, IsCalling};
-ghost use Rattle.a32_step.specs.Phase.{Calling};
+ghost use Rattle.llsc_base.specs.declared.outside.CallAsk.{CallAsk};
+ghost use Rattle.llsc_base.specs.declared.outside.Stop.{Stop};
+ghost use Rattle.guest_core.specs.Machine.{between, IsCalling};
+ghost use Rattle.guest_core.specs.Phase.{Calling};
 ghost use Rattle.guest_thread.specs.Pieces.{CountFew, IsPiece, counts_by, ended_at, part_at};
 
 use crate::counts::Counts;
@@ -15,7 +15,9 @@ use crate::guests::Guest;
 use crate::in_pieces::InPieces;
 use crate::ports::Rest;
 use crate::running::Finished;
-use a32_step::{Code, Conditional, Cpu, Stop};
+use guest_core::Code;
+use a32_step::{Conditional, Cpu};
+use llsc_base::Stop;
 use guest_calls::Output;
 use shared_memory::SharedMemory;
 use std::sync::Wait;

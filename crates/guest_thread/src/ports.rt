@@ -3,8 +3,8 @@ ghost use Rattle.std.specs.Prelude.{◌≡◌, ◌<◌, ◌≤◌, ◌+◌, ◌*
 ghost use Rattle.llsc_base.specs.Images.{Program};
 ghost use Rattle.llsc_base.specs.Limits.{most_budget};
 ghost use Rattle.guest_calls.specs.Calls.{most_output};
-ghost use Rattle.a32_step.specs.Machine.{MachineOf};
-ghost use Rattle.a32_step.specs.Ports.{Leads};
+ghost use Rattle.guest_core.specs.Machine.{MachineOf};
+ghost use Rattle.guest_core.specs.Ports.{Leads};
 ghost use Rattle.guest_calls.specs.Run.{Pair, PointOf};
 ghost use Rattle.guest_thread.specs.Ports.{EndsByOf, IsRunning, RestsByOf, RestsWithin};
 ghost use Rattle.guest_thread.specs.Progress.{IsBounded, progress_of};
@@ -12,8 +12,8 @@ ghost use Rattle.guest_thread.specs.ThreadState.{thread_in};
 ghost use Rattle.guest_thread.specs.Under.{HasComeOf, HasComeFromOf};
 
 use crate::guests::{Event, Guest, Turn};
-use a32_step::{Ask, Code, Core, Passage, Port, Stop};
-use llsc_base::Image;
+use llsc_base::{Ask, Image, Stop};
+use guest_core::{Code, Core, Passage, Port};
 
 /// How a thread that may start others comes to rest.
 #[derive(Clone, Copy)]

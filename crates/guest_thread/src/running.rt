@@ -4,14 +4,15 @@ ghost use Rattle.llsc_base.specs.Limits.{most_budget};
 ghost use Rattle.history.specs.Parts.{accesses_of, entries_of};
 ghost use Rattle.history.specs.Started.{MayAct};
 ghost use Rattle.shared_memory.specs.Seen.{IsFront, IsSingle};
-ghost use Rattle.a32_step.specs.Machine.{between};
+ghost use Rattle.guest_core.specs.Machine.{between};
 ghost use Rattle.guest_calls.specs.Bound.{most_accesses_in};
 ghost use Rattle.guest_thread.specs.Outcome.{IsEndOnOf};
 
 use crate::ends::GuestEnd;
 use crate::guests::Guest;
 use crate::sharing::Sharing;
-use a32_step::{Code, Core, Stop};
+use guest_core::{Code, Core};
+use llsc_base::Stop;
 use guest_calls::Output;
 use shared_memory::SharedMemory;
 use std::sync::Wait;

@@ -4,11 +4,12 @@ ghost use Rattle.history.specs.Started.{MayAct};
 ghost use Rattle.shared_memory.specs.Seen.{IsSingle};
 ghost use Rattle.guest_thread.specs.Counting.{accesses_counted};
 ghost use Rattle.guest_thread.specs.Sharing.{IsServedBy};
-ghost use Rattle.a32_step.specs.Ports.{IsAskIn, IsRefused, ReplyFits};
-ghost use Rattle.a32_instr.specs.declared.outside.Ask.{Ask};
+ghost use Rattle.guest_core.specs.Ports.{IsAskIn, IsRefused, ReplyFits};
+ghost use Rattle.llsc_base.specs.declared.outside.Ask.{Ask};
 
 use crate::counts::Counts;
-use a32_step::{Ask, Port};
+use llsc_base::Ask;
+use guest_core::Port;
 use shared_memory::SharedMemory;
 use std::marker::Model;
 use std::sync::Wait;

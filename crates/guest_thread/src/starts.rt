@@ -2,7 +2,7 @@
 ghost use Rattle.std.specs.Prelude.{◌≡◌, ◌<◌};
 ghost use Rattle.guest_thread.specs.Start.{thread_start_of};
 
-use a32_step::Core;
+use guest_core::Core;
 use llsc_base::{Image, MachineSize};
 
 /// The core of a thread of a program at its start: at the program's entry, with its number, how many threads begin by themselves, and

@@ -2,14 +2,14 @@
 ghost use Rattle.std.specs.Prelude.{◌≡◌, ◌∷◌, ◌++◌, [], false, true, None, Some, replicate};
 ghost use Rattle.llsc_base.specs.Images.{program_of};
 ghost use Rattle.history.specs.Monitor.{at_rest, marked_row, monitor_after};
-ghost use Rattle.a32_step.specs.Phase.{Between};
+ghost use Rattle.guest_core.specs.Phase.{Between};
 ghost use Rattle.guest_thread.specs.Accesses.{access_by, monitor_of, tried_by};
 ghost use Rattle.guest_thread.specs.Counting.{AreCounts};
 ghost use Rattle.guest_thread.specs.Counts.{fails_in, fails_of, reads_in, reads_of, writes_in, writes_of};
 ghost use Rattle.guest_thread.specs.Start.{first_state, thread_start};
 ghost use Rattle.guest_thread.specs.Worked.{access, leaving, machine_of, store_of, word};
 
-use a32_step::Ask;
+use llsc_base::Ask;
 use history::{Cause, Deed, Entry};
 
 /// A thread begins at the entry with its number in r0 and the number of those that begin by themselves in r1; its stack is

@@ -8,9 +8,8 @@ ghost use Rattle.guest_thread.specs.Start.{thread_start};
 ghost use Rattle.guest_thread.specs.Worked.{access, end_of, leaving, loading, machine_of, next_row, store_of, storing, word};
 ghost use Rattle.guest_thread.specs.declared.ends.GuestEnd.{GuestEnd};
 
-use a32_step::Stop;
+use llsc_base::{Size, Stop};
 use history::{Deed, Entry};
-use llsc_base::Size;
 
 /// An end has the stop, the steps and the counts of its thread's accesses, whatever another thread's are.
 pub fn ends_of_a_thread()

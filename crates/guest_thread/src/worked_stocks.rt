@@ -1,10 +1,10 @@
 //! Worked cases of threads that a thread starts: what the call answers, and runs with a stock of numbers.
 ghost use Rattle.std.specs.Prelude.{◌≡◌, ◌∷◌, [], Some, None};
-ghost use Rattle.a32_instr.specs.declared.outside.Stop.{Stop};
+ghost use Rattle.llsc_base.specs.declared.outside.Stop.{Stop};
 ghost use Rattle.guest_calls.specs.Worked.{call, calling, thread_at};
 ghost use Rattle.guest_thread.specs.StockRun.{Comes, IsStockRun, start_answer, starts_after};
 
-use a32_step::Stop;
+use llsc_base::Stop;
 
 /// The first rule that fits: an address that isn't a multiple of 4 is none, then no number may be left, and else the next one is
 /// the answer.

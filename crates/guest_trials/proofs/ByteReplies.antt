@@ -3,10 +3,10 @@ use Rattle.std.proofs.Common.{ℕ, ◌^◌, ◌<◌, arith}
 use Rattle.llsc_base.specs.Memory.{size_bytes}
 use Rattle.llsc_base.specs.declared.access.Size.{Size}
 use Rattle.llsc_base.specs.declared.access.Size.TheVariants.{B1, B2, B4, B8}
-use Rattle.a32_instr.specs.declared.outside.Ask.{Ask}
-use Rattle.a32_instr.specs.declared.outside.Ask.TheVariants.{Load, LoadEx, Store, StoreEx, Clear}
+use Rattle.llsc_base.specs.declared.outside.Ask.{Ask}
+use Rattle.llsc_base.specs.declared.outside.Ask.TheVariants.{Load, LoadEx, Store, StoreEx, Clear}
 use Rattle.guest_thread.specs.ThreadState.{ThreadState, IsPending, MayGive}
-use Rattle.a32_step.specs.Ports.{ReplyFits}
+use Rattle.guest_core.specs.Ports.{ReplyFits}
 
 fits_size : (size : Size) (byte : ℕ) → byte < 256 → byte < 256 ^ size_bytes size
 fits_size B1 byte fits = omega arith

@@ -5,7 +5,7 @@ use Rattle.history.specs.Started.{MayAct}
 use Rattle.history.specs.declared.entry.Entry.{Entry}
 use Rattle.shared_memory.specs.Origin.{Origin}
 use Rattle.shared_memory.specs.Seen.{IsSingle}
-use Rattle.a32_step.specs.Machine.{between}
+use Rattle.guest_core.specs.Machine.{between}
 use Rattle.guest_thread.specs.Pieces.{CountFew, counts_by}
 use Rattle.guest_thread.specs.declared.pieces.Part.{Part}
 

@@ -1,10 +1,9 @@
 -- What the spans of a program say of the addresses in them.
 use Rattle.std.proofs.Common.{zero, ◌≡◌, ℕ, suc, ◌+◌, ◌<◌, ◌≤◌, ◌%◌, Bool, true, false, Some, None, List, [], ◌∷◌, length, refl, ◌∙◌, arith}
 use Rattle.std.specs.List.{position_or_len, list_any}
-use Rattle.std.specs.Prelude.{All, cond, nat_lt, position, not, nat_le, ◌&&◌, ◌||◌}
+use Rattle.std.specs.Prelude.{All, cond, nat_lt, position, not, nat_le, ◌&&◌, ◌||◌, slice_get}
 use Rattle.std.proofs.lemmas.List.Folds.{Any-from_list_any}
 use Rattle.std.specs.Option.{option_map_or}
-use Rattle.std.specs.Prelude.{slice_get}
 use Rattle.llsc_base.specs.Images.{serves, IsProgram, IsSpan, holds_word, program_of, runs_at}
 use Rattle.llsc_base.specs.declared.images.Span.{Span}
 

@@ -4,3 +4,7 @@ pub mod Sizes
 pub mod Hulls
 pub mod Images
 pub mod Flat
+pub mod Faults
+pub mod Bits
+pub mod Words
+pub mod Effects

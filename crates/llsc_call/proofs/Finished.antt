@@ -12,7 +12,8 @@ use Rattle.history.specs.Monitor.{at_rest_by, monitor_after}
 use Rattle.history.specs.Parts.{accesses_of}
 use Rattle.history.specs.Started.{AreBorn}
 use Rattle.history.specs.declared.entry.Entry.{Entry}
-use Rattle.a32_step.specs.Machine.{InstructionSet, a32}
+use Rattle.guest_core.specs.Machine.{InstructionSet}
+use Rattle.a32_step.specs.Machine.{a32}
 use Rattle.guest_thread.specs.BegunOutcome.{AreBegunEnds, IsOutcomeFrom}
 use Rattle.guest_thread.specs.Counting.{accesses_counted, counts_in}
 use Rattle.guest_thread.specs.Outcome.{AreEndsOnOf, IsOutcomeOf}

@@ -9,8 +9,8 @@ use Rattle.history.specs.Monitor.{Monitor, is_on, marked_row}
 use Rattle.history.specs.declared.entry.Access.{Access}
 use Rattle.history.specs.declared.entry.Deed.{Deed}
 use Rattle.history.specs.declared.entry.Deed.TheVariants as deed
-use Rattle.a32_instr.specs.declared.outside.Ask.{Ask}
-use Rattle.a32_instr.specs.declared.outside.Ask.TheVariants.{Load, LoadEx, Store, StoreEx, Clear}
+use Rattle.llsc_base.specs.declared.outside.Ask.{Ask}
+use Rattle.llsc_base.specs.declared.outside.Ask.TheVariants.{Load, LoadEx, Store, StoreEx, Clear}
 use Rattle.guest_machine.specs.Turns.{Takes, begins, makes, stops, IsTrace}
 use Rattle.guest_thread.specs.Accesses.{access_by, monitor_of}
 use Rattle.guest_machine.proofs.AllEnded.{all_ended}

@@ -9,8 +9,8 @@ use Rattle.elf32.specs.Units.{unit_byte, unit_image}
 use Rattle.elf32.specs.declared.units.Unit.{Unit}
 use Rattle.guest_gen.specs.Counters.{AreInRange, fault_of, is_rounds}
 use Rattle.guest_gen.proofs.Counted.{counters_hold, most}
-use Rattle.a32_instr.specs.declared.outside.Stop.{Stop}
-use Rattle.a32_instr.specs.declared.outside.Stop.TheVariants as stop
+use Rattle.llsc_base.specs.declared.outside.Stop.{Stop}
+use Rattle.llsc_base.specs.declared.outside.Stop.TheVariants as stop
 use Rattle.guest_gen.specs.declared.faults.GenFault.{GenFault}
 use Rattle.guest_gen.specs.declared.faults.GenFault.TheVariants as gen
 use Rattle.history.specs.declared.entry.Entry.{Entry}

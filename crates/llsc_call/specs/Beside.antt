@@ -6,7 +6,7 @@ use Rattle.row_bytes.specs.Cell.{cell_at}
 use Rattle.history.specs.Monitor.{at_rest_by, monitor_after}
 use Rattle.history.specs.Parts.{accesses_of}
 use Rattle.history.specs.declared.entry.Entry.{Entry}
-use Rattle.a32_step.specs.Machine.{InstructionSet}
+use Rattle.guest_core.specs.Machine.{InstructionSet}
 use Rattle.guest_thread.specs.BegunOutcome.{IsOutcomeFrom}
 use Rattle.guest_thread.specs.Outcome.{IsOutcomeOf}
 use Rattle.guest_thread.specs.declared.ends.GuestEnd.{GuestEnd}

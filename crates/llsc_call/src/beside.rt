@@ -5,7 +5,7 @@ ghost use Rattle.version_memory.specs.Memory.{story_history};
 ghost use Rattle.a32_step.specs.Machine.{a32};
 ghost use Rattle.llsc_call.specs.Beside.{Ran as HasRun, RanFrom};
 
-use a32_step::Core;
+use guest_core::Core;
 use guest_family::{prepare_family, run_family};
 use guest_machine::run_all;
 use guest_thread::{Crew, GuestEnd, Ran, prepare};

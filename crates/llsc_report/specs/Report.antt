@@ -3,8 +3,8 @@ use Rattle.std.specs.Prelude.{ℕ, ◌<◌, ◌^◌, List, ◌++◌, length, cod
 use Rattle.std.specs.Fmt.{decimal}
 use Rattle.std.specs.List.{flat_map, sum_by}
 use Rattle.number_text.specs.Hexadecimal.{word_text}
-use Rattle.a32_instr.specs.declared.outside.Stop.{Stop}
-use Rattle.a32_instr.specs.declared.outside.Stop.TheVariants.{Exit, Undefined, Unpredictable, Alignment, Outside, ReadOnly, Thumb, Budget, TagLimit}
+use Rattle.llsc_base.specs.declared.outside.Stop.{Stop}
+use Rattle.llsc_base.specs.declared.outside.Stop.TheVariants.{Exit, Undefined, Unpredictable, Alignment, Outside, ReadOnly, Thumb, Budget, TagLimit}
 use Rattle.guest_thread.specs.declared.ends.GuestEnd.{GuestEnd}
 
 -- a stop by its name and its number: a code, an address, or for the budget the budget itself

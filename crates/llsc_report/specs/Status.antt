@@ -1,8 +1,8 @@
 -- The status by the stops of threads.
 use Rattle.std.specs.Prelude.{ℕ, ◌==◌, if◌then◌else◌, Bool, List}
 use Rattle.std.specs.List.{list_all}
-use Rattle.a32_instr.specs.declared.outside.Stop.{Stop}
-use Rattle.a32_instr.specs.declared.outside.Stop.TheVariants as stop
+use Rattle.llsc_base.specs.declared.outside.Stop.{Stop}
+use Rattle.llsc_base.specs.declared.outside.Stop.TheVariants as stop
 use Rattle.guest_thread.specs.declared.ends.GuestEnd.{GuestEnd}
 
 -- 0 where a thread left by an exit call with code 0, else 1

@@ -2,7 +2,7 @@
 ghost use Rattle.std.specs.Prelude.{◌≡◌, ◌⊎◌};
 ghost use Rattle.llsc_report.specs.Status.{have_left, status_of, status_of_all};
 
-use a32_step::Stop;
+use llsc_base::Stop;
 use guest_thread::GuestEnd;
 
 /// 0 where a thread left by an exit call with code 0, else 1.

@@ -2,7 +2,7 @@
 ghost use Rattle.std.specs.Prelude.{◌≡◌, codes};
 ghost use Rattle.llsc_report.specs.Report.{stop_text};
 
-use a32_step::Stop;
+use llsc_base::Stop;
 
 /// A stop is shown by its name and its number: a code in decimal, an address as eight digits, and where the steps are spent
 /// the budget.

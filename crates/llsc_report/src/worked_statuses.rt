@@ -3,7 +3,7 @@ ghost use Rattle.std.specs.Prelude.{◌≡◌, ◌∷◌, [], false, true};
 ghost use Rattle.guest_thread.specs.Worked.{end_of};
 ghost use Rattle.llsc_report.specs.Status.{have_left, status_of, status_of_all};
 
-use a32_step::Stop;
+use llsc_base::Stop;
 
 /// The status of a thread is 0 where it left by the exit call with code 0, and 1 where it left with another code or
 /// stopped otherwise.

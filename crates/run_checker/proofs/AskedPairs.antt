@@ -8,11 +8,11 @@ use Rattle.llsc_base.specs.declared.access.Size.TheVariants.{B1, B2, B4, B8}
 use Rattle.history.specs.declared.entry.Access.{Access}
 use Rattle.history.specs.declared.entry.Deed.{Deed}
 use Rattle.history.specs.declared.entry.Deed.TheVariants as deed
-use Rattle.a32_instr.specs.declared.outside.Ask.{Ask}
-use Rattle.a32_instr.specs.declared.outside.Ask.TheVariants as ask
+use Rattle.llsc_base.specs.declared.outside.Ask.{Ask}
+use Rattle.llsc_base.specs.declared.outside.Ask.TheVariants as ask
 use Rattle.guest_calls.specs.Pairs.{pair_of}
 use Rattle.history.specs.Accesses.{entry_by, entry_of}
-use Rattle.a32_step.specs.Ports.{IsPlaced, ReplyFits}
+use Rattle.guest_core.specs.Ports.{IsPlaced, ReplyFits}
 use Rattle.run_checker.specs.Verdict.{fits, is_asked, is_place}
 
 -- ---- places

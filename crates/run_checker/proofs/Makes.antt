@@ -4,7 +4,7 @@ use Rattle.llsc_base.specs.Images.{Program}
 use Rattle.llsc_base.specs.Sizes.{Numbers}
 use Rattle.history.specs.Monitor.{Monitor, accessed}
 use Rattle.history.specs.declared.entry.Access.{Access}
-use Rattle.a32_instr.specs.declared.outside.Ask.{Ask}
+use Rattle.llsc_base.specs.declared.outside.Ask.{Ask}
 use Rattle.a32_step.specs.Machine.{Machine}
 use Rattle.guest_calls.specs.Run.{Pair}
 use Rattle.guest_calls.specs.Pairs.{pair_of, pairs_in}

@@ -5,7 +5,7 @@ use Rattle.llsc_base.specs.Sizes.{Numbers}
 use Rattle.history.specs.declared.entry.Access.{Access}
 use Rattle.history.specs.declared.entry.Deed.{Deed}
 use Rattle.history.specs.declared.entry.Deed.TheVariants as deed
-use Rattle.a32_instr.specs.declared.outside.Ask.{Ask}
+use Rattle.llsc_base.specs.declared.outside.Ask.{Ask}
 use Rattle.a32_step.specs.Machine.{a32}
 use Rattle.guest_calls.proofs.Asked.{one_ask, asks_or_ends}
 use Rattle.guest_thread.specs.Ended.{HasEnded}

@@ -1,6 +1,6 @@
 -- Verdicts on accesses of the small programs.
 use Rattle.std.proofs.Common.{[], ◌∷◌, lit<, refl}
-use Rattle.a32_instr.specs.declared.outside.Ask.TheVariants.{Load}
+use Rattle.llsc_base.specs.declared.outside.Ask.TheVariants.{Load}
 use Rattle.run_checker.specs.Verdict.{Judges, good, unfinished, wrong}
 use Rattle.run_checker.specs.Worked.{leaving, loading, small_machine, word}
 use Rattle.run_checker.specs.declared.verdicts.Reason.TheVariants.{AfterStop, Unfinished, WrongValue}

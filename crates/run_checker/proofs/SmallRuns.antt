@@ -5,8 +5,8 @@ use Rattle.a32_instr.specs.Condition.{passes}
 use Rattle.a32_instr.specs.Fields.{alu_op, alu_fits, alu_unpredictable, exclusive_size, index_fits, index_of, no_pair, one_of_2_is_pc, one_of_3_is_pc, status_clashes, word_unpredictable}
 use Rattle.a32_instr.specs.Shift.{turned}
 use Rattle.a32_instr.specs.Table.{meaning}
-use Rattle.a32_instr.specs.declared.outside.Ask.TheVariants.{Load, LoadEx, StoreEx}
-use Rattle.a32_instr.specs.declared.outside.Stop.TheVariants.{Exit}
+use Rattle.llsc_base.specs.declared.outside.Ask.TheVariants.{Load, LoadEx, StoreEx}
+use Rattle.llsc_base.specs.declared.outside.Stop.TheVariants.{Exit}
 use Rattle.guest_calls.specs.Run.{Asks, Ends, asks_access, accesses, begins, steps_on, leaves}
 use Rattle.guest_thread.specs.Start.{thread_start}
 use Rattle.run_checker.specs.Worked.{leaving, loading, small_machine, storing, taking, word}

@@ -4,8 +4,8 @@ use Rattle.llsc_base.specs.Memory.{bytes_of, number_of, row_of}
 use Rattle.history.specs.declared.entry.Access.{Access}
 use Rattle.history.specs.declared.entry.Deed.TheVariants as deed
 use Rattle.history.proofs.SmallMemory.{apart}
-use Rattle.a32_instr.specs.declared.outside.Ask.TheVariants.{Load, LoadEx, StoreEx}
-use Rattle.a32_instr.specs.declared.outside.Stop.TheVariants.{Exit}
+use Rattle.llsc_base.specs.declared.outside.Ask.TheVariants.{Load, LoadEx, StoreEx}
+use Rattle.llsc_base.specs.declared.outside.Stop.TheVariants.{Exit}
 use Rattle.guest_thread.specs.Ended.{HasEnded}
 use Rattle.run_checker.specs.Verdict.{IsRight, IsWrong, Judges, good}
 use Rattle.run_checker.specs.Worked.{access_as, small_machine, taking, word}

@@ -4,8 +4,8 @@ use Rattle.llsc_base.specs.Memory.{number_of}
 use Rattle.history.specs.declared.entry.Access.{Access}
 use Rattle.history.specs.declared.entry.Deed.TheVariants as deed
 use Rattle.history.proofs.SmallMemory.{apart}
-use Rattle.a32_instr.specs.declared.outside.Ask.TheVariants.{Load, StoreEx}
-use Rattle.a32_instr.specs.declared.outside.Stop.TheVariants.{Exit}
+use Rattle.llsc_base.specs.declared.outside.Ask.TheVariants.{Load, StoreEx}
+use Rattle.llsc_base.specs.declared.outside.Stop.TheVariants.{Exit}
 use Rattle.guest_thread.specs.Ended.{HasEnded}
 use Rattle.run_checker.specs.Verdict.{AreRight, IsRight, IsWrong}
 use Rattle.run_checker.specs.Worked.{access_as, leaving, loading, small_machine, storing, word}

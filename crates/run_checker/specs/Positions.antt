@@ -11,7 +11,7 @@ use Rattle.guest_thread.specs.Under.{HasCome}
 use Rattle.guest_thread.specs.Accesses.{monitor_of}
 use Rattle.guest_thread.specs.Ended.{HasEnded}
 use Rattle.run_checker.specs.Verdict.{AsksNext, IsRight}
-use Rattle.a32_instr.specs.declared.outside.Ask.{Ask}
+use Rattle.llsc_base.specs.declared.outside.Ask.{Ask}
 use Rattle.run_checker.specs.declared.checker.Checker.{Checker}
 
 -- a thread is where its accesses have brought it

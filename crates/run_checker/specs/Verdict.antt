@@ -8,8 +8,8 @@ use Rattle.history.specs.Monitor.{Monitor, is_on, marked_row}
 use Rattle.history.specs.declared.entry.Access.{Access}
 use Rattle.history.specs.declared.entry.Deed.{Deed}
 use Rattle.history.specs.declared.entry.Deed.TheVariants as deed
-use Rattle.a32_instr.specs.declared.outside.Ask.{Ask}
-use Rattle.a32_instr.specs.declared.outside.Ask.TheVariants.{Load, LoadEx, Store, StoreEx, Clear}
+use Rattle.llsc_base.specs.declared.outside.Ask.{Ask}
+use Rattle.llsc_base.specs.declared.outside.Ask.TheVariants.{Load, LoadEx, Store, StoreEx, Clear}
 use Rattle.guest_calls.specs.Run.{Asks}
 use Rattle.guest_calls.specs.Pairs.{pairs_in}
 use Rattle.guest_thread.specs.Start.{thread_start}

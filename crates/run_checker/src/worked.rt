@@ -3,7 +3,7 @@ ghost use Rattle.std.specs.Prelude.{◌≡◌, ◌∷◌, [], false, true};
 ghost use Rattle.run_checker.specs.Verdict.{HasWrongValue, LacksReservation, is_asked, is_load, is_place};
 ghost use Rattle.run_checker.specs.Worked.{access_as, beside, low_byte, next_row, word, zeros_after};
 
-use a32_step::Ask;
+use llsc_base::Ask;
 use history::{Deed, Entry};
 
 /// Places are the same where their addresses and their sizes are.

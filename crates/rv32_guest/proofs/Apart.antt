@@ -4,8 +4,8 @@ use Rattle.std.specs.List.{list_all}
 use Rattle.std.proofs.lemmas.Bool.{and_parts}
 use Rattle.std.proofs.lemmas.List.Elements.{All-cons, All-nil}
 use Rattle.std.proofs.lemmas.List.Kept.{AllPairs-cons}
-use Rattle.a32_instr.specs.Bits.{runs_of}
-use Rattle.a32_instr.proofs.Apart.{clash, clash_apart}
+use Rattle.llsc_base.specs.Bits.{runs_of}
+use Rattle.llsc_base.proofs.Clashes.{clash, clash_apart}
 use Rattle.rv32_guest.specs.Table.{Row, AreApart, table}
 
 abbrev rows_clash : Row → Row → Bool

@@ -1,14 +1,14 @@
 -- A machine whose instruction was carried on over a port.
 use Rattle.std.proofs.Common.{◌≡◌, ℕ, Option, Some, None, List, [], ◌∷◌, Ok, refl, sym, ap, subst, ◌∙◌}
 use Rattle.llsc_base.specs.Images.{Program}
-use Rattle.a32_instr.specs.declared.outside.Ask.{Ask}
-use Rattle.a32_instr.specs.State.{asks, completes}
-use Rattle.a32_step.specs.declared.phases.Passage.{Passage}
-use Rattle.a32_step.specs.declared.phases.Passage.TheVariants.{Complete, AtStart, UnderWay}
-use Rattle.a32_step.specs.Phase as phase
-use Rattle.a32_step.specs.Machine.{after_found_of, after_of, begins_of, between, given, moved_on, next_of, IsReady}
-use Rattle.a32_step.specs.Passages.{ComesOf, EndsAtOf, IsCarriedOnOf, starts, replied}
-use Rattle.a32_step.specs.Ports.{goes, refused, stays}
+use Rattle.llsc_base.specs.declared.outside.Ask.{Ask}
+use Rattle.llsc_base.specs.Effects.{asks, completes}
+use Rattle.guest_core.specs.declared.phases.Passage.{Passage}
+use Rattle.guest_core.specs.declared.phases.Passage.TheVariants.{Complete, AtStart, UnderWay}
+use Rattle.guest_core.specs.Phase as phase
+use Rattle.guest_core.specs.Machine.{after_found_of, after_of, begins_of, between, given, moved_on, next_of, IsReady}
+use Rattle.guest_core.specs.Passages.{ComesOf, EndsAtOf, IsCarriedOnOf, starts, replied}
+use Rattle.guest_core.specs.Ports.{goes, refused, stays}
 use Rattle.rv32_guest.specs.declared.cpu.Stage.TheVariants as stage
 use Rattle.rv32_guest.specs.declared.cpu.RvCpu.TheInside as fields
 use Rattle.rv32_guest.specs.declared.instructions.RvInstr.{RvInstr}

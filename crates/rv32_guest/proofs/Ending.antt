@@ -1,8 +1,8 @@
 -- The stops of a run.
 use Rattle.std.proofs.Common.{ℕ, List, false}
 use Rattle.llsc_base.specs.Images.{Program}
-use Rattle.a32_instr.specs.declared.outside.Stop.{Stop}
-use Rattle.a32_step.specs.Machine.{GoesOn}
+use Rattle.llsc_base.specs.declared.outside.Stop.{Stop}
+use Rattle.guest_core.specs.Machine.{GoesOn}
 use Rattle.guest_calls.specs.Run.{Pair, EndsOf, first_point, halts, leaves, spends}
 use Rattle.guest_thread.proofs.Placed.{reached_goes_of}
 use Rattle.rv32_guest.specs.Machine.{Machine, rv32}

@@ -2,9 +2,9 @@
 use Rattle.std.proofs.Common.{◌≡◌, ℕ, suc, Bool, true, false, if◌then◌else◌, IsTrue, List, [], ◌∷◌, All, AllPairs, Result, Ok, Err, arith, refl, sym, ◌∙◌}
 use Rattle.std.proofs.lemmas.Bool.{both_ways}
 use Rattle.std.proofs.lemmas.List.Elements.{All-cons, All-nil, All-head, All-tail}
-use Rattle.a32_instr.specs.Bits.{field}
-use Rattle.a32_instr.specs.declared.instructions.DecodeFault.{DecodeFault}
-use Rattle.a32_instr.specs.declared.instructions.DecodeFault.TheVariants.{Undefined, Unpredictable}
+use Rattle.llsc_base.specs.Bits.{field}
+use Rattle.llsc_base.specs.declared.decoding.DecodeFault.{DecodeFault}
+use Rattle.llsc_base.specs.declared.decoding.DecodeFault.TheVariants.{Undefined, Unpredictable}
 use Rattle.rv32_guest.specs.declared.instructions.RvInstr.{RvInstr}
 use Rattle.rv32_guest.specs.Table.{Row, fits, outcome, meaning, AreApart, FitsNone, MeansItsRow}
 

@@ -3,9 +3,9 @@ use Rattle.std.proofs.Common.{◌≡◌, ℕ, ◌+◌, ◌-◌, ◌/◌, ◌%◌
 use Rattle.std.specs.List.{list_any, list_all}
 use Rattle.std.proofs.lemmas.Bool.{and_parts, or_cases, eqb-true, leb-true, both_ways, false_from_ne_true}
 use Rattle.std.proofs.lemmas.Nat.{mod-pow-add}
-use Rattle.a32_instr.specs.Bits.{Run, bits_of, has_all, runs_of}
-use Rattle.a32_instr.specs.declared.instructions.DecodeFault.{DecodeFault}
-use Rattle.a32_instr.specs.declared.instructions.DecodeFault.TheVariants.{Undefined}
+use Rattle.llsc_base.specs.Bits.{Run, bits_of, has_all, runs_of}
+use Rattle.llsc_base.specs.declared.decoding.DecodeFault.{DecodeFault}
+use Rattle.llsc_base.specs.declared.decoding.DecodeFault.TheVariants.{Undefined}
 use Rattle.rv32_guest.specs.declared.instructions.RvInstr.{RvInstr}
 use Rattle.rv32_guest.specs.Table.{Row, fits, table, meaning}
 use Rattle.rv32_guest.specs.Rows.{Fits, NoneFits, FollowsRows, Decides}

@@ -1,8 +1,8 @@
 -- A core that is between two instructions.
 use Rattle.std.proofs.Common.{◌≡◌, refl, sym, ap, subst}
-use Rattle.a32_step.specs.Phase.{PhaseOf}
-use Rattle.a32_step.specs.Phase as phase
-use Rattle.a32_step.specs.Machine.{between}
+use Rattle.guest_core.specs.Phase.{PhaseOf}
+use Rattle.guest_core.specs.Phase as phase
+use Rattle.guest_core.specs.Machine.{between}
 use Rattle.rv32_guest.specs.Inside.{phase_of}
 use Rattle.rv32_guest.specs.Machine.{Machine}
 use Rattle.rv32_guest.specs.declared.cpu.Stage.{Stage}

@@ -1,10 +1,10 @@
 -- From what holds of an answer at each row of a list to what the rows say, and the rows that a word can fit, by bits that are known of it.
 use Rattle.std.proofs.Common.{◌≡◌, ℕ, Bool, true, false, if◌then◌else◌, IsTrue, List, [], ◌∷◌, Result, Err, refl}
 use Rattle.std.proofs.lemmas.Bool.{eq-eqb}
-use Rattle.a32_instr.specs.Bits.{Run, bits_of, has_all, runs_of}
-use Rattle.a32_instr.specs.declared.instructions.DecodeFault.{DecodeFault}
-use Rattle.a32_instr.specs.declared.instructions.DecodeFault.TheVariants.{Undefined}
-use Rattle.a32_instr.proofs.Apart.{clash, clash_apart}
+use Rattle.llsc_base.specs.Bits.{Run, bits_of, has_all, runs_of}
+use Rattle.llsc_base.specs.declared.decoding.DecodeFault.{DecodeFault}
+use Rattle.llsc_base.specs.declared.decoding.DecodeFault.TheVariants.{Undefined}
+use Rattle.llsc_base.proofs.Clashes.{clash, clash_apart}
 use Rattle.rv32_guest.specs.declared.instructions.RvInstr.{RvInstr}
 use Rattle.rv32_guest.specs.Table.{Row, fits, outcome, meaning}
 use Rattle.rv32_guest.specs.Rows.{Fits, NoneFits, FollowsRows, Decides}

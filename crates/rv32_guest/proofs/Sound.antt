@@ -6,16 +6,15 @@ use Rattle.llsc_base.specs.declared.access.Bar.{Bar}
 use Rattle.llsc_base.specs.declared.access.Bar.TheVariants as bar
 use Rattle.llsc_base.specs.declared.access.Place.{Place}
 use Rattle.llsc_base.specs.declared.access.Size.TheVariants.{B1, B2, B4}
-use Rattle.a32_instr.specs.declared.instructions.DecodeFault.{DecodeFault}
-use Rattle.a32_instr.specs.declared.instructions.DecodeFault.TheVariants as fault
-use Rattle.a32_instr.specs.declared.outside.Ask.{Ask}
-use Rattle.a32_instr.specs.declared.outside.Ask.TheVariants as ask
-use Rattle.a32_instr.specs.declared.outside.Stop.{Stop}
-use Rattle.a32_instr.specs.declared.outside.Stop.TheVariants as stop
-use Rattle.a32_instr.specs.LoadStore.{barred}
-use Rattle.a32_instr.specs.State.{asks, calls, completes, stops}
-use Rattle.a32_step.specs.Phase.{PhaseOf, Between, Inside, Awaiting, Calling, Stopped}
-use Rattle.a32_step.specs.Machine.{begins_of, next_in_of, next_of, GoesOn, GoesOnWith, IsOwn, PassesTests}
+use Rattle.llsc_base.specs.declared.decoding.DecodeFault.{DecodeFault}
+use Rattle.llsc_base.specs.declared.decoding.DecodeFault.TheVariants as fault
+use Rattle.llsc_base.specs.declared.outside.Ask.{Ask}
+use Rattle.llsc_base.specs.declared.outside.Ask.TheVariants as ask
+use Rattle.llsc_base.specs.declared.outside.Stop.{Stop}
+use Rattle.llsc_base.specs.declared.outside.Stop.TheVariants as stop
+use Rattle.llsc_base.specs.Effects.{barred, asks, calls, completes, stops}
+use Rattle.guest_core.specs.Phase.{PhaseOf, Between, Inside, Awaiting, Calling, Stopped}
+use Rattle.guest_core.specs.Machine.{begins_of, next_in_of, next_of, GoesOn, GoesOnWith, IsOwn, PassesTests}
 use Rattle.rv32_guest.specs.declared.instructions.RvInstr.{RvInstr}
 use Rattle.rv32_guest.specs.declared.instructions.RvInstr.TheVariants.{Lui, Auipc, Jal, Jalr, Beq, Bne, Blt, Bge, Bltu, Bgeu, Lb, Lh, Lw, Lbu, Lhu, Sb, Sh, Sw, Addi, Slti, Sltiu, Xori, Ori, Andi, Slli, Srli, Srai, Add, Sub, Sll, Slt, Sltu, Xor, Srl, Sra, Or, And, Fence, LrW, ScW, Ecall}
 use Rattle.rv32_guest.specs.State.{RvState, Effect, register, jumps}

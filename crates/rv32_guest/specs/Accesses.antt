@@ -7,10 +7,10 @@ use Rattle.llsc_base.specs.declared.access.Bar.{Bar}
 use Rattle.llsc_base.specs.declared.access.Place.{Place}
 use Rattle.llsc_base.specs.declared.access.Size.{Size}
 use Rattle.llsc_base.specs.declared.access.Size.TheVariants.{B4}
-use Rattle.a32_instr.specs.declared.outside.Ask.{Ask}
-use Rattle.a32_instr.specs.declared.outside.Ask.TheVariants.{Load, Store, LoadEx, StoreEx}
-use Rattle.a32_instr.specs.LoadStore.{barred, loaded_part}
-use Rattle.a32_instr.specs.State.{asks, completes, stops, low32}
+use Rattle.llsc_base.specs.declared.outside.Ask.{Ask}
+use Rattle.llsc_base.specs.declared.outside.Ask.TheVariants.{Load, Store, LoadEx, StoreEx}
+use Rattle.llsc_base.specs.Effects.{barred, loaded_part, asks, completes, stops}
+use Rattle.llsc_base.specs.Words.{low32}
 use Rattle.rv32_guest.specs.State.{RvState, Effect, advanced, writes}
 use Rattle.rv32_guest.specs.Computing.{sign_extended}
 

@@ -1,6 +1,6 @@
 -- The guest calls of RISC-V: those of the table of guest calls, under the numbers that Linux has for RISC-V.
 use Rattle.std.specs.Prelude.{ℕ, ◌==◌, if◌then◌else◌}
-use Rattle.a32_instr.specs.declared.outside.CallAsk.{CallAsk}
+use Rattle.llsc_base.specs.declared.outside.CallAsk.{CallAsk}
 
 -- the number in the table of exit, write and sched_yield; 0 is no call there
 abbrev pub number_of : ℕ → ℕ

@@ -1,8 +1,7 @@
 -- What instructions compute of 32-bit numbers, in unbounded whole numbers ("Integer Computational Instructions").
 use Rattle.std.specs.Prelude.{ℕ, ◌+◌, ◌-◌, ◌*◌, ◌/◌, ◌%◌, ◌^◌, nat_lt, if◌then◌else◌, Bool, ℤ, pos, int_lt}
 use Rattle.std.specs.Int.{int_div_euclid}
-use Rattle.a32_instr.specs.Sum.{signed, residue}
-use Rattle.a32_instr.specs.State.{low32}
+use Rattle.llsc_base.specs.Words.{signed, residue, low32}
 
 -- a signed number as one of 32 bits
 abbrev pub word_of : ℤ → ℕ

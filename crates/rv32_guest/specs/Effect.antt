@@ -3,8 +3,9 @@
 use Rattle.std.specs.Prelude.{ℕ, ◌+◌, ◌==◌, not, nat_lt, if◌then◌else◌, Bool, true, false, List, ℤ, bit_and, bit_or, bit_xor}
 use Rattle.llsc_base.specs.Images.{Program}
 use Rattle.llsc_base.specs.declared.access.Size.TheVariants.{B1, B2, B4}
-use Rattle.a32_instr.specs.declared.outside.CallAsk.{CallAsk}
-use Rattle.a32_instr.specs.State.{calls, completes, low32}
+use Rattle.llsc_base.specs.declared.outside.CallAsk.{CallAsk}
+use Rattle.llsc_base.specs.Effects.{calls, completes}
+use Rattle.llsc_base.specs.Words.{low32}
 use Rattle.rv32_guest.specs.declared.instructions.RvInstr.{RvInstr}
 use Rattle.rv32_guest.specs.declared.instructions.RvInstr.TheVariants.{Lui, Auipc, Jal, Jalr, Beq, Bne, Blt, Bge, Bltu, Bgeu, Lb, Lh, Lw, Lbu, Lhu, Sb, Sh, Sw, Addi, Slti, Sltiu, Xori, Ori, Andi, Slli, Srli, Srai, Add, Sub, Sll, Slt, Sltu, Xor, Srl, Sra, Or, And, Fence, LrW, ScW, Ecall}
 use Rattle.rv32_guest.specs.State.{RvState, Effect, register, advanced, writes, jumps}

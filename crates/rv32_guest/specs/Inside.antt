@@ -1,7 +1,7 @@
 -- What the fields of an `RvCpu` stand for, and what holds of them.
 use Rattle.std.specs.Prelude.{◌≡◌, ℕ, Option, None}
-use Rattle.a32_step.specs.Phase.{PhaseOf}
-use Rattle.a32_step.specs.Phase as phase
+use Rattle.guest_core.specs.Phase.{PhaseOf}
+use Rattle.guest_core.specs.Phase as phase
 use Rattle.rv32_guest.specs.declared.cpu.Stage.{Stage}
 use Rattle.rv32_guest.specs.declared.cpu.Stage.TheVariants.{Between, Inside, Awaiting, Calling, Stopped}
 use Rattle.rv32_guest.specs.declared.instructions.RvInstr.{RvInstr}

@@ -1,11 +1,11 @@
 -- The thread of a RISC-V guest, which may be in the middle of an instruction.
 use Rattle.std.specs.Prelude.{ℕ, [], ◌∷◌, Option, Some, None, Result, Ok, Err}
 use Rattle.llsc_base.specs.Images.{Program, word_at}
-use Rattle.a32_instr.specs.declared.instructions.DecodeFault.{DecodeFault}
-use Rattle.a32_instr.specs.declared.instructions.DecodeFault.TheVariants as fault
-use Rattle.a32_instr.specs.declared.outside.Stop.{Stop}
-use Rattle.a32_instr.specs.declared.outside.Stop.TheVariants as stop
-use Rattle.a32_step.specs.Machine.{MachineOf, InstructionSet, start_in}
+use Rattle.llsc_base.specs.declared.decoding.DecodeFault.{DecodeFault}
+use Rattle.llsc_base.specs.declared.decoding.DecodeFault.TheVariants as fault
+use Rattle.llsc_base.specs.declared.outside.Stop.{Stop}
+use Rattle.llsc_base.specs.declared.outside.Stop.TheVariants as stop
+use Rattle.guest_core.specs.Machine.{MachineOf, InstructionSet, start_in}
 use Rattle.rv32_guest.specs.declared.instructions.RvInstr.{RvInstr}
 use Rattle.rv32_guest.specs.State.{RvState, answered}
 use Rattle.rv32_guest.specs.Calls.{call_of}

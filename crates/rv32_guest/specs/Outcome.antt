@@ -1,8 +1,8 @@
 -- What the code makes of an instruction, as the effect that it stands for.
 use Rattle.std.specs.Prelude.{◌≡◌, ℕ, ◌%◌, List, [], ◌∷◌, Option, Some, None}
 use Rattle.llsc_base.specs.Images.{Program}
-use Rattle.a32_instr.specs.State.{asks, calls, completes, stops}
-use Rattle.a32_step.specs.Machine.{PassesTests, ValueFits}
+use Rattle.llsc_base.specs.Effects.{asks, calls, completes, stops}
+use Rattle.guest_core.specs.Machine.{PassesTests, ValueFits}
 use Rattle.rv32_guest.specs.State.{RvState, Effect, with_register}
 use Rattle.rv32_guest.specs.declared.outcomes.Outcome.{Outcome}
 use Rattle.rv32_guest.specs.declared.outcomes.Outcome.TheVariants.{Asks, Calls, Completes, Stops}

@@ -1,10 +1,10 @@
 -- A machine whose instruction goes on with the reply to its access.
 use Rattle.std.specs.Prelude.{◌≡◌, ℕ, [], ◌∷◌}
-use Rattle.a32_instr.specs.State.{completes}
-use Rattle.a32_step.specs.Phase as phase
-use Rattle.a32_step.specs.Machine.{between}
-use Rattle.a32_step.specs.declared.phases.Passage.{Passage}
-use Rattle.a32_step.specs.declared.phases.Passage.TheVariants.{Complete, AtStart, UnderWay}
+use Rattle.llsc_base.specs.Effects.{completes}
+use Rattle.guest_core.specs.Phase as phase
+use Rattle.guest_core.specs.Machine.{between}
+use Rattle.guest_core.specs.declared.phases.Passage.{Passage}
+use Rattle.guest_core.specs.declared.phases.Passage.TheVariants.{Complete, AtStart, UnderWay}
 use Rattle.rv32_guest.specs.declared.instructions.RvInstr.{RvInstr}
 use Rattle.rv32_guest.specs.Machine.{Machine}
 use Rattle.rv32_guest.specs.State.{RvState, Effect}

@@ -1,6 +1,6 @@
 -- What the fields of `Registers` stand for, and what holds of them.
 use Rattle.std.specs.Prelude.{◌≡◌, ◌%◌, slice_index}
-use Rattle.a32_step.specs.Words.{AreWords}
+use Rattle.llsc_base.specs.Words.{AreWords}
 use Rattle.rv32_guest.specs.State.{RvState}
 use Rattle.rv32_guest.specs.declared.registers.Registers.TheInside as fields
 

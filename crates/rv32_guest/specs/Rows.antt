@@ -1,7 +1,7 @@
 -- What the decoder's contracts say of the rows of the table and a word.
 use Rattle.std.specs.Prelude.{◌≡◌, ℕ, false, IsTrue, List, [], ◌∷◌, Result, Err}
-use Rattle.a32_instr.specs.declared.instructions.DecodeFault.{DecodeFault}
-use Rattle.a32_instr.specs.declared.instructions.DecodeFault.TheVariants.{Undefined}
+use Rattle.llsc_base.specs.declared.decoding.DecodeFault.{DecodeFault}
+use Rattle.llsc_base.specs.declared.decoding.DecodeFault.TheVariants.{Undefined}
 use Rattle.rv32_guest.specs.declared.instructions.RvInstr.{RvInstr}
 use Rattle.rv32_guest.specs.Table.{Row, fits, outcome}
 

@@ -1,8 +1,9 @@
 -- The registers and the PC of a guest thread, and what an instruction may do with them (The RISC-V Instruction Set Manual,
 -- Volume I, "Programmers' Model for Base Integer ISA").
 use Rattle.std.specs.Prelude.{ℕ, ◌+◌, ◌%◌, ◌==◌, if◌then◌else◌, List, slice_index, slice_set}
-use Rattle.a32_instr.specs.declared.outside.Stop.TheVariants.{Alignment}
-use Rattle.a32_instr.specs.State.{EffectOf, completes, stops, low32}
+use Rattle.llsc_base.specs.declared.outside.Stop.TheVariants.{Alignment}
+use Rattle.llsc_base.specs.Effects.{EffectOf, completes, stops}
+use Rattle.llsc_base.specs.Words.{low32}
 
 -- x0 to x31 in order, and the address of the instruction
 pub record RvState : Type 0 where

@@ -1,6 +1,6 @@
 -- The stops to which a thread of these instructions comes.
-use Rattle.a32_instr.specs.declared.outside.Stop.{Stop}
-use Rattle.a32_instr.specs.declared.outside.Stop.TheVariants.{TagLimit, Thumb, Unpredictable}
+use Rattle.llsc_base.specs.declared.outside.Stop.{Stop}
+use Rattle.llsc_base.specs.declared.outside.Stop.TheVariants.{TagLimit, Thumb, Unpredictable}
 
 -- all but those for code of another state of an Arm processor, for words whose effect is left open, and for want of a tag, which is
 -- memory's

@@ -1,9 +1,9 @@
 -- The table of instruction words (The RISC-V Instruction Set Manual, Volume I, "RV32/64G Instruction Set Listings": RV32I and
 -- Zalrsc). Every other word is undefined.
 use Rattle.std.specs.Prelude.{◌≡◌, ℕ, if◌then◌else◌, Bool, IsTrue, All, List, [], ◌∷◌, codes, Result, Ok, Err}
-use Rattle.a32_instr.specs.Bits.{Run, runs, field, has_bits}
-use Rattle.a32_instr.specs.declared.instructions.DecodeFault.{DecodeFault}
-use Rattle.a32_instr.specs.declared.instructions.DecodeFault.TheVariants.{Undefined}
+use Rattle.llsc_base.specs.Bits.{Run, runs, field, has_bits}
+use Rattle.llsc_base.specs.declared.decoding.DecodeFault.{DecodeFault}
+use Rattle.llsc_base.specs.declared.decoding.DecodeFault.TheVariants.{Undefined}
 use Rattle.rv32_guest.specs.declared.instructions.RvInstr.{RvInstr}
 use Rattle.rv32_guest.specs.declared.instructions.RvInstr.TheVariants.{Lui, Auipc, Jal, Jalr, Beq, Bne, Blt, Bge, Bltu, Bgeu, Lb, Lh, Lw, Lbu, Lhu, Sb, Sh, Sw, Addi, Slti, Sltiu, Xori, Ori, Andi, Slli, Srli, Srai, Add, Sub, Sll, Slt, Sltu, Xor, Srl, Sra, Or, And, Fence, LrW, ScW, Ecall}
 use Rattle.rv32_guest.specs.Immediates.{signed_field, upper, branch_distance, jump_distance}

@@ -2,8 +2,7 @@
 ghost use Rattle.std.specs.Prelude.{◌≡◌, ◌<◌, ◌^◌};
 ghost use Rattle.rv32_guest.specs.Computing.{word_of, moved, sum, difference, is_less_signed, as_number, shifted_left, shifted_right, shifted_signed, even, sign_extended};
 ghost use Rattle.rv32_guest.specs.Accesses.{loaded};
-ghost use Rattle.a32_instr.specs.State.{low32};
-ghost use Rattle.a32_instr.specs.Sum.{signed};
+ghost use Rattle.llsc_base.specs.Words.{low32, signed};
 
 use llsc_base::Size;
 

@@ -1,6 +1,6 @@
 //! The fields of a word. Shifts and masks stand here and nowhere else.
 ghost use Rattle.std.specs.Prelude.{◌≡◌, ◌<◌, ◌^◌, ◌*◌, ◌+◌};
-ghost use Rattle.a32_instr.specs.Bits.{bits_of};
+ghost use Rattle.llsc_base.specs.Bits.{bits_of};
 ghost use Rattle.rv32_guest.specs.Immediates.{signed_field, branch_distance, jump_distance};
 
 /// The `width` bits of a word from bit `low` up.

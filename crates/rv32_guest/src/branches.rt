@@ -1,12 +1,12 @@
 //! Branches ("Conditional Branches").
 ghost use Rattle.std.specs.Prelude.{◌≡◌, ◌∷◌, []};
-ghost use Rattle.a32_instr.specs.Bits.{bits_of};
+ghost use Rattle.llsc_base.specs.Bits.{bits_of};
 ghost use Rattle.rv32_guest.specs.Table.{beq, bne, blt, bge, bltu, bgeu};
 ghost use Rattle.rv32_guest.specs.Rows.{Decides};
 
 use crate::bits::{branch_distance, funct3, rs1, rs2};
 use crate::instructions::RvInstr;
-use a32_instr::DecodeFault;
+use llsc_base::DecodeFault;
 
 /// A branch: a word of the opcode 1100011.
 #[inline]

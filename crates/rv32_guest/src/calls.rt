@@ -1,13 +1,13 @@
 //! Guest calls under their numbers of RISC-V.
 ghost use Rattle.std.specs.Prelude.{◌≡◌, length};
-ghost use Rattle.a32_step.specs.Machine.{IsCalling};
+ghost use Rattle.guest_core.specs.Machine.{IsCalling};
 ghost use Rattle.guest_calls.specs.Calls.{call_effect};
 ghost use Rattle.guest_calls.specs.Steps.{step_of, after_call_of, HaveRoom};
 ghost use Rattle.rv32_guest.specs.Calls.{call_of, number_of};
 ghost use Rattle.rv32_guest.specs.Machine.{rv32};
 
 use crate::cpu::RvCpu;
-use a32_instr::CallAsk;
+use llsc_base::CallAsk;
 use guest_calls::{CallStep, Output, guest_call};
 
 /// The number of exit, in x17.

@@ -1,12 +1,12 @@
 //! Computing with an immediate, and with registers ("Integer Computational Instructions").
 ghost use Rattle.std.specs.Prelude.{◌≡◌, ◌∷◌, []};
-ghost use Rattle.a32_instr.specs.Bits.{bits_of};
+ghost use Rattle.llsc_base.specs.Bits.{bits_of};
 ghost use Rattle.rv32_guest.specs.Table.{addi, slti, sltiu, xori, ori, andi, slli, srli, srai, add, sub, sll, slt, sltu, xor, srl, sra, or, and};
 ghost use Rattle.rv32_guest.specs.Rows.{Decides};
 
 use crate::bits::{bits, funct3, immediate, rd, rs1, rs2};
 use crate::instructions::RvInstr;
-use a32_instr::DecodeFault;
+use llsc_base::DecodeFault;
 
 /// Computing with an immediate: a word of the opcode 0010011.
 #[inline]

@@ -2,9 +2,8 @@
 use crate::calls::call_of;
 use crate::cpu::RvCpu;
 use crate::instructions::RvInstr;
-use a32_instr::CallAsk;
-use a32_step::{Code, Core, Passage, Port, Wanted};
-use llsc_base::Image;
+use llsc_base::{CallAsk, Image};
+use guest_core::{Code, Core, Passage, Port, Wanted};
 
 impl Core for RvCpu {
     type Ready = RvInstr;

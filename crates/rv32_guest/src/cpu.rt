@@ -1,8 +1,8 @@
 //! One guest thread's core.
 ghost use Rattle.std.specs.Prelude.{◌≡◌, ◌%◌, ◌+◌, ◌<◌, ◌≤◌, [], length, IsTrue};
-ghost use Rattle.a32_instr.specs.State.{stops};
-ghost use Rattle.a32_step.specs.Phase as phase;
-ghost use Rattle.a32_step.specs.Machine.{after_found_of, after_of, begins_of, between, given, moved_on, next_of, wanted_of, Follows, IsAwaiting, IsCalling, IsReady, IsTested};
+ghost use Rattle.llsc_base.specs.Effects.{stops};
+ghost use Rattle.guest_core.specs.Phase as phase;
+ghost use Rattle.guest_core.specs.Machine.{after_found_of, after_of, begins_of, between, given, moved_on, next_of, wanted_of, Follows, IsAwaiting, IsCalling, IsReady, IsTested};
 ghost use Rattle.rv32_guest.specs.Effect.{acts};
 ghost use Rattle.rv32_guest.specs.Machine.{instr_at, rv32, start_of};
 ghost use Rattle.rv32_guest.specs.State.{RvState, answered, register};
@@ -11,9 +11,8 @@ use crate::decoder::rv_decode;
 use crate::instructions::RvInstr;
 use crate::outcomes::Outcome;
 use crate::registers::Registers;
-use a32_instr::{Ask, CallAsk, DecodeFault, Stop};
-use a32_step::Wanted;
-use llsc_base::Image;
+use llsc_base::{Ask, CallAsk, DecodeFault, Image, Stop};
+use guest_core::Wanted;
 use std::marker::Model;
 
 /// Where a thread stands in its instruction.

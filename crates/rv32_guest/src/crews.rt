@@ -11,10 +11,9 @@ ghost use Rattle.rv32_guest.specs.Machine.{rv32};
 
 use crate::cpu::RvCpu;
 use crate::instructions::RvInstr;
-use a32_instr::Stop;
+use llsc_base::{Image, Stop};
 use guest_machine::run_all;
 use guest_thread::{Crew, Job, Ran, prepare};
-use llsc_base::Image;
 use shared_memory::SharedMemory;
 use std::alloc::{AllocError, Global};
 use std::sync::Wait;

@@ -4,7 +4,7 @@ ghost use Rattle.rv32_guest.specs.Table.{meaning, table};
 use crate::bits::bits;
 use crate::instructions::RvInstr;
 use crate::{branches, computing, jumps, memory, system};
-use a32_instr::DecodeFault;
+use llsc_base::DecodeFault;
 
 /// The instruction that a word is, by the table of words. The encodings go by the opcode, bits 6:0.
 ///

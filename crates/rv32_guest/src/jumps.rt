@@ -1,12 +1,12 @@
 //! Upper immediates and jumps ("Integer Register-Immediate Instructions", "Unconditional Jumps").
 ghost use Rattle.std.specs.Prelude.{◌≡◌, ◌∷◌, []};
-ghost use Rattle.a32_instr.specs.Bits.{bits_of};
+ghost use Rattle.llsc_base.specs.Bits.{bits_of};
 ghost use Rattle.rv32_guest.specs.Table.{lui, auipc, jal, jalr};
 ghost use Rattle.rv32_guest.specs.Rows.{Decides};
 
 use crate::bits::{bits, funct3, immediate, jump_distance, rd, rs1};
 use crate::instructions::RvInstr;
-use a32_instr::DecodeFault;
+use llsc_base::DecodeFault;
 
 /// LUI: a word of the opcode 0110111.
 #[inline]

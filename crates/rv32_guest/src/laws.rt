@@ -2,22 +2,22 @@
 ghost use Rattle.std.specs.Prelude.{◌≡◌, ◌≢◌, ◌==◌, ◌<◌, ℕ, length, List, AllPairs, IsTrue, pos, negsuc};
 ghost use Rattle.std.specs.List.{list_all};
 ghost use Rattle.llsc_base.specs.Images.{Program};
-ghost use Rattle.a32_instr.specs.Bits.{width_of};
-ghost use Rattle.a32_instr.specs.declared.outside.Ask.{Ask};
-ghost use Rattle.a32_instr.specs.declared.outside.Stop.{Stop};
-ghost use Rattle.a32_instr.specs.State.{asks, stops};
+ghost use Rattle.llsc_base.specs.Bits.{width_of};
+ghost use Rattle.llsc_base.specs.declared.outside.Ask.{Ask};
+ghost use Rattle.llsc_base.specs.declared.outside.Stop.{Stop};
+ghost use Rattle.llsc_base.specs.Effects.{asks, stops};
 ghost use Rattle.llsc_base.specs.Sizes.{Numbers};
 ghost use Rattle.history.specs.declared.entry.Entry.{Entry};
 ghost use Rattle.guest_calls.specs.Run.{Pair, EndsOf, AsksOf};
 ghost use Rattle.guest_thread.specs.Outcome.{IsOutcomeOf};
 ghost use Rattle.guest_thread.specs.declared.ends.GuestEnd.{GuestEnd};
-ghost use Rattle.a32_step.specs.Machine.{next_of, GoesOn, GoesOnWith, PassesTests};
+ghost use Rattle.guest_core.specs.Machine.{next_of, GoesOn, GoesOnWith, PassesTests};
 ghost use Rattle.rv32_guest.specs.Machine.{Machine, rv32};
 ghost use Rattle.rv32_guest.specs.Stops.{IsStop};
 ghost use Rattle.rv32_guest.specs.Table.{table, meaning, AreApart, FitsNone, MeansItsRow};
 
 use crate::instructions::RvInstr;
-use a32_instr::DecodeFault;
+use llsc_base::DecodeFault;
 
 /// Each row of the table has 32 bits.
 pub fn rows_have_32_bits()

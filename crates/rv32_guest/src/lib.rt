@@ -23,8 +23,8 @@ mod registers;
 mod running;
 mod system;
 
-pub use a32_instr::DecodeFault;
-pub use a32_step::Wanted;
+pub use llsc_base::DecodeFault;
+pub use guest_core::Wanted;
 pub use calls::rv_call;
 pub use cpu::RvCpu;
 pub use crews::{RvCrew, RvJob, prepare_rv, run_rv_all};

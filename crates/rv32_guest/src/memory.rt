@@ -1,12 +1,12 @@
 //! Loads and stores ("Load and Store Instructions"), and load-reserved and store-conditional ("Zalrsc").
 ghost use Rattle.std.specs.Prelude.{◌≡◌, ◌∷◌, []};
-ghost use Rattle.a32_instr.specs.Bits.{bits_of};
+ghost use Rattle.llsc_base.specs.Bits.{bits_of};
 ghost use Rattle.rv32_guest.specs.Table.{lb, lh, lw, lbu, lhu, sb, sh, sw, lr_w, sc_w};
 ghost use Rattle.rv32_guest.specs.Rows.{Decides};
 
 use crate::bits::{bits, funct3, immediate, rd, rs1, rs2, store_offset};
 use crate::instructions::RvInstr;
-use a32_instr::DecodeFault;
+use llsc_base::DecodeFault;
 
 /// A load: a word of the opcode 0000011.
 #[inline]

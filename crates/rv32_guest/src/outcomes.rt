@@ -1,4 +1,4 @@
-use a32_instr::{Ask, CallAsk, Stop};
+use llsc_base::{Ask, CallAsk, Stop};
 
 /// What an instruction does next.
 #[derive(Clone, Copy)]

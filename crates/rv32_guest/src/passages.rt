@@ -1,7 +1,7 @@
 //! A RISC-V instruction that is carried through at once.
 ghost use Rattle.std.specs.Prelude.{◌≡◌, ◌≤◌, ◌+◌, ◌^◌, ◌∷◌, [], length};
-ghost use Rattle.a32_step.specs.Machine.{between};
-ghost use Rattle.a32_step.specs.Passages.{IsCarriedOnOf};
+ghost use Rattle.guest_core.specs.Machine.{between};
+ghost use Rattle.guest_core.specs.Passages.{IsCarriedOnOf};
 ghost use Rattle.rv32_guest.specs.Machine.{rv32};
 ghost use Rattle.rv32_guest.specs.Effect.{acts};
 ghost use Rattle.rv32_guest.specs.Passages.{GoesOnWith};
@@ -9,7 +9,7 @@ ghost use Rattle.rv32_guest.specs.Passages.{GoesOnWith};
 use crate::cpu::{RvCpu, Stage};
 use crate::instructions::RvInstr;
 use crate::outcomes::Outcome;
-use a32_step::{Code, Passage, Port};
+use guest_core::{Code, Passage, Port};
 use llsc_base::Image;
 
 impl RvCpu {

@@ -1,7 +1,7 @@
 //! RISC-V instructions as a core keeps them ready.
 use crate::decoder::rv_decode;
 use crate::instructions::RvInstr;
-use a32_step::Ready;
+use guest_core::Ready;
 
 /// All that is kept of an instruction is the instruction itself.
 impl Ready for RvInstr {

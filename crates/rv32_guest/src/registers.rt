@@ -67,7 +67,7 @@ impl Registers {
 
     /// A register gets a value, and the next instruction stands at `pc`.
     #[inline]
-    #[tactic(auto, using(a32_step::proofs::Words::words_set, a32_step::proofs::Words::set_past, crate::proofs::Zero::zero_kept))]
+    #[tactic(auto, using(llsc_base::proofs::Words::words_set, llsc_base::proofs::Words::set_past, crate::proofs::Zero::zero_kept))]
     pub fn complete(&mut self, rd: u8, value: u32, pc: u32)
         requires { pc % 4 ≡ 0 }
         ensures { self.new ≡ record (with_register self.old rd value) { pc = pc } }

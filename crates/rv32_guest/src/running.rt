@@ -4,15 +4,15 @@ ghost use Rattle.llsc_base.specs.Limits.{most_budget};
 ghost use Rattle.history.specs.Parts.{accesses_of, entries_of};
 ghost use Rattle.history.specs.Started.{MayAct};
 ghost use Rattle.shared_memory.specs.Seen.{IsFront, IsSingle};
-ghost use Rattle.a32_step.specs.Machine.{between};
+ghost use Rattle.guest_core.specs.Machine.{between};
 ghost use Rattle.guest_calls.specs.Bound.{most_accesses_in};
 ghost use Rattle.guest_thread.specs.Outcome.{IsEndOnOf};
 ghost use Rattle.rv32_guest.specs.Machine.{rv32};
 
 use crate::cpu::RvCpu;
 use crate::instructions::RvInstr;
-use a32_instr::Stop;
-use a32_step::Code;
+use llsc_base::Stop;
+use guest_core::Code;
 use guest_calls::Output;
 use guest_thread::{Finished, run_thread};
 use shared_memory::SharedMemory;

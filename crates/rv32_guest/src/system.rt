@@ -1,12 +1,12 @@
 //! Fences ("Memory Ordering Instructions"), and the environment call ("Environment Call and Breakpoints").
 ghost use Rattle.std.specs.Prelude.{◌≡◌, ◌∷◌, []};
-ghost use Rattle.a32_instr.specs.Bits.{bits_of};
+ghost use Rattle.llsc_base.specs.Bits.{bits_of};
 ghost use Rattle.rv32_guest.specs.Table.{fence, ecall};
 ghost use Rattle.rv32_guest.specs.Rows.{Decides};
 
 use crate::bits::funct3;
 use crate::instructions::RvInstr;
-use a32_instr::DecodeFault;
+use llsc_base::DecodeFault;
 
 /// FENCE: a word of the opcode 0001111.
 #[inline]

@@ -6,7 +6,8 @@ use Rattle.llsc_base.specs.Images.{Program}
 use Rattle.history.specs.Parts.{accesses_of}
 use Rattle.history.specs.declared.entry.Entry.{Entry}
 use Rattle.shared_memory.specs.Origin.{Origin}
-use Rattle.a32_step.specs.Machine.{Machine, between}
+use Rattle.a32_step.specs.Machine.{Machine}
+use Rattle.guest_core.specs.Machine.{between}
 use Rattle.guest_calls.specs.Pairs.{pair_of, pairs_of}
 use Rattle.guest_calls.specs.Run.{Pair, Reaches, begins}
 use Rattle.guest_thread.specs.Counts.{reads_of, writes_of, fails_of}

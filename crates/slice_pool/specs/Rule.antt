@@ -5,7 +5,7 @@ use lib.ListN.{get_elem?}
 use Rattle.atomic_table.specs.Seated.{TableId}
 use Rattle.history.specs.declared.entry.Entry.{Entry}
 use Rattle.shared_memory.specs.Seen.{IsSingle}
-use Rattle.a32_step.specs.Machine.{between}
+use Rattle.guest_core.specs.Machine.{between}
 use Rattle.guest_calls.specs.Pairs.{pairs_of}
 use Rattle.guest_calls.specs.Run.{Reaches}
 use Rattle.guest_thread.specs.Counting.{AreCounts}

@@ -10,7 +10,7 @@ ghost use Rattle.slice_pool.specs.Rule.{last_first};
 use crate::crews::Desk;
 use crate::pool::Pool;
 use crate::queue::{Line, Waiting};
-use a32_step::Code;
+use guest_core::Code;
 use guest_calls::Output;
 use guest_thread::{Part, start_cpu};
 use llsc_base::Image;

@@ -8,7 +8,8 @@ ghost use Rattle.slice_pool.specs.AtWork.{IsWorker};
 
 use crate::queue::{Line, Seat, Takes};
 use crate::turns::{Gone, turns_of};
-use a32_step::{Code, Conditional};
+use guest_core::Code;
+use a32_step::Conditional;
 use shared_memory::SharedMemory;
 use std::sync::Wait;
 

@@ -1,16 +1,15 @@
 //! The access of an instruction that makes one.
-ghost use Rattle.std.specs.Prelude.{◌≡◌, ◌≢◌, ◌<◌, ◌≤◌, ◌+◌, ◌^◌, ◌∷◌, [], IfSome, IfNone, length, IsFalse};
-ghost use Rattle.a32_instr.specs.State.{stops};
+ghost use Rattle.std.specs.Prelude.{◌≡◌, ◌≢◌, ◌<◌, ◌≤◌, ◌+◌, ◌^◌, [], IfSome, IfNone, length, IsFalse};
+ghost use Rattle.llsc_base.specs.Effects.{stops};
 ghost use Rattle.a32_step.specs.ExecutionState.{Between};
-ghost use Rattle.a32_step.specs.Machine.{PassesTests, ValueFits};
+ghost use Rattle.guest_core.specs.Machine.{PassesTests, ValueFits};
 ghost use Rattle.a32_step.specs.Acting.{IsReplied, asked_first, with_reply};
 
 use super::Execution;
 use super::load_store::barred;
 use crate::phases::Progress;
 use crate::sources::Source;
-use a32_instr::{Ask, Stop};
-use llsc_base::Image;
+use llsc_base::{Ask, Image, Stop};
 
 /// The stop of a thread whose access is barred, if anything bars it.
 #[inline(always)]
@@ -33,7 +32,7 @@ impl Execution {
     /// The reply to the instruction's access: the one that it has had, or the source's. `None` where something bars the access, so
     /// that the thread stops, or where the source has no reply, and the instruction waits.
     #[inline(always)]
-    #[tactic(auto, using(crate::proofs::Placed::passed_placed))]
+    #[tactic(auto, using(guest_core::proofs::Placed::passed_placed))]
     pub(super) fn reply_to<S: Source>(
         &mut self,
         image: &Image,

@@ -1,8 +1,9 @@
 //! Loads and stores of a block of registers (DDI 0406C A5.5).
 ghost use Rattle.std.specs.Prelude.{◌≡◌, ◌<◌, ◌≤◌, ◌+◌, ◌^◌, IsFalse, IsTrue, None, length, not, []};
 ghost use Rattle.llsc_base.specs.Images.{first_barred};
-ghost use Rattle.a32_instr.specs.State.{State, asks, jumps};
-ghost use Rattle.a32_instr.specs.Block.{registers_of, count_of, block_size, block, block_at, block_back, block_done, block_loaded, with_block};
+ghost use Rattle.a32_instr.specs.State.{State, jumps};
+ghost use Rattle.llsc_base.specs.Effects.{asks};
+ghost use Rattle.a32_instr.specs.Block.{count_of, block_size, block, block_at, block_back, block_done, block_loaded, with_block};
 ghost use Rattle.a32_instr.specs.Effect.{acts};
 ghost use Rattle.a32_step.specs.Progress.{progress_of};
 ghost use Rattle.a32_step.specs.Classes.{instr_class, block_access};
@@ -17,8 +18,8 @@ use crate::sources::Source;
 use a32_compute::operands::moved;
 use a32_compute::parts::low_word;
 use a32_compute::registers::{count_of, is_listed, listed, lowest_address};
-use a32_instr::{Ask, Instr, Reg};
-use llsc_base::{Image, Place, Size};
+use llsc_base::{Ask, Image, Place, Size};
+use a32_instr::{Instr, Reg};
 
 /// The fields of a block's load or store.
 #[derive(Clone, Copy)]

@@ -1,7 +1,7 @@
 //! Branches (DDI 0406C A5.5) and the supervisor call (A5.6).
 ghost use Rattle.std.specs.Prelude.{◌≡◌};
 ghost use Rattle.llsc_base.specs.Images.{Program};
-ghost use Rattle.a32_instr.specs.State.{calls};
+ghost use Rattle.llsc_base.specs.Effects.{calls};
 ghost use Rattle.a32_instr.specs.Branch.{branched, branches_by_register, call_of};
 ghost use Rattle.a32_instr.specs.Effect.{acts};
 ghost use Rattle.a32_step.specs.Progress.{progress_of};
@@ -11,11 +11,12 @@ ghost use Rattle.a32_step.specs.ExecutionState.{moves};
 use super::Execution;
 use crate::phases::{Hold, Point, Progress};
 use a32_compute::operands::branch_target;
-use a32_instr::{CallAsk, Instr, Reg};
+use llsc_base::CallAsk;
+use a32_instr::{Instr, Reg};
 
 impl Execution {
     /// B and BL (DDI 0406C A8.8.18, A8.8.25).
-    #[tactic(auto, using(crate::proofs::Words::words_set))]
+    #[tactic(auto, using(llsc_base::proofs::Words::words_set))]
     pub(super) fn branch(&mut self, link: bool, words: i32) -> Progress
         ensures progress { result ≡ Progress.Complete }
         ensures state { self.new ≡ record self.old { state = branched link words self.old.state } }
@@ -28,7 +29,7 @@ impl Execution {
     }
 
     /// BX and BLX (DDI 0406C A8.8.27, A8.8.26): the register is read before the link is written.
-    #[tactic(auto, using(crate::proofs::Words::words_set))]
+    #[tactic(auto, using(llsc_base::proofs::Words::words_set))]
     pub(super) fn branch_by_register(&mut self, link: bool, rm: Reg) -> Progress
         ensures progress { result ≡ progress_of (branches_by_register link rm self.old.state) }
         ensures state { self.new ≡ moves self.old (branches_by_register link rm self.old.state) }

@@ -1,6 +1,6 @@
 //! Synchronization primitives (DDI 0406C A3.4, A5.2.10): exclusives ask, and memory decides.
 ghost use Rattle.std.specs.Prelude.{◌≡◌, ◌<◌, ◌≤◌, ◌+◌, ◌^◌, length, [], IsFalse};
-ghost use Rattle.a32_instr.specs.LoadStore.{loaded_part};
+ghost use Rattle.llsc_base.specs.Effects.{loaded_part};
 ghost use Rattle.a32_instr.specs.Exclusive.{next_register, with_loaded, stored_part, load_exclusive, store_exclusive, clear_exclusive};
 ghost use Rattle.a32_instr.specs.Effect.{acts};
 ghost use Rattle.a32_step.specs.Classes.{instr_class, synchronization};
@@ -10,8 +10,8 @@ use super::Execution;
 use crate::phases::Progress;
 use crate::sources::Source;
 use a32_compute::parts::{loaded_part, low_word};
-use a32_instr::{Ask, Instr, Reg};
-use llsc_base::{Image, Place, Size};
+use llsc_base::{Ask, Image, Place, Size};
+use a32_instr::{Instr, Reg};
 
 /// The register after this one, which holds the high word of a doubleword.
 fn next_register(rt: Reg) -> Reg

@@ -1,8 +1,9 @@
 //! Loads and stores of one register (DDI 0406C A5.2.8, A5.3).
 ghost use Rattle.std.specs.Prelude.{◌≡◌, ◌<◌, ◌≤◌, ◌+◌, ◌^◌, length, [], IsFalse};
 ghost use Rattle.llsc_base.specs.Memory.{size_bytes};
-ghost use Rattle.a32_instr.specs.State.{State, advanced, jumps, register, writes};
-ghost use Rattle.a32_instr.specs.LoadStore.{access_size, accessed_address, half_size, barred, distance_of, loads, loads_half, moved_address, stores, written_back};
+ghost use Rattle.a32_instr.specs.State.{advanced, jumps, register, writes};
+ghost use Rattle.a32_instr.specs.LoadStore.{access_size, accessed_address, half_size, distance_of, loads, loads_half, moved_address, stores, written_back};
+ghost use Rattle.llsc_base.specs.Effects.{barred};
 ghost use Rattle.a32_instr.specs.Effect.{acts};
 ghost use Rattle.a32_step.specs.Progress.{progress_of};
 ghost use Rattle.a32_step.specs.Classes.{instr_class, word_access, half_access};
@@ -17,8 +18,8 @@ use a32_compute::operands::{
 };
 use a32_compute::parts::{loaded_half, loaded_word};
 use a32_compute::shifts::shift_by_number;
-use a32_instr::{Ask, HalfKind, Index, Instr, Offset, Reg, Stop};
-use llsc_base::{Bar, Image, Place, Size};
+use llsc_base::{Ask, Bar, Image, Place, Size, Stop};
+use a32_instr::{HalfKind, Index, Instr, Offset, Reg};
 
 /// What becomes of the base register when a load or a store is complete.
 #[derive(Clone, Copy)]

@@ -3,11 +3,12 @@
 //! before it, and then r0, r1 and the flags after it, all in hexadecimal; the flags are N, Z, C and V as bits 3, 2, 1
 //! and 0. A line that begins with a semicolon is a comment. Loads and stores have rows of their own (`accesses`,
 //! `edges` and `blocks`), which `transcripts` reads. `starts` makes the core before a row's instruction.
-ghost use Rattle.a32_step.specs.Machine.{IsReady};
+ghost use Rattle.guest_core.specs.Machine.{IsReady};
 
 use crate::tests::cpu::starts::{core_with, reachable};
-use a32_step::{Cpu, Flags, Stop, Wanted};
-use llsc_base::{Image, MachineSize};
+use a32_step::{Cpu, Flags};
+use llsc_base::{Image, MachineSize, Stop};
+use guest_core::Wanted;
 use std::alloc::Global;
 use std::test::Fail;
 

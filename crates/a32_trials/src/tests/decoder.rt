@@ -3,7 +3,8 @@ mod manual;
 mod refusals;
 
 use a32_decode::decode;
-use a32_instr::{DecodeFault, Instr};
+use llsc_base::DecodeFault;
+use a32_instr::Instr;
 
 /// The first word that isn't decoded to what stands beside it.
 fn first_wrong(words: &[(u32, Result<Instr, DecodeFault>)]) -> Option<u32> {

@@ -2,9 +2,8 @@
 ghost use Rattle.std.specs.Prelude.{◌≤◌};
 
 use super::programs::image_of;
-use a32_step::Stop;
+use llsc_base::{MachineSize, Stop};
 use guest_machine::solo;
-use llsc_base::MachineSize;
 use std::alloc::Global;
 use std::test::Fail;
 

@@ -2,8 +2,7 @@
 ghost use Rattle.std.specs.Prelude.{◌≤◌};
 
 use super::programs::image_of;
-use a32_step::Stop;
-use llsc_base::MachineSize;
+use llsc_base::{MachineSize, Stop};
 use slice_pool::{Pooled, pool_crew, run_pool};
 use std::alloc::Global;
 use std::sync::Wait;

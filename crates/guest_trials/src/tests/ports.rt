@@ -3,9 +3,10 @@ ghost use Rattle.std.specs.Prelude.{◌≡◌, IfSome};
 
 use super::programs::image_of;
 use super::same;
-use a32_step::{Ask, Code, Cpu, Port, Stop};
+use llsc_base::{Ask, MachineSize, Stop};
+use guest_core::{Code, Port};
+use a32_step::Cpu;
 use guest_thread::Guest;
-use llsc_base::MachineSize;
 use std::alloc::Global;
 use std::test::Fail;
 

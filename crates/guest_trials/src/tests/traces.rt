@@ -1,10 +1,9 @@
 //! Traces of small programs by the number 0.
 use super::programs::{ADDS, SHARES, image_of};
-use a32_step::Stop;
+use llsc_base::{MachineSize, Place, Size, Stop};
 use guest_machine::{Traced, trace};
 use guest_thread::GuestEnd;
 use history::{Access, Deed};
-use llsc_base::{MachineSize, Place, Size};
 use std::alloc::Global;
 use std::test::Fail;
 

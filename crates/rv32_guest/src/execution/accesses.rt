@@ -3,7 +3,7 @@ ghost use Rattle.std.specs.Prelude.{◌≡◌, ◌%◌, ◌^◌, [], true, false
 ghost use Rattle.llsc_base.specs.Memory.{size_bytes};
 ghost use Rattle.llsc_base.specs.Images.{bar_of};
 ghost use Rattle.llsc_base.specs.declared.access.Size.TheVariants.{B1, B2, B4};
-ghost use Rattle.a32_instr.specs.LoadStore.{barred};
+ghost use Rattle.llsc_base.specs.Effects.{barred};
 ghost use Rattle.rv32_guest.specs.Classes.{instr_class, loading, storing};
 ghost use Rattle.rv32_guest.specs.Accesses.{asks_unless, loads, stores, reserves, stores_conditionally, place_of};
 ghost use Rattle.rv32_guest.specs.Effect.{acts};
@@ -13,8 +13,7 @@ use crate::arithmetic::{loaded_byte, loaded_half, low_word};
 use crate::instructions::RvInstr;
 use crate::outcomes::Outcome;
 use crate::registers::Registers;
-use a32_instr::{Ask, Stop};
-use llsc_base::{Bar, Image, Place, Size};
+use llsc_base::{Ask, Bar, Image, Place, Size, Stop};
 
 /// The stop of a thread whose access is barred.
 fn barred(bar: Bar, addr: u32) -> Stop

@@ -10,7 +10,7 @@ use crate::arithmetic::{is_less_signed, moved};
 use crate::instructions::RvInstr;
 use crate::outcomes::Outcome;
 use crate::registers::Registers;
-use a32_instr::{CallAsk, Stop};
+use llsc_base::{CallAsk, Stop};
 
 impl Registers {
     /// A jump, with the address of the next instruction in a register.

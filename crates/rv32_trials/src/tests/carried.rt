@@ -1,12 +1,11 @@
 //! Instructions that are carried through at once, over memory of one word that replies to each access.
 ghost use Rattle.std.specs.Prelude.{◌≡◌, ◌<◌, ◌^◌, IfSome, length};
 ghost use Rattle.llsc_base.specs.Memory.{size_bytes};
-ghost use Rattle.a32_step.specs.Ports.{ReplyFits};
+ghost use Rattle.guest_core.specs.Ports.{ReplyFits};
 
 use super::programs::image;
-use a32_instr::{Ask, CallAsk, Stop};
-use a32_step::{Code, Passage, Port};
-use llsc_base::{Place, Size};
+use llsc_base::{Ask, CallAsk, Place, Size, Stop};
+use guest_core::{Code, Passage, Port};
 use rv32_guest::{RvCpu, RvInstr, Wanted};
 use std::alloc::Global;
 use std::test::Fail;

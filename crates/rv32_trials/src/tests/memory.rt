@@ -1,7 +1,6 @@
 //! Loads, stores and calls, step by step: what is asked for, and what becomes of each reply.
 use super::programs::image;
-use a32_instr::{Ask, CallAsk, Stop};
-use llsc_base::{Place, Size};
+use llsc_base::{Ask, CallAsk, Place, Size, Stop};
 use rv32_guest::{RvCpu, Wanted};
 use std::test::Fail;
 

@@ -4,7 +4,8 @@ use Rattle.std.proofs.lemmas.Int.{fits_signed_from_abs}
 use Rattle.std.specs.Int.{cast_signed, cast_unsigned}
 use Rattle.std.specs.Int.RustNames.{unsigned_abs}
 use lib.Signed.{lt_z}
-use Rattle.a32_instr.specs.Sum.{signed, is_out_of_range}
+use Rattle.llsc_base.specs.Words.{signed}
+use Rattle.a32_instr.specs.Sum.{is_out_of_range}
 use Rattle.a32_compute.proofs.Signed.{signed_most, signed_kept, small_kept, sum_most}
 use Rattle.a32_compute.proofs.arithmetic.overflows.Goals as goal
 

@@ -2,7 +2,7 @@
 use Rattle.std.proofs.Common.{ℕ, ◌<◌, ◌^◌, ◌*ℤ◌, w64, arith}
 use Rattle.std.proofs.lemmas.Int.{to_z-of_z, fits_signed_mul}
 use Rattle.std.specs.Int.RustNames.{FitsSigned}
-use Rattle.a32_instr.specs.Sum.{signed}
+use Rattle.llsc_base.specs.Words.{signed}
 use Rattle.a32_compute.proofs.Signed.{signed_most, signed_kept}
 use Rattle.a32_compute.proofs.products.signed_product.Goals as goal
 

@@ -1,5 +1,5 @@
 use Rattle.std.proofs.Common.{rules, ◌≡◌}
-use Rattle.a32_instr.specs.Bits.{bits_of}
+use Rattle.llsc_base.specs.Bits.{bits_of}
 use Rattle.a32_instr.specs.Table.{alu_by_reg}
 use Rattle.a32_instr.proofs.Apart.{further_of}
 use Rattle.a32_instr.proofs.SilentCompare.{silent_compare}

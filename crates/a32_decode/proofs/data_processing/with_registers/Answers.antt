@@ -1,9 +1,9 @@
 use Rattle.std.proofs.Common.{◌≡◌, ◌<◌, ◌≤◌, ◌%◌, ◌^◌, ℕ, List, [], ◌∷◌, Result, Err, ◌⊎◌, ⊎_elim, refl, sym, subst, ◌∙◌, arith, rules}
-use Rattle.a32_instr.specs.Bits.{bits_of}
+use Rattle.llsc_base.specs.Bits.{bits_of}
 use Rattle.a32_instr.specs.Table.{Row, alu_by_num, alu_by_reg, half_imm, half_reg, mul, mla, mls, long, clz, branch_reg, load_ex, store_ex}
 use Rattle.a32_instr.specs.declared.instructions.Instr.{Instr}
-use Rattle.a32_instr.specs.declared.instructions.DecodeFault.{DecodeFault}
-use Rattle.a32_instr.specs.declared.instructions.DecodeFault.TheVariants.{Undefined}
+use Rattle.llsc_base.specs.declared.decoding.DecodeFault.{DecodeFault}
+use Rattle.llsc_base.specs.declared.decoding.DecodeFault.TheVariants.{Undefined}
 use Rattle.a32_decode.specs.Rows.{Fits, Means, NoneFits}
 use Rattle.a32_decode.proofs.Classes.{having, kept, follows_by_kept, none_of_kept}
 use Rattle.a32_decode.proofs.Halves.{half_imm_is_no_product, half_reg_is_no_product}

@@ -1,5 +1,5 @@
 use Rattle.std.proofs.Common.{◌≡◌, [], ◌∷◌, refl, sym, ◌∙◌, arith}
-use Rattle.a32_instr.specs.Bits.{bits_of}
+use Rattle.llsc_base.specs.Bits.{bits_of}
 use Rattle.a32_instr.specs.Table.{alu_imm, alu_by_num, alu_by_reg, half_imm, half_reg, movw, movt, nop, yields, mul, mla, mls, long, clz, extend, rev, word_imm, word_reg, block, branch, branch_reg, svc, load_ex, store_ex, clrex, barrier}
 use Rattle.a32_decode.proofs.Classes.{means_by_unconditional, means_in_group}
 use Rattle.a32_decode.proofs.Rows.{meaning_by}

@@ -1,7 +1,7 @@
 use Rattle.std.proofs.Common.{rules, ◌≡◌, ◌<◌, Bool, true, false, Result, Ok, Err, arith, refl, sym, ◌∙◌}
 use Rattle.a32_instr.specs.Table.{table, meaning}
 use Rattle.a32_instr.specs.declared.instructions.Instr.{Instr}
-use Rattle.a32_instr.specs.declared.instructions.DecodeFault.{DecodeFault}
+use Rattle.llsc_base.specs.declared.decoding.DecodeFault.{DecodeFault}
 use Rattle.a32_encode.proofs.Rows.{sum_is, sum_means}
 use Rattle.a32_encode.proofs.Encodings.{means_encoding, no_word_encoding}
 use Rattle.a32_encode.proofs.Same.{equal_is_same, same_is_equal}

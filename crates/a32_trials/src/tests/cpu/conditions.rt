@@ -1,5 +1,5 @@
 //! Conditions, and writes to the PC.
-ghost use Rattle.a32_step.specs.Machine.{IsReady};
+ghost use Rattle.guest_core.specs.Machine.{IsReady};
 
 use super::*;
 use a32_compute::conditions::{condition, passes};

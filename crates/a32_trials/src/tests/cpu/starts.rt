@@ -1,9 +1,9 @@
 //! Cores with given registers and flags. A core starts with its flags clear, and instructions alone set them.
 ghost use Rattle.std.specs.Result.{IfOk};
-ghost use Rattle.a32_step.specs.Machine.{IsReady};
+ghost use Rattle.guest_core.specs.Machine.{IsReady};
 
 use super::*;
-use a32_instr::Ask;
+use llsc_base::Ask;
 
 /// `adds r2, r0, r0`, which sets V by r0; `movs r2, r1, lsl #1`, which sets N, Z and C by r1; `ldmia sp, {r0-pc}`.
 const SETTING: [u8; 12] = [

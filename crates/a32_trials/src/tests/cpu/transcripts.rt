@@ -3,11 +3,11 @@
 //! values that the loads get, in order. The third is the transcript: each access with its size, its address and the
 //! value that is stored, and then the stop, or `done` with the PC. Last come the registers that changed. Sizes and the
 //! names of registers are decimal, and all other numbers hexadecimal. A line that begins with a semicolon is a comment.
-ghost use Rattle.a32_step.specs.Machine.{IsReady};
+ghost use Rattle.guest_core.specs.Machine.{IsReady};
 
 use super::*;
 use crate::tests::same;
-use a32_instr::Ask;
+use llsc_base::Ask;
 use std::process::Abort;
 use std::str::SplitWhitespace;
 

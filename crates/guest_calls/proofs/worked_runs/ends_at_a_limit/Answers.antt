@@ -1,6 +1,6 @@
 use Rattle.std.proofs.Common.{◌≡◌, ℕ, [], arith}
-use Rattle.a32_instr.specs.declared.outside.Ask.TheVariants.{Load, Store, StoreEx}
-use Rattle.a32_instr.specs.declared.outside.Stop.TheVariants.{Budget, Exit, TagLimit}
+use Rattle.llsc_base.specs.declared.outside.Ask.TheVariants.{Load, Store, StoreEx}
+use Rattle.llsc_base.specs.declared.outside.Stop.TheVariants.{Budget, Exit, TagLimit}
 use Rattle.a32_step.specs.Machine.{a32}
 use Rattle.guest_calls.specs.Run.{by_itself, spends}
 use Rattle.guest_calls.specs.Worked.{loading, storing, storing_exclusively, thread_at, word}

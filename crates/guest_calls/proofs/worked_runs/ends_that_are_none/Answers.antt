@@ -1,5 +1,5 @@
 use Rattle.std.proofs.Common.{◌≡◌, ℕ, [], arith}
-use Rattle.a32_instr.specs.declared.outside.Stop.TheVariants.{Budget, Exit, Outside}
+use Rattle.llsc_base.specs.declared.outside.Stop.TheVariants.{Budget, Exit, Outside}
 use Rattle.a32_step.specs.Machine.{a32}
 use Rattle.guest_calls.specs.Worked.{calling, loading}
 use Rattle.guest_calls.proofs.Asked.{asks_or_ends}

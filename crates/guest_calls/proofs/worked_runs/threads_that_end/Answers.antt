@@ -1,5 +1,5 @@
 use Rattle.std.proofs.Common.{[], lit<}
-use Rattle.a32_instr.specs.declared.outside.Stop.TheVariants.{ReadOnly}
+use Rattle.llsc_base.specs.declared.outside.Stop.TheVariants.{ReadOnly}
 use Rattle.guest_calls.specs.Run.{begins, halts, spends}
 use Rattle.guest_calls.specs.Worked.{calling, thread_at}
 use Rattle.guest_calls.proofs.SmallRuns.{exit_left, load_reached, outside_stopped, spent_at_once, store_barred, write_spent}

@@ -1,5 +1,5 @@
 use Rattle.std.proofs.Common.{◌≡◌, [], ◌∷◌, lit<, refl, subst, arith}
-use Rattle.a32_instr.specs.declared.outside.Stop.TheVariants.{Budget, Exit}
+use Rattle.llsc_base.specs.declared.outside.Stop.TheVariants.{Budget, Exit}
 use Rattle.a32_step.specs.Machine.{a32}
 use Rattle.guest_calls.specs.Run.{Reaches, ReachesFrom, begins, returns, spends}
 use Rattle.guest_calls.specs.Worked.{call, calling, loading, thread_at}

@@ -1,5 +1,5 @@
 use Rattle.std.proofs.Common.{◌≡◌, ◌+◌, ◌*◌, ◌<◌, ◌^◌, ◌∷◌, All, ℕ, true, ap, arith, subst, sym, vec_len}
-use Rattle.a32_instr.specs.declared.outside.Stop.TheVariants.{TagLimit}
+use Rattle.llsc_base.specs.declared.outside.Stop.TheVariants.{TagLimit}
 use Rattle.guest_thread.specs.BegunOutcome.{AreBegunEnds}
 use Rattle.guest_thread.specs.Counting.{accesses_counted, counts_in}
 use Rattle.guest_thread.specs.declared.ends.GuestEnd.{GuestEnd}

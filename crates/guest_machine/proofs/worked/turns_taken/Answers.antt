@@ -1,5 +1,5 @@
 use Rattle.std.proofs.Common.{refl, [], ◌∷◌}
-use Rattle.a32_instr.specs.declared.outside.Stop.TheVariants.{Exit}
+use Rattle.llsc_base.specs.declared.outside.Stop.TheVariants.{Exit}
 use Rattle.guest_machine.specs.Turns.{begins, stops}
 use Rattle.guest_machine.proofs.SmallRuns.{leaves_at_once}
 use Rattle.guest_machine.proofs.SmallTraces.{one_load}

@@ -1,6 +1,6 @@
 -- A thread alone has one end.
 use Rattle.std.proofs.Common.{◌≡◌, ap, refl}
-use Rattle.a32_instr.specs.declared.outside.Stop.TheVariants.{Exit}
+use Rattle.llsc_base.specs.declared.outside.Stop.TheVariants.{Exit}
 use Rattle.guest_thread.specs.Start.{thread_start}
 use Rattle.guest_thread.specs.declared.ends.GuestEnd.{GuestEnd}
 use Rattle.history.proofs.SmallMemory.{apart}

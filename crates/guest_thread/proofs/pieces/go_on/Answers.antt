@@ -1,6 +1,6 @@
 use Rattle.std.proofs.Common.{◌≡◌, ◌≤◌, [], length, refl, sym, subst, arith}
 use Rattle.history.specs.Started.{MayAct}
-use Rattle.a32_step.specs.Machine.{IsCalling}
+use Rattle.guest_core.specs.Machine.{IsCalling}
 use Rattle.guest_calls.specs.Calls.{most_output}
 use Rattle.guest_calls.specs.Run.{begins}
 use Rattle.guest_thread.specs.Pieces.{IsPiece, part_at, point_of}

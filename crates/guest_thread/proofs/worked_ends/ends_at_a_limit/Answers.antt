@@ -1,6 +1,6 @@
 use Rattle.std.proofs.Common.{◌≡◌, ℕ, ◌≤◌, [], refl, subst, lit≤, arith}
 use Rattle.llsc_base.specs.Memory.{class_of, row_of}
-use Rattle.a32_instr.specs.declared.outside.Stop.TheVariants.{Exit, TagLimit}
+use Rattle.llsc_base.specs.declared.outside.Stop.TheVariants.{Exit, TagLimit}
 use Rattle.guest_calls.specs.Run.{by_itself}
 use Rattle.guest_thread.specs.Outcome.{IsSpent}
 use Rattle.guest_thread.specs.Worked.{machine_of, store_of, word}

@@ -1,6 +1,6 @@
 use Rattle.std.proofs.Common.{◌≡◌, [], refl, arith}
-use Rattle.a32_instr.specs.declared.outside.Ask.TheVariants.{Load}
-use Rattle.a32_instr.specs.declared.outside.Stop.TheVariants.{Budget, Exit}
+use Rattle.llsc_base.specs.declared.outside.Ask.TheVariants.{Load}
+use Rattle.llsc_base.specs.declared.outside.Stop.TheVariants.{Budget, Exit}
 use Rattle.a32_step.specs.Machine.{a32}
 use Rattle.guest_calls.proofs.Asked.{asks_or_ends}
 use Rattle.guest_calls.proofs.Listed.{one_end_of_list}

@@ -1,5 +1,5 @@
 use Rattle.std.proofs.Common.{◌≡◌, [], refl, arith}
-use Rattle.a32_instr.specs.declared.outside.Stop.TheVariants.{Exit}
+use Rattle.llsc_base.specs.declared.outside.Stop.TheVariants.{Exit}
 use Rattle.a32_step.specs.Machine.{a32}
 use Rattle.guest_calls.proofs.Listed.{one_end_of_list}
 use Rattle.guest_thread.specs.Worked.{end_of, leaving, machine_of}

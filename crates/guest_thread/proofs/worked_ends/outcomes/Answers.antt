@@ -7,7 +7,7 @@ use Rattle.history.specs.declared.entry.Entry.TheVariants.{Start}
 use Rattle.history.proofs.Cuts.{each-none}
 use Rattle.history.proofs.Operations.{last_stage-AreFinished}
 use Rattle.history.proofs.SmallHistories.{not_begun}
-use Rattle.a32_instr.specs.declared.outside.Stop.TheVariants.{Exit}
+use Rattle.llsc_base.specs.declared.outside.Stop.TheVariants.{Exit}
 use Rattle.a32_step.specs.Machine.{a32}
 use Rattle.guest_calls.specs.Run.{by_itself}
 use Rattle.guest_calls.proofs.Asked.{one_end_on}

@@ -1,7 +1,7 @@
 use Rattle.std.proofs.Common.{◌≡◌, ℕ, Some, List, [], ◌∷◌, lit<, refl, subst}
 use Rattle.history.specs.Starts.{Started}
 use Rattle.a32_step.specs.Machine.{Machine}
-use Rattle.a32_instr.specs.declared.outside.Stop.TheVariants.{Budget}
+use Rattle.llsc_base.specs.declared.outside.Stop.TheVariants.{Budget}
 use Rattle.guest_calls.specs.Run.{Point, begins, by_itself, first_point, spends}
 use Rattle.guest_calls.specs.Worked.{call, calling, thread_at}
 use Rattle.guest_calls.proofs.SmallRuns.{call_next, call_returned}

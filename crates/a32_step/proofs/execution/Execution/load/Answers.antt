@@ -1,5 +1,6 @@
 use Rattle.std.proofs.Common.{◌≡◌, refl, sym, ap, ◌∙◌}
-use Rattle.a32_instr.specs.LoadStore.{loaded_part, loads, written_back}
+use Rattle.llsc_base.specs.Effects.{loaded_part}
+use Rattle.a32_instr.specs.LoadStore.{loads, written_back}
 use Rattle.a32_instr.specs.State.{writes}
 use Rattle.a32_step.proofs.Acting.{acted_by_one, acted_held, held_stage}
 use Rattle.a32_step.proofs.execution.Execution.load.Goals as goal

@@ -1,6 +1,6 @@
 use Rattle.std.proofs.Common.{refl, ap, ◌∙◌}
 use Rattle.a32_instr.specs.State.{advanced}
-use Rattle.a32_instr.specs.LoadStore.{loaded_part}
+use Rattle.llsc_base.specs.Effects.{loaded_part}
 use Rattle.a32_instr.specs.Exclusive.{load_exclusive, with_loaded}
 use Rattle.a32_step.specs.ExecutionState.{ExecutionState}
 use Rattle.a32_step.proofs.Acting.{acted_done, acted_held}

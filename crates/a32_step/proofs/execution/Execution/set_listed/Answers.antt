@@ -1,5 +1,5 @@
 use Rattle.std.proofs.Common.{rules, ◌≡◌, ◌<◌, ◌≤◌, ◌+◌, ◌-◌, length, drop, sym, ◌∙◌, ap, arith, slice_index, slice_set, true}
-use Rattle.a32_instr.specs.State.{low32}
+use Rattle.llsc_base.specs.Words.{low32}
 use Rattle.a32_instr.specs.Block.{is_listed, loaded}
 use Rattle.a32_compute.specs.Lists.{highest}
 use Rattle.a32_compute.proofs.Lists.{at_listed, loaded_next}

@@ -1,5 +1,6 @@
 use Rattle.std.proofs.Common.{refl, ap, ◌∙◌}
-use Rattle.a32_instr.specs.State.{advanced, low32, with_register}
+use Rattle.a32_instr.specs.State.{advanced, with_register}
+use Rattle.llsc_base.specs.Words.{low32}
 use Rattle.a32_instr.specs.Exclusive.{store_exclusive}
 use Rattle.a32_step.specs.ExecutionState.{ExecutionState}
 use Rattle.a32_step.proofs.Acting.{acted_done, acted_held}

@@ -1,9 +1,9 @@
 -- Each instruction leads on, whether it is complete or not.
 use Rattle.std.proofs.Common.{rules, ◌≡◌, ◌+◌, ◌<◌, ◌≤◌, length, refl, sym, ap, subst, ◌∙◌, arith}
 use Rattle.llsc_base.specs.Images.{Program}
-use Rattle.a32_step.specs.declared.phases.Passage.TheVariants.{Complete}
-use Rattle.a32_step.specs.Machine.{MachineOf, IsReady}
-use Rattle.a32_step.specs.Passages.{IsCarriedOnOf}
+use Rattle.guest_core.specs.declared.phases.Passage.TheVariants.{Complete}
+use Rattle.guest_core.specs.Machine.{MachineOf, IsReady}
+use Rattle.guest_core.specs.Passages.{IsCarriedOnOf}
 use Rattle.guest_thread.specs.Ports.{IsAtRest, IsRunning}
 use Rattle.guest_thread.specs.Progress.{progress_of}
 use Rattle.guest_thread.specs.ThreadState.{ThreadOf, thread_in}

@@ -1,5 +1,5 @@
 use Rattle.std.proofs.Common.{sym, ap, ◌∙◌, false}
-use Rattle.a32_step.specs.Machine.{given}
+use Rattle.guest_core.specs.Machine.{given}
 use Rattle.guest_calls.specs.Run.{first_point}
 use Rattle.guest_thread.specs.ThreadState.{ThreadStateOf, thread_in}
 use Rattle.guest_thread.proofs.Reached.{after_reply}

@@ -1,6 +1,6 @@
 -- A reply leads a thread on, and a store that memory refuses ends it.
 use Rattle.std.proofs.Common.{◌∷◌, [], ◌∙◌, ap, length, refl, sym, subst, append-nil, inl, inr}
-use Rattle.a32_step.specs.Ports.{IsRefused, goes, refused, stays}
+use Rattle.guest_core.specs.Ports.{IsRefused, goes, refused, stays}
 use Rattle.guest_thread.specs.declared.guests.Event.TheVariants as event
 use Rattle.guest_thread.specs.ThreadState.{IsPendingAfterEvent, thread_in}
 use Rattle.guest_thread.specs.Under.{ComesToEventOf, HasComeFromOf}

@@ -1,7 +1,7 @@
 -- What each access leaves holds for all of them.
 use Rattle.std.proofs.Common.{◌∙◌, ◌++◌, [], length, refl, sym, subst, append-nil}
 use Rattle.llsc_base.specs.Images.{Program}
-use Rattle.a32_step.specs.Ports.{Leads}
+use Rattle.guest_core.specs.Ports.{Leads}
 use Rattle.guest_thread.specs.Ports.{IsRunning, RestsByOf}
 use Rattle.guest_thread.specs.Under.{HasComeFromOf}
 use Rattle.guest_thread.specs.ThreadState.{thread_in}

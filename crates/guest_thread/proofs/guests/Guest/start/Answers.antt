@@ -1,5 +1,5 @@
 use Rattle.std.proofs.Common.{ℕ, [], subst}
-use Rattle.a32_step.specs.Machine.{MachineOf}
+use Rattle.guest_core.specs.Machine.{MachineOf}
 use Rattle.guest_thread.specs.Start.{thread_start_of}
 use Rattle.guest_thread.specs.ThreadState.{thread_in}
 use Rattle.guest_thread.specs.Under.{HasComeOf}

@@ -1,5 +1,5 @@
 use Rattle.std.proofs.Common.{rules, ◌+◌, length, sym, ap, subst, ◌∙◌, Option, MatchOption}
-use Rattle.a32_step.specs.Machine.{next_of, after_of, wanted_of}
+use Rattle.guest_core.specs.Machine.{next_of, after_of, wanted_of}
 use Rattle.guest_thread.specs.declared.guests.Turn.{Turn}
 use Rattle.guest_thread.specs.ThreadState.{ThreadStateOf, thread_in}
 use Rattle.guest_thread.specs.Under.{HasComeFromOf, ComesToFromOf}

@@ -1,6 +1,6 @@
 use Rattle.std.proofs.Common.{◌+◌, ◌⊎◌, inl, inr, true, false, ℕ, List, add-zero, arith, refl, sym, subst}
-use Rattle.a32_step.specs.Ports.{IsRefused}
-use Rattle.a32_instr.specs.declared.outside.Ask.TheVariants.{Clear, Load, LoadEx, Store, StoreEx}
+use Rattle.guest_core.specs.Ports.{IsRefused}
+use Rattle.llsc_base.specs.declared.outside.Ask.TheVariants.{Clear, Load, LoadEx, Store, StoreEx}
 use Rattle.atomic_table.specs.Seated.{TableId}
 use Rattle.llsc_base.specs.declared.access.Place.{Place}
 use Rattle.history.specs.declared.entry.Entry.{Entry}

@@ -1,5 +1,5 @@
 use Rattle.std.proofs.Common.{◌∷◌, [], sym, ap, ◌∙◌, subst}
-use Rattle.a32_instr.specs.State.{completes}
+use Rattle.llsc_base.specs.Effects.{completes}
 use Rattle.rv32_guest.specs.Effect.{acts}
 use Rattle.rv32_guest.specs.Passages.{GoesOnWith}
 use Rattle.rv32_guest.proofs.CarriedOn.{carried_at_once, carried_by_reply, found, not_on, refused_on, with_registers}

@@ -1,4 +1,4 @@
-use Rattle.a32_step.proofs.Follows.{follows_of}
+use Rattle.guest_core.proofs.Follows.{follows_of}
 use Rattle.rv32_guest.specs.Machine.{rv32}
 use Rattle.rv32_guest.proofs.cpu.RvCpu.next.Goals as goal
 

@@ -1,6 +1,6 @@
 use Rattle.std.proofs.Common.{ℕ, zero, suc, List, [], ◌∷◌, ◌++◌, replicate, refl, arith}
-use Rattle.a32_step.specs.Words.{AreWords}
-use Rattle.a32_step.proofs.Words.{words_none, words_more}
+use Rattle.llsc_base.specs.Words.{AreWords}
+use Rattle.llsc_base.proofs.Words.{words_none, words_more}
 use Rattle.rv32_guest.proofs.registers.Registers.start.Goals as goal
 
 zeros : (count : ℕ) (xs : List ℕ) → AreWords xs → AreWords (replicate count 0 ++ xs)

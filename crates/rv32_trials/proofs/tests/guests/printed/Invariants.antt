@@ -1,4 +1,4 @@
-use Rattle.a32_step.specs.Machine.{IsReady}
+use Rattle.guest_core.specs.Machine.{IsReady}
 use Rattle.rv32_trials.proofs.tests.guests.printed.Given as goal
 
 -- neither a reply nor an answer is awaited where the core goes on

@@ -1,4 +1,4 @@
-use Rattle.a32_step.specs.Machine.{IsReady}
+use Rattle.guest_core.specs.Machine.{IsReady}
 use Rattle.a32_trials.proofs.tests.cpu.starts.core_with.Given as goal
 
 -- no reply is awaited where the core goes on

@@ -1,8 +1,8 @@
 -- Instructions that were met before, each in the slot of its address.
 use Rattle.std.specs.Prelude.{◌≡◌, ℕ, ◌/◌, ◌%◌, List, Option, Some, None, Result, Ok, slice_get}
 use Rattle.llsc_base.specs.Images.{Program}
-use Rattle.a32_instr.specs.declared.outside.Stop.{Stop}
-use Rattle.a32_step.specs.declared.code.Known.{Known}
+use Rattle.llsc_base.specs.declared.outside.Stop.{Stop}
+use Rattle.guest_core.specs.declared.code.Known.{Known}
 
 -- a program, and what is known of it
 pub record KnownCode (R : Type 0) : Type 0 where

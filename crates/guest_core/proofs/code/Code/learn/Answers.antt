@@ -1,9 +1,9 @@
 use Rattle.std.proofs.Common.{◌/◌, ◌%◌, ◌∙◌, refl, sym}
 use Rattle.std.proofs.lemmas.List.{length-set}
-use Rattle.a32_step.specs.declared.code.Known.{Known}
-use Rattle.a32_step.specs.Known.{IsRight}
-use Rattle.a32_step.proofs.Learnt.{all_right, known_there}
-use Rattle.a32_step.proofs.code.Code.learn.Goals as goal
+use Rattle.guest_core.specs.declared.code.Known.{Known}
+use Rattle.guest_core.specs.Known.{IsRight}
+use Rattle.guest_core.proofs.Learnt.{all_right, known_there}
+use Rattle.guest_core.proofs.code.Code.learn.Goals as goal
 
 pub invariant_of-self : goal.invariant_of-self
 invariant_of-self g c =

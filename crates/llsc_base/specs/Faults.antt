@@ -1,7 +1,7 @@
 -- The names of the reasons for which a word is no instruction.
 use Rattle.std.specs.Prelude.{ℕ, List, codes}
-use Rattle.a32_instr.specs.declared.instructions.DecodeFault.{DecodeFault}
-use Rattle.a32_instr.specs.declared.instructions.DecodeFault.TheVariants as fault
+use Rattle.llsc_base.specs.declared.decoding.DecodeFault.{DecodeFault}
+use Rattle.llsc_base.specs.declared.decoding.DecodeFault.TheVariants as fault
 
 -- the name of a reason
 abbrev pub decode_fault_name : DecodeFault → List ℕ

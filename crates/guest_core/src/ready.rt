@@ -1,11 +1,7 @@
 //! Instructions that are kept ready, so that their words needn't be decoded again.
 ghost use Rattle.std.specs.Prelude.{◌≡◌, ℕ, IfSome, Ok, Result, Some};
 ghost use Rattle.llsc_base.specs.Images.{Program, word_at};
-ghost use Rattle.a32_instr.specs.declared.outside.Stop.{Stop};
-
-use a32_compute::conditions::condition;
-use a32_decode::decode;
-use a32_instr::{Cond, Instr};
+ghost use Rattle.llsc_base.specs.declared.outside.Stop.{Stop};
 
 /// An instruction of a set as its cores keep it ready, made of its word.
 pub trait Ready: Copy + Send {
@@ -29,43 +25,4 @@ pub trait Ready: Copy + Send {
     fn of_word(word: u32) -> Option<Self>
         ensures right { IfSome result is_right }
         ensures found { IfSome result (λ ready. (program : Program) (addr : ℕ) → word_at program addr ≡ Some word → found program addr ≡ Ok (instr ready)) };
-}
-
-/// An A32 instruction with its condition.
-#[derive(Clone, Copy)]
-pub struct Conditional {
-    pub cond: Cond,
-    pub instr: Instr,
-}
-
-impl Ready for Conditional {
-    ghost use Rattle.std.specs.Prelude.{◌≡◌};
-    ghost use Rattle.a32_instr.specs.declared.instructions.Instr.{Instr};
-    ghost use Rattle.a32_instr.specs.Effect.{condition_of};
-    ghost use Rattle.a32_step.specs.Machine.{instr_at};
-
-    ghost Meaning = { Instr };
-
-    ghost found = { instr_at };
-
-    ghost instr = { λ ready. ready.instr };
-
-    ghost is_right = { λ ready. ready.cond ≡ condition_of ready.instr };
-
-    fn any() -> Conditional {
-        Conditional {
-            cond: Cond::ALWAYS,
-            instr: Instr::Nop { cond: Cond::ALWAYS },
-        }
-    }
-
-    fn of_word(word: u32) -> Option<Conditional> {
-        let Ok(instr) = decode(word) else {
-            return None;
-        };
-        Some(Conditional {
-            cond: condition(&instr),
-            instr,
-        })
-    }
 }

@@ -5,10 +5,10 @@ use Rattle.llsc_base.specs.Memory.{is_aligned, size_bytes}
 use Rattle.llsc_base.specs.Images.{Program, bar_of, touches_read_only}
 use Rattle.llsc_base.specs.declared.access.Bar.TheVariants as bar
 use Rattle.llsc_base.specs.declared.access.Place.{Place}
-use Rattle.a32_instr.specs.declared.outside.Ask.{Ask}
-use Rattle.a32_instr.specs.declared.outside.Ask.TheVariants as ask
-use Rattle.a32_step.specs.Machine.{PassesTests}
-use Rattle.a32_step.specs.Ports.{IsPlaced}
+use Rattle.llsc_base.specs.declared.outside.Ask.{Ask}
+use Rattle.llsc_base.specs.declared.outside.Ask.TheVariants as ask
+use Rattle.guest_core.specs.Machine.{PassesTests}
+use Rattle.guest_core.specs.Ports.{IsPlaced}
 
 unbarred : (unaligned past read_only : Bool)
     → (if unaligned then Some bar.Alignment else if past then Some bar.Outside else if read_only then Some bar.ReadOnly else None) ≡ None

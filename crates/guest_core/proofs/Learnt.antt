@@ -4,9 +4,9 @@ use Rattle.std.proofs.lemmas.List.Elements.{All-replicate, All-set}
 use Rattle.std.proofs.lemmas.List.{length-replicate, length-set, get_or-set_same}
 use Rattle.std.proofs.lemmas.Option.{slice_get-get_or}
 use Rattle.llsc_base.specs.Images.{Program}
-use Rattle.a32_instr.specs.declared.outside.Stop.{Stop}
-use Rattle.a32_step.specs.declared.code.Known.{Known}
-use Rattle.a32_step.specs.Known.{IsRight, IsKnown, IsOf}
+use Rattle.llsc_base.specs.declared.outside.Stop.{Stop}
+use Rattle.guest_core.specs.declared.code.Known.{Known}
+use Rattle.guest_core.specs.Known.{IsRight, IsKnown, IsOf}
 
 module _ {I R : Type 0} (found : Program → ℕ → Result I Stop) (instr : R → I) (is_right : R → Type 0) (program : Program) where
   -- slots of which none is known: no word stands at an odd address

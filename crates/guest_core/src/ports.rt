@@ -1,9 +1,9 @@
 //! Who replies to a thread's accesses.
 ghost use Rattle.std.specs.Prelude.{◌≡◌, ◌<◌, ◌≤◌, ◌+◌, ◌^◌, ℕ, IfNone, IfSome, Option, Some, None};
-ghost use Rattle.a32_instr.specs.declared.outside.Ask.{Ask};
-ghost use Rattle.a32_step.specs.Ports.{IsAskIn, IsRefused, ReplyFits};
+ghost use Rattle.llsc_base.specs.declared.outside.Ask.{Ask};
+ghost use Rattle.guest_core.specs.Ports.{IsAskIn, IsRefused, ReplyFits};
 
-use a32_instr::Ask;
+use llsc_base::Ask;
 
 /// Who replies to the accesses of a thread, each at once: a memory, say, with what is counted of it. Which replies may come is
 /// the port's to say (`replies`); what a thread does over a port it does with replies that lead from the port as it was to the

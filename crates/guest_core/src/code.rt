@@ -1,6 +1,6 @@
 //! A program's instructions, each decoded where it is met first.
 ghost use Rattle.std.specs.Prelude.{◌≡◌, ◌%◌, IfOk, IsTrue, Ok};
-ghost use Rattle.a32_step.specs.Known.{IsKnown};
+ghost use Rattle.guest_core.specs.Known.{IsKnown};
 
 use crate::ready::Ready;
 use llsc_base::Image;
@@ -40,7 +40,7 @@ pub struct Code<'i, I: Ready> {
 
 impl<'i, I: Ready> Model for Code<'i, I> {
     ghost use Rattle.std.specs.Prelude.{◌≡◌, All, length};
-    ghost use Rattle.a32_step.specs.Known.{KnownCode, IsRight};
+    ghost use Rattle.guest_core.specs.Known.{KnownCode, IsRight};
 
     ghost Value = { KnownCode I };
 

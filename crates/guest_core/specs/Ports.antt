@@ -1,9 +1,9 @@
 -- Who replies to the accesses of a thread: what may be asked of it, which replies fit, and where they lead.
 use Rattle.std.specs.Prelude.{ℕ, ◌+◌, ◌^◌, ◌<◌, ◌≤◌, IsTrue, Option, Some, None, List, [], ◌∷◌, ◌++◌}
 use Rattle.llsc_base.specs.Memory.{is_aligned, size_bytes}
-use Rattle.a32_instr.specs.declared.outside.Ask.{Ask}
-use Rattle.a32_instr.specs.declared.outside.Ask.TheVariants.{Load, LoadEx, Store, StoreEx, Clear}
-use Rattle.a32_step.specs.Machine.{ValueFits}
+use Rattle.llsc_base.specs.declared.outside.Ask.{Ask}
+use Rattle.llsc_base.specs.declared.outside.Ask.TheVariants.{Load, LoadEx, Store, StoreEx, Clear}
+use Rattle.guest_core.specs.Machine.{ValueFits}
 
 -- the place of an access is aligned and lies in memory
 abbrev pub IsPlaced : ℕ → Ask → Type 0

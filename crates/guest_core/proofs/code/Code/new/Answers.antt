@@ -1,5 +1,5 @@
-use Rattle.a32_step.proofs.Learnt.{none_right}
-use Rattle.a32_step.proofs.code.Code.new.Goals as goal
+use Rattle.guest_core.proofs.Learnt.{none_right}
+use Rattle.guest_core.proofs.code.Code.new.Goals as goal
 
 pub invariant_of-result : goal.invariant_of-result
 invariant_of-result g c =

@@ -1,8 +1,7 @@
 -- Where a guest thread stands in its instruction.
-use Rattle.a32_instr.specs.declared.instructions.Instr.{Instr}
-use Rattle.a32_instr.specs.declared.outside.Ask.{Ask}
-use Rattle.a32_instr.specs.declared.outside.CallAsk.{CallAsk}
-use Rattle.a32_instr.specs.declared.outside.Stop.{Stop}
+use Rattle.llsc_base.specs.declared.outside.Ask.{Ask}
+use Rattle.llsc_base.specs.declared.outside.CallAsk.{CallAsk}
+use Rattle.llsc_base.specs.declared.outside.Stop.{Stop}
 
 -- Between two instructions; inside one that waits for nothing; waiting for the reply to an access of this instruction,
 -- or for the answer of a guest call; or stopped for good.
@@ -12,7 +11,3 @@ pub data PhaseOf (I : Type 0) : Type 0 where
   Awaiting : I → Ask → PhaseOf I
   Calling : CallAsk → PhaseOf I
   Stopped : Stop → PhaseOf I
-
--- where the thread of an A32 guest stands
-abbrev pub Phase : Type 0
-Phase = PhaseOf Instr

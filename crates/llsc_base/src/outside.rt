@@ -1,4 +1,4 @@
-use llsc_base::Place;
+use crate::access::Place;
 
 /// An access to memory that an instruction asks for.
 #[derive(Clone, Copy, Debug, PartialEq, Eq)]

@@ -1,0 +1,5 @@
+pub mod Phase
+pub mod Machine
+pub mod Ports
+pub mod Known
+pub mod Passages

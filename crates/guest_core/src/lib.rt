@@ -1,0 +1,24 @@
+//! The core of a guest thread, of whatever instruction set: what it wants next, and what comes of that.
+//!
+//! A [`Core`] carries out the instructions of a set one access at a time. [`Core::next`] goes on until the
+//! instruction at the PC wants something from outside ([`Wanted`]): an access to memory, a guest call, or
+//! nothing, since it is complete or the thread has stopped. Whoever runs the thread answers. [`Core::carry`]
+//! takes a whole instruction at once, over a [`Port`], which replies to its accesses, and over [`Code`],
+//! which knows the instructions of one image that were met, in the form in which the core keeps them
+//! [`Ready`].
+//!
+//! `specs/Machine` has what a set of instructions is (`InstructionSet`), and what a machine of such a set
+//! does that may be in the middle of an instruction.
+#![tactic(auto)]
+
+mod code;
+mod cores;
+mod phases;
+mod ports;
+mod ready;
+
+pub use code::Code;
+pub use cores::Core;
+pub use phases::{Passage, Wanted};
+pub use ports::Port;
+pub use ready::Ready;

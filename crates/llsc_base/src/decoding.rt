@@ -1,0 +1,27 @@
+ghost use Rattle.std.specs.Prelude.{◌≡◌};
+ghost use Rattle.llsc_base.specs.Faults.{decode_fault_name};
+
+use thiserror::Error;
+
+/// Why a word is no instruction.
+#[derive(Clone, Copy, Debug, PartialEq, Eq, Error)]
+pub enum DecodeFault {
+    /// The word fits no row of its table.
+    #[error("the word is no instruction")]
+    Undefined,
+    /// The word fits a row at which it is unpredictable.
+    #[error("the word is an unpredictable instruction")]
+    Unpredictable,
+}
+
+impl DecodeFault {
+    /// The variant's name.
+    pub fn name(&self) -> &str
+        ensures { result.now ≡ decode_fault_name self.now }
+    {
+        match self {
+            DecodeFault::Undefined => "Undefined",
+            DecodeFault::Unpredictable => "Unpredictable",
+        }
+    }
+}
