@@ -10,7 +10,7 @@ use Rattle.llsc_base.specs.declared.outside.Stop.{Stop}
 use Rattle.llsc_base.specs.declared.outside.Stop.TheVariants.{TagLimit}
 use Rattle.llsc_base.specs.Effects.{asks, calls}
 use Rattle.guest_core.specs.Machine.{MachineOf, InstructionSet, next_of}
-use Rattle.guest_calls.specs.Run.{Pair, byte_load, byte_loads, ReachesOf, EndsOf, EndsOnOf, by_itself, by_limit, AsksOf, asks_access, asks_byte}
+use Rattle.guest_calls.specs.Run.{Pair, byte_load, byte_loads, Reaches, Ends, EndsOn, by_itself, by_limit, Asks, asks_access, asks_byte}
 use Rattle.guest_calls.proofs.Decided.{Replies, AreDecided, Spot, spot_at, replied, followed, bytes_by, printed, answered_so, decided_front, loads_on, first_found, came, ended, asking, rest_by_call, Rests, rests_by, one_way, ends_rest}
 use Rattle.guest_calls.proofs.Listed.{reply_after, list_decides, list_ends, one_end_of_list}
 
@@ -61,7 +61,7 @@ module _ {I S : Type 0} (set : InstructionSet I S) where
 
   -- an instruction that asks rests at what it asks, where nothing is (replied set) to it
   access_rests : (replies : Replies) (program : Program) (budget : ℕ) (start : MachineOf I S) (pairs : List Pair) (machine : MachineOf I S) (steps : ℕ) (output : List ℕ) (ask : Ask)
-      → ReachesOf set program budget start pairs machine steps output → steps < budget → next_of set program machine ≡ asks ask
+      → Reaches set program budget start pairs machine steps output → steps < budget → next_of set program machine ≡ asks ask
       → AreDecided replies pairs → IsSilent replies pairs → Rests set replies program budget start pairs (asking ask steps output)
   access_rests replies program budget start pairs machine steps output ask reached less asked decided silent =
       let here : Spot I S = spot_at set pairs machine steps output in
@@ -74,7 +74,7 @@ module _ {I S : Type 0} (set : InstructionSet I S) where
       (steps : ℕ) × (output : List ℕ) × Rests set replies program budget start pairs (asking ask steps output)
 
   asks_rest : (replies : Replies) (program : Program) (budget : ℕ) (start : MachineOf I S) (pairs : List Pair) (ask : Ask)
-      → AsksOf set program budget start pairs ask → AreDecided replies pairs → IsSilent replies pairs → AsksAtRest replies program budget start pairs ask
+      → Asks set program budget start pairs ask → AreDecided replies pairs → IsSilent replies pairs → AsksAtRest replies program budget start pairs ask
   unfolding AsksAtRest
   asks_rest replies program budget start _ _ (asks_access pairs machine steps output ask reached less asked) decided silent =
       (steps, output, access_rests replies program budget start pairs machine steps output ask reached less asked decided silent)
@@ -94,13 +94,13 @@ module _ {I S : Type 0} (set : InstructionSet I S) where
 
   -- what a thread asks, it rests at, by the replies of the list of its accesses
   list_rests : (program : Program) (budget : ℕ) (start : MachineOf I S) (pairs : List Pair) (ask : Ask)
-      → AsksOf set program budget start pairs ask → AsksAtRest (replies_of pairs) program budget start pairs ask
+      → Asks set program budget start pairs ask → AsksAtRest (replies_of pairs) program budget start pairs ask
   list_rests program budget start pairs ask asking_it =
       asks_rest (replies_of pairs) program budget start pairs ask asking_it (list_decides pairs) (λ asked. list_ends pairs)
 
   -- a thread asks one thing next
   pub one_ask : (program : Program) (budget : ℕ) (start : MachineOf I S) (pairs : List Pair) (ask other : Ask)
-      → AsksOf set program budget start pairs ask → AsksOf set program budget start pairs other → ask ≡ other
+      → Asks set program budget start pairs ask → Asks set program budget start pairs other → ask ≡ other
   unfolding AsksAtRest
   one_ask program budget start pairs ask other one two =
       let first = list_rests program budget start pairs ask one in
@@ -110,7 +110,7 @@ module _ {I S : Type 0} (set : InstructionSet I S) where
 
   -- a thread that asks hasn't ended
   pub asks_or_ends : (program : Program) (budget : ℕ) (start : MachineOf I S) (pairs : List Pair) (ask : Ask) (stop : Stop) (steps : ℕ) (output : List ℕ)
-      → AsksOf set program budget start pairs ask → EndsOf set program budget start pairs stop steps output → ⊥
+      → Asks set program budget start pairs ask → Ends set program budget start pairs stop steps output → ⊥
   unfolding AsksAtRest
   asks_or_ends program budget start pairs ask stop steps output asks_it ends =
       let rests = list_rests program budget start pairs ask asks_it in
@@ -124,8 +124,8 @@ module _ {I S : Type 0} (set : InstructionSet I S) where
   -- two stores that a thread asks next are of one place, with the same steps and the same output behind it
   one_limit : (program : Program) (budget : ℕ) (start : MachineOf I S) (pairs : List Pair)
       (machine one : MachineOf I S) (steps count : ℕ) (output text : List ℕ) (place target : Place) (value other : ℕ)
-      → ReachesOf set program budget start pairs machine steps output → steps < budget → next_of set program machine ≡ asks (Store place value)
-      → ReachesOf set program budget start pairs one count text → count < budget → next_of set program one ≡ asks (Store target other)
+      → Reaches set program budget start pairs machine steps output → steps < budget → next_of set program machine ≡ asks (Store place value)
+      → Reaches set program budget start pairs one count text → count < budget → next_of set program one ≡ asks (Store target other)
       → (place.addr ≡ target.addr) × (steps ≡ count) × (output ≡ text)
   one_limit program budget start pairs machine one steps count output text place target value other reached less asked reached_too less_too asked_too =
       let replies : Replies = replies_of pairs in
@@ -142,7 +142,7 @@ module _ {I S : Type 0} (set : InstructionSet I S) where
 
   -- a thread has one end at most on such a memory
   pub one_end_on : (program : Program) (budget : ℕ) (start : MachineOf I S) (pairs : List Pair) (stop other : Stop) (steps count : ℕ) (output text : List ℕ)
-      → EndsOnOf set program budget start pairs stop steps output → EndsOnOf set program budget start pairs other count text
+      → EndsOn set program budget start pairs stop steps output → EndsOn set program budget start pairs other count text
       → (stop ≡ other) × (steps ≡ count) × (output ≡ text)
   one_end_on program budget start _ _ _ _ _ _ _ (by_itself pairs stop steps output one) (by_itself _ other count text two) =
       one_end_of_list set program budget start pairs stop other steps count output text one two

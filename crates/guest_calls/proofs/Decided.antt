@@ -9,7 +9,7 @@ use Rattle.llsc_base.specs.declared.outside.Stop.TheVariants.{Exit, Budget}
 use Rattle.llsc_base.specs.Effects.{EffectOf, asks, calls, completes, stops}
 use Rattle.guest_core.specs.Machine.{MachineOf, InstructionSet, next_of, after_of, given, returned_of}
 use Rattle.guest_calls.specs.Calls.{CallEffect, exits, answers, writes_bytes}
-use Rattle.guest_calls.specs.Run.{Pair, byte_load, byte_loads, effect_of_call_of, ReachesOf, begins, accesses, steps_on, returns, prints, EndsOf, halts, leaves, spends}
+use Rattle.guest_calls.specs.Run.{Pair, byte_load, byte_loads, effect_of_call, Reaches, begins, accesses, steps_on, returns, prints, Ends, halts, leaves, spends}
 
 -- what is replied to an access after these accesses and replies, if anything is
 abbrev pub Replies : Type 0
@@ -105,7 +105,7 @@ module _ {I S : Type 0} (set : InstructionSet I S) where
   -- after an effect
   abbrev pub moved : Replies → Program → Spot I S → EffectOf S → Spot I S
   moved replies program spot (asks ask) = replied program spot ask (replies spot.pairs ask)
-  moved replies program spot (calls call) = answered_so replies program spot (effect_of_call_of set program call (length spot.output))
+  moved replies program spot (calls call) = answered_so replies program spot (effect_of_call set program call (length spot.output))
   moved replies program spot (completes state) = spot_at spot.pairs (after_of set program spot.machine) (spot.steps + 1) spot.output
   moved replies program spot (stops stop) = spot
 
@@ -195,7 +195,7 @@ module _ {I S : Type 0} (set : InstructionSet I S) where
 
   -- so many turns lead to what a run reaches
   pub came : (replies : Replies) (program : Program) (budget : ℕ) (start : MachineOf I S) (pairs : List Pair) (machine : MachineOf I S) (steps : ℕ) (output : List ℕ)
-      → ReachesOf set program budget start pairs machine steps output → AreDecided replies pairs
+      → Reaches set program budget start pairs machine steps output → AreDecided replies pairs
       → Comes replies program budget start (spot_at pairs machine steps output)
   came replies program budget start _ _ _ _ begins decided = (zero, turns_none replies program budget (begun start))
   came replies program budget start _ _ _ _ (accesses pairs machine steps output ask reply before less asked) decided =
@@ -233,7 +233,7 @@ module _ {I S : Type 0} (set : InstructionSet I S) where
   -- how it rests by an effect; an instruction that is complete counts for nothing either
   abbrev pub rest_by : Program → ℕ → Spot I S → EffectOf S → Rest
   rest_by program loaded spot (asks ask) = asking ask spot.steps spot.output
-  rest_by program loaded spot (calls call) = rest_by_call loaded spot (effect_of_call_of set program call (length spot.output))
+  rest_by program loaded spot (calls call) = rest_by_call loaded spot (effect_of_call set program call (length spot.output))
   rest_by program loaded spot (completes state) = spent_at spot
   rest_by program loaded spot (stops stop) = ended spot.pairs stop spot.steps spot.output
 
@@ -289,7 +289,7 @@ module _ {I S : Type 0} (set : InstructionSet I S) where
 
   -- a run that has ended rests, whatever is taken to be behind it
   pub ends_rest : (replies : Replies) (program : Program) (budget : ℕ) (start : MachineOf I S) (behind pairs : List Pair) (stop : Stop) (steps : ℕ) (output : List ℕ)
-      → EndsOf set program budget start pairs stop steps output → AreDecided replies pairs
+      → Ends set program budget start pairs stop steps output → AreDecided replies pairs
       → Rests replies program budget start behind (ended pairs stop steps output)
   ends_rest replies program budget start behind _ _ _ _ (halts pairs machine steps output stop reached less stopped) decided =
       rests_by replies program budget start behind (spot_at pairs machine steps output) (stops stop) (ended pairs stop steps output)
@@ -305,8 +305,8 @@ module _ {I S : Type 0} (set : InstructionSet I S) where
 
   -- of two runs whose replies are decided alike, the accesses and replies, the stop, the steps and the output are the same
   pub one_end : (replies : Replies) (program : Program) (budget : ℕ) (start : MachineOf I S) (pairs others : List Pair) (stop other : Stop) (steps count : ℕ) (output text : List ℕ)
-      → EndsOf set program budget start pairs stop steps output → AreDecided replies pairs
-      → EndsOf set program budget start others other count text → AreDecided replies others
+      → Ends set program budget start pairs stop steps output → AreDecided replies pairs
+      → Ends set program budget start others other count text → AreDecided replies others
       → (pairs ≡ others) × (stop ≡ other) × (steps ≡ count) × (output ≡ text)
   one_end replies program budget start pairs others stop other steps count output text ends decided ends_too decided_too =
       same_ended pairs others stop other steps count output text

@@ -11,7 +11,7 @@ use Rattle.guest_core.specs.declared.phases.Wanted.TheVariants as wanted
 use Rattle.guest_core.proofs.Follows.{follows_of}
 use Rattle.guest_calls.specs.Bound.{most_accesses_in}
 use Rattle.guest_calls.specs.Calls.{most_output}
-use Rattle.guest_calls.specs.Run.{Pair, PointOf, first_point, byte_loads, ReachesOf, ReachesFromOf, begins, accesses, steps_on, returns, prints, EndsOf, halts, leaves, spends, EndsOnOf, by_itself, by_limit}
+use Rattle.guest_calls.specs.Run.{Pair, PointOf, first_point, byte_loads, Reaches, ReachesFrom, begins, accesses, steps_on, returns, prints, Ends, halts, leaves, spends, EndsOn, by_itself, by_limit}
 use Rattle.guest_calls.proofs.Asked.{loads_count}
 use Rattle.guest_calls.proofs.Written.{written_within}
 
@@ -75,7 +75,7 @@ module _ {I S : Type 0} (set : InstructionSet I S)
           written = before.written;
         }
 
-    made : (pairs : List Pair) (machine : MachineOf I S) (steps : ℕ) (output : List ℕ) → ReachesFromOf set program budget from pairs machine steps output → HasMade from pairs machine steps output
+    made : (pairs : List Pair) (machine : MachineOf I S) (steps : ℕ) (output : List ℕ) → ReachesFrom set program budget from pairs machine steps output → HasMade from pairs machine steps output
     made _ _ _ _ begins = at_first
     made _ _ _ _ (accesses pairs machine steps output ask reply reached less asked) =
         let before = made pairs machine steps output reached in
@@ -115,7 +115,7 @@ module _ {I S : Type 0} (set : InstructionSet I S)
 
   -- from a point between two instructions
   pub few_pairs : (program : Program) (budget : ℕ) (from : PointOf I S) (pairs : List Pair) (machine : MachineOf I S) (steps : ℕ) (output : List ℕ)
-      → from.machine ≡ between from.machine.state → length from.output ≤ most_output → ReachesFromOf set program budget from pairs machine steps output
+      → from.machine ≡ between from.machine.state → length from.output ≤ most_output → ReachesFrom set program budget from pairs machine steps output
       → (length pairs + 16 * from.steps + length from.output ≤ 16 * steps + length machine.replies + length output)
       × (length machine.replies ≤ 16) × (length output ≤ most_output)
   few_pairs program budget from pairs machine steps output between_two short reached =
@@ -125,7 +125,7 @@ module _ {I S : Type 0} (set : InstructionSet I S)
   -- ---- up to the end
 
   module _ (program : Program) (budget : ℕ) (start : MachineOf I S) (between_two : start ≡ between start.state) where
-    few_reached : (pairs : List Pair) (machine : MachineOf I S) (steps : ℕ) (output : List ℕ) → ReachesOf set program budget start pairs machine steps output
+    few_reached : (pairs : List Pair) (machine : MachineOf I S) (steps : ℕ) (output : List ℕ) → Reaches set program budget start pairs machine steps output
         → length pairs ≤ most_accesses_in steps
     few_reached pairs machine steps output reached =
         let few = few_pairs program budget (first_point start) pairs machine steps output between_two (omega arith) reached in
@@ -134,24 +134,24 @@ module _ {I S : Type 0} (set : InstructionSet I S)
         let written = few.2 in
         omega (arith, all, replies, written)
 
-    few_ended : (pairs : List Pair) (stop : Stop) (steps : ℕ) (output : List ℕ) → EndsOf set program budget start pairs stop steps output → length pairs ≤ most_accesses_in steps
+    few_ended : (pairs : List Pair) (stop : Stop) (steps : ℕ) (output : List ℕ) → Ends set program budget start pairs stop steps output → length pairs ≤ most_accesses_in steps
     few_ended _ _ _ _ (halts pairs machine steps output stop reached less stops) = few_reached pairs machine steps output reached
     few_ended _ _ _ _ (leaves pairs machine steps output call code reached less called known) =
         let few = few_reached pairs machine steps output reached in omega (arith, few)
     few_ended _ _ _ _ (spends pairs machine output reached) = few_reached pairs machine budget output reached
 
-    pub few_accesses : (pairs : List Pair) (stop : Stop) (steps : ℕ) (output : List ℕ) → EndsOnOf set program budget start pairs stop steps output → length pairs ≤ most_accesses_in steps
+    pub few_accesses : (pairs : List Pair) (stop : Stop) (steps : ℕ) (output : List ℕ) → EndsOn set program budget start pairs stop steps output → length pairs ≤ most_accesses_in steps
     few_accesses _ _ _ _ (by_itself pairs stop steps output ends) = few_ended pairs stop steps output ends
     few_accesses _ _ _ _ (by_limit pairs machine steps output place value reached less stored) = few_reached pairs machine steps output reached
 
 module _ {I S : Type 0} (set : InstructionSet I S) where
   -- ---- the steps of a run that has ended are no more than its budget
 
-  ended_within : (program : Program) (budget : ℕ) (start : MachineOf I S) (pairs : List Pair) (stop : Stop) (steps : ℕ) (output : List ℕ) → EndsOf set program budget start pairs stop steps output → steps ≤ budget
+  ended_within : (program : Program) (budget : ℕ) (start : MachineOf I S) (pairs : List Pair) (stop : Stop) (steps : ℕ) (output : List ℕ) → Ends set program budget start pairs stop steps output → steps ≤ budget
   ended_within program budget start _ _ _ _ (halts pairs machine steps output stop reached less stops) = omega (arith, less)
   ended_within program budget start _ _ _ _ (leaves pairs machine steps output call code reached less called known) = omega (arith, less)
   ended_within program budget start _ _ _ _ (spends pairs machine output reached) = omega arith
 
-  pub steps_within : (program : Program) (budget : ℕ) (start : MachineOf I S) (pairs : List Pair) (stop : Stop) (steps : ℕ) (output : List ℕ) → EndsOnOf set program budget start pairs stop steps output → steps ≤ budget
+  pub steps_within : (program : Program) (budget : ℕ) (start : MachineOf I S) (pairs : List Pair) (stop : Stop) (steps : ℕ) (output : List ℕ) → EndsOn set program budget start pairs stop steps output → steps ≤ budget
   steps_within program budget start _ _ _ _ (by_itself pairs stop steps output ends) = ended_within program budget start pairs stop steps output ends
   steps_within program budget start _ _ _ _ (by_limit pairs machine steps output place value reached less stored) = omega (arith, less)

@@ -2,11 +2,7 @@ pub mod Asked
 pub mod Decided
 pub mod FewAccesses
 pub mod Listed
-pub mod SmallRuns
 pub mod Written
-pub mod Onward
-pub mod Branching
 pub mod OwnAccesses
 pub mod Pieces
-pub mod Staying
 pub mod Retries

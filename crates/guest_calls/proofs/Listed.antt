@@ -4,7 +4,7 @@ use Rattle.llsc_base.specs.Images.{Program}
 use Rattle.llsc_base.specs.declared.outside.Ask.{Ask}
 use Rattle.llsc_base.specs.declared.outside.Stop.{Stop}
 use Rattle.guest_core.specs.Machine.{MachineOf, InstructionSet}
-use Rattle.guest_calls.specs.Run.{Pair, EndsOf}
+use Rattle.guest_calls.specs.Run.{Pair, Ends}
 use Rattle.guest_calls.proofs.Decided.{AreDecided, one_end}
 
 -- the reply that a list has after so long a beginning
@@ -30,7 +30,7 @@ list_ends (pair ∷ pairs) = list_ends pairs
 module _ {I S : Type 0} (set : InstructionSet I S) where
   -- two ends of one list are the same
   pub one_end_of_list : (program : Program) (budget : ℕ) (start : MachineOf I S) (pairs : List Pair) (stop other : Stop) (steps count : ℕ) (output text : List ℕ)
-      → EndsOf set program budget start pairs stop steps output → EndsOf set program budget start pairs other count text → (stop ≡ other) × (steps ≡ count) × (output ≡ text)
+      → Ends set program budget start pairs stop steps output → Ends set program budget start pairs other count text → (stop ≡ other) × (steps ≡ count) × (output ≡ text)
   one_end_of_list program budget start pairs stop other steps count output text ends ends_too =
       let same =
       one_end set (λ front ask. reply_after pairs front) program budget start pairs pairs stop other steps count output text

@@ -3,16 +3,13 @@ use Rattle.std.specs.Prelude.{◌≡◌, ℕ, ◌+◌, ◌<◌, ◌&&◌, Bool, 
 use Rattle.llsc_base.specs.Images.{Program}
 use Rattle.llsc_base.specs.declared.access.Place.{Place}
 use Rattle.llsc_base.specs.declared.access.Size.TheVariants.{B1}
-use Rattle.a32_instr.specs.declared.instructions.Instr.{Instr}
 use Rattle.llsc_base.specs.declared.outside.Ask.{Ask}
 use Rattle.llsc_base.specs.declared.outside.Ask.TheVariants.{Load, Store}
 use Rattle.llsc_base.specs.declared.outside.CallAsk.{CallAsk}
 use Rattle.llsc_base.specs.declared.outside.Stop.{Stop}
 use Rattle.llsc_base.specs.declared.outside.Stop.TheVariants.{Exit, Budget, TagLimit}
-use Rattle.a32_instr.specs.State.{State}
 use Rattle.llsc_base.specs.Effects.{asks, calls, completes, stops}
 use Rattle.guest_core.specs.Machine.{MachineOf, InstructionSet, next_of, after_of, returned_of, given}
-use Rattle.a32_step.specs.Machine.{Machine, a32}
 use Rattle.guest_calls.specs.Calls.{CallEffect, exits, answers, writes_bytes, call_effect, is_start_call}
 
 -- an access and the reply to it
@@ -40,140 +37,101 @@ first_point start = record { machine = start; steps = 0; output = [] }
 
 module _ {I S : Type 0} (set : InstructionSet I S) where
   -- what a guest call does in a program, where the thread wrote so many bytes before
-  abbrev pub effect_of_call_of : Program → CallAsk → ℕ → CallEffect
-  effect_of_call_of program call written = call_effect (set.call_of call) (length program.bytes) written
+  abbrev pub effect_of_call : Program → CallAsk → ℕ → CallEffect
+  effect_of_call program call written = call_effect (set.call_of call) (length program.bytes) written
 
   -- From a point a thread comes to a machine and a number of steps, with these accesses and replies in order, and with
   -- this output. No instruction begins once the steps are the budget. An instruction that is complete is one step, and so
   -- is a guest call that was answered: a write loads its bytes first, each reply is a byte of the output, and its answer
   -- is their number. Where the thread has a stock, a call that starts a thread isn't answered here.
-  pub data ReachesByOf (stocked : Bool) (program : Program) (budget : ℕ) (from : PointOf I S) : List Pair → MachineOf I S → ℕ → List ℕ → Type 0 where
-    begins : ReachesByOf stocked program budget from [] from.machine from.steps from.output
+  pub data ReachesBy (stocked : Bool) (program : Program) (budget : ℕ) (from : PointOf I S) : List Pair → MachineOf I S → ℕ → List ℕ → Type 0 where
+    begins : ReachesBy stocked program budget from [] from.machine from.steps from.output
     accesses : (pairs : List Pair) (machine : MachineOf I S) (steps : ℕ) (output : List ℕ) (ask : Ask) (reply : ℕ)
-        → ReachesByOf stocked program budget from pairs machine steps output
+        → ReachesBy stocked program budget from pairs machine steps output
         → steps < budget
         → next_of set program machine ≡ asks ask
-        → ReachesByOf stocked program budget from (pairs ++ (ask, reply) ∷ []) (given (after_of set program machine) reply) steps output
+        → ReachesBy stocked program budget from (pairs ++ (ask, reply) ∷ []) (given (after_of set program machine) reply) steps output
     steps_on : (pairs : List Pair) (machine : MachineOf I S) (steps : ℕ) (output : List ℕ) (state : S)
-        → ReachesByOf stocked program budget from pairs machine steps output
+        → ReachesBy stocked program budget from pairs machine steps output
         → steps < budget
         → next_of set program machine ≡ completes state
-        → ReachesByOf stocked program budget from pairs (after_of set program machine) (steps + 1) output
+        → ReachesBy stocked program budget from pairs (after_of set program machine) (steps + 1) output
     returns : (pairs : List Pair) (machine : MachineOf I S) (steps : ℕ) (output : List ℕ) (call : CallAsk) (answer : ℕ)
-        → ReachesByOf stocked program budget from pairs machine steps output
+        → ReachesBy stocked program budget from pairs machine steps output
         → steps < budget
         → next_of set program machine ≡ calls call
-        → effect_of_call_of program call (length output) ≡ answers answer
+        → effect_of_call program call (length output) ≡ answers answer
         → (stocked && is_start_call (set.call_of call)) ≡ false
-        → ReachesByOf stocked program budget from pairs (returned_of set (after_of set program machine) answer) (steps + 1) output
+        → ReachesBy stocked program budget from pairs (returned_of set (after_of set program machine) answer) (steps + 1) output
     prints : (pairs : List Pair) (machine : MachineOf I S) (steps : ℕ) (output : List ℕ) (call : CallAsk) (addr : ℕ) (bytes : List ℕ)
-        → ReachesByOf stocked program budget from pairs machine steps output
+        → ReachesBy stocked program budget from pairs machine steps output
         → steps < budget
         → next_of set program machine ≡ calls call
-        → effect_of_call_of program call (length output) ≡ writes_bytes addr (length bytes)
-        → ReachesByOf stocked program budget from (pairs ++ byte_loads addr bytes) (returned_of set (after_of set program machine) (length bytes)) (steps + 1) (output ++ bytes)
+        → effect_of_call program call (length output) ≡ writes_bytes addr (length bytes)
+        → ReachesBy stocked program budget from (pairs ++ byte_loads addr bytes) (returned_of set (after_of set program machine) (length bytes)) (steps + 1) (output ++ bytes)
 
   -- where it has none
-  abbrev pub ReachesFromOf : Program → ℕ → PointOf I S → List Pair → MachineOf I S → ℕ → List ℕ → Type 0
-  ReachesFromOf program budget from = ReachesByOf false program budget from
+  abbrev pub ReachesFrom : Program → ℕ → PointOf I S → List Pair → MachineOf I S → ℕ → List ℕ → Type 0
+  ReachesFrom program budget from = ReachesBy false program budget from
 
   -- a thread comes so far from its start
-  abbrev pub ReachesOf : Program → ℕ → MachineOf I S → List Pair → MachineOf I S → ℕ → List ℕ → Type 0
-  ReachesOf program budget start = ReachesFromOf program budget (first_point start)
+  abbrev pub Reaches : Program → ℕ → MachineOf I S → List Pair → MachineOf I S → ℕ → List ℕ → Type 0
+  Reaches program budget start = ReachesFrom program budget (first_point start)
 
   -- How a thread ends from a point, with the accesses and replies that it had, its steps and its output: at a stop, which is no step;
   -- by the exit call, which is one; or where its steps are the budget, between two instructions.
-  pub data EndsFromOf (stocked : Bool) (program : Program) (budget : ℕ) (from : PointOf I S) : List Pair → Stop → ℕ → List ℕ → Type 0 where
+  pub data EndsFrom (stocked : Bool) (program : Program) (budget : ℕ) (from : PointOf I S) : List Pair → Stop → ℕ → List ℕ → Type 0 where
     halts : (pairs : List Pair) (machine : MachineOf I S) (steps : ℕ) (output : List ℕ) (stop : Stop)
-        → ReachesByOf stocked program budget from pairs machine steps output
+        → ReachesBy stocked program budget from pairs machine steps output
         → steps < budget
         → next_of set program machine ≡ stops stop
-        → EndsFromOf stocked program budget from pairs stop steps output
+        → EndsFrom stocked program budget from pairs stop steps output
     leaves : (pairs : List Pair) (machine : MachineOf I S) (steps : ℕ) (output : List ℕ) (call : CallAsk) (code : ℕ)
-        → ReachesByOf stocked program budget from pairs machine steps output
+        → ReachesBy stocked program budget from pairs machine steps output
         → steps < budget
         → next_of set program machine ≡ calls call
-        → effect_of_call_of program call (length output) ≡ exits code
-        → EndsFromOf stocked program budget from pairs (Exit code) (steps + 1) output
+        → effect_of_call program call (length output) ≡ exits code
+        → EndsFrom stocked program budget from pairs (Exit code) (steps + 1) output
     spends : (pairs : List Pair) (machine : MachineOf I S) (output : List ℕ)
-        → ReachesByOf stocked program budget from pairs machine budget output
-        → EndsFromOf stocked program budget from pairs Budget budget output
+        → ReachesBy stocked program budget from pairs machine budget output
+        → EndsFrom stocked program budget from pairs Budget budget output
 
   -- from its start, where it has no stock
-  abbrev pub EndsOf : Program → ℕ → MachineOf I S → List Pair → Stop → ℕ → List ℕ → Type 0
-  EndsOf program budget start = EndsFromOf false program budget (first_point start)
+  abbrev pub Ends : Program → ℕ → MachineOf I S → List Pair → Stop → ℕ → List ℕ → Type 0
+  Ends program budget start = EndsFrom false program budget (first_point start)
 
   -- How a thread ends on a memory whose classes of rows take a limited number of writes: as above; or at a store that memory
   -- refuses, with its steps and its output before the instruction. Where memory may refuse one is for the history to say.
-  pub data EndsOnFromOf (stocked : Bool) (program : Program) (budget : ℕ) (from : PointOf I S) : List Pair → Stop → ℕ → List ℕ → Type 0 where
+  pub data EndsOnFrom (stocked : Bool) (program : Program) (budget : ℕ) (from : PointOf I S) : List Pair → Stop → ℕ → List ℕ → Type 0 where
     by_itself : (pairs : List Pair) (stop : Stop) (steps : ℕ) (output : List ℕ)
-        → EndsFromOf stocked program budget from pairs stop steps output
-        → EndsOnFromOf stocked program budget from pairs stop steps output
+        → EndsFrom stocked program budget from pairs stop steps output
+        → EndsOnFrom stocked program budget from pairs stop steps output
     by_limit : (pairs : List Pair) (machine : MachineOf I S) (steps : ℕ) (output : List ℕ) (place : Place) (value : ℕ)
-        → ReachesByOf stocked program budget from pairs machine steps output
+        → ReachesBy stocked program budget from pairs machine steps output
         → steps < budget
         → next_of set program machine ≡ asks (Store place value)
-        → EndsOnFromOf stocked program budget from pairs (TagLimit place.addr) steps output
+        → EndsOnFrom stocked program budget from pairs (TagLimit place.addr) steps output
 
   -- from its start, where it has no stock
-  abbrev pub EndsOnOf : Program → ℕ → MachineOf I S → List Pair → Stop → ℕ → List ℕ → Type 0
-  EndsOnOf program budget start = EndsOnFromOf false program budget (first_point start)
+  abbrev pub EndsOn : Program → ℕ → MachineOf I S → List Pair → Stop → ℕ → List ℕ → Type 0
+  EndsOn program budget start = EndsOnFrom false program budget (first_point start)
 
   -- What a thread asks next from a point, with these accesses and replies behind it: what the instruction in hand asks, or the load of
   -- the next byte of a write.
-  pub data AsksFromOf (stocked : Bool) (program : Program) (budget : ℕ) (from : PointOf I S) : List Pair → Ask → Type 0 where
+  pub data AsksFrom (stocked : Bool) (program : Program) (budget : ℕ) (from : PointOf I S) : List Pair → Ask → Type 0 where
     asks_access : (pairs : List Pair) (machine : MachineOf I S) (steps : ℕ) (output : List ℕ) (ask : Ask)
-        → ReachesByOf stocked program budget from pairs machine steps output
+        → ReachesBy stocked program budget from pairs machine steps output
         → steps < budget
         → next_of set program machine ≡ asks ask
-        → AsksFromOf stocked program budget from pairs ask
+        → AsksFrom stocked program budget from pairs ask
     asks_byte : (pairs : List Pair) (machine : MachineOf I S) (steps : ℕ) (output : List ℕ) (call : CallAsk) (addr count : ℕ) (bytes : List ℕ)
-        → ReachesByOf stocked program budget from pairs machine steps output
+        → ReachesBy stocked program budget from pairs machine steps output
         → steps < budget
         → next_of set program machine ≡ calls call
-        → effect_of_call_of program call (length output) ≡ writes_bytes addr count
+        → effect_of_call program call (length output) ≡ writes_bytes addr count
         → length bytes < count
-        → AsksFromOf stocked program budget from (pairs ++ byte_loads addr bytes) (byte_load (addr + length bytes))
+        → AsksFrom stocked program budget from (pairs ++ byte_loads addr bytes) (byte_load (addr + length bytes))
 
   -- from its start, where it has no stock
-  abbrev pub AsksOf : Program → ℕ → MachineOf I S → List Pair → Ask → Type 0
-  AsksOf program budget start = AsksFromOf false program budget (first_point start)
-
--- The same of A32.
-
--- the machine after the answer to the call that it waits for
-abbrev pub returned : Machine → ℕ → Machine
-returned = returned_of a32
-
-abbrev pub effect_of_call : Program → CallAsk → ℕ → CallEffect
-effect_of_call = effect_of_call_of a32
-
-abbrev pub Point : Type 0
-Point = PointOf Instr State
-
-abbrev pub ReachesBy : Bool → Program → ℕ → Point → List Pair → Machine → ℕ → List ℕ → Type 0
-ReachesBy = ReachesByOf a32
-
-abbrev pub ReachesFrom : Program → ℕ → Point → List Pair → Machine → ℕ → List ℕ → Type 0
-ReachesFrom = ReachesFromOf a32
-
-abbrev pub Reaches : Program → ℕ → Machine → List Pair → Machine → ℕ → List ℕ → Type 0
-Reaches = ReachesOf a32
-
-abbrev pub EndsFrom : Bool → Program → ℕ → Point → List Pair → Stop → ℕ → List ℕ → Type 0
-EndsFrom = EndsFromOf a32
-
-abbrev pub Ends : Program → ℕ → Machine → List Pair → Stop → ℕ → List ℕ → Type 0
-Ends = EndsOf a32
-
-abbrev pub EndsOnFrom : Bool → Program → ℕ → Point → List Pair → Stop → ℕ → List ℕ → Type 0
-EndsOnFrom = EndsOnFromOf a32
-
-abbrev pub EndsOn : Program → ℕ → Machine → List Pair → Stop → ℕ → List ℕ → Type 0
-EndsOn = EndsOnOf a32
-
-abbrev pub AsksFrom : Bool → Program → ℕ → Point → List Pair → Ask → Type 0
-AsksFrom = AsksFromOf a32
-
-abbrev pub Asks : Program → ℕ → Machine → List Pair → Ask → Type 0
-Asks = AsksOf a32
+  abbrev pub Asks : Program → ℕ → MachineOf I S → List Pair → Ask → Type 0
+  Asks program budget start = AsksFrom false program budget (first_point start)

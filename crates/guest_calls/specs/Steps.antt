@@ -1,7 +1,6 @@
 -- What the code makes of a guest call.
 use Rattle.std.specs.Prelude.{ℕ, ◌+◌, ◌<◌, ◌≤◌}
 use Rattle.guest_core.specs.Machine.{MachineOf, InstructionSet, returned_of}
-use Rattle.a32_step.specs.Machine.{Machine, a32}
 use Rattle.guest_calls.specs.declared.calls.CallStep.{CallStep}
 use Rattle.guest_calls.specs.declared.calls.CallStep.TheVariants.{Exit, Answered, Bytes}
 use Rattle.guest_calls.specs.Calls.{CallEffect, exits, answers, writes_bytes, most_output}
@@ -13,13 +12,10 @@ step_of (answers value) = Answered
 step_of (writes_bytes from count) = Bytes from count
 
 -- the core that made the call: one whose call is answered is between two instructions, and any other is as it was
-abbrev pub after_call_of : {I S : Type 0} → InstructionSet I S → MachineOf I S → CallEffect → MachineOf I S
-after_call_of set machine (exits code) = machine
-after_call_of set machine (answers value) = returned_of set machine value
-after_call_of set machine (writes_bytes from count) = machine
-
-abbrev pub after_call : Machine → CallEffect → Machine
-after_call = after_call_of a32
+abbrev pub after_call : {I S : Type 0} → InstructionSet I S → MachineOf I S → CallEffect → MachineOf I S
+after_call set machine (exits code) = machine
+after_call set machine (answers value) = returned_of set machine value
+after_call set machine (writes_bytes from count) = machine
 
 -- bytes that are to be loaded are some, lie in memory, and have room in the output
 abbrev pub HaveRoom : (mem written : ℕ) → CallStep → Type 0

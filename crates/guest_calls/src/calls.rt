@@ -3,7 +3,7 @@ ghost use Rattle.std.specs.Prelude.{◌≡◌, length};
 ghost use Rattle.guest_core.specs.Machine.{IsCalling};
 ghost use Rattle.guest_calls.specs.Calls.{call_effect, is_start_call, write_effect};
 ghost use Rattle.guest_calls.specs.Outcomes.{effect_of_outcome};
-ghost use Rattle.guest_calls.specs.Steps.{step_of, after_call_of, HaveRoom};
+ghost use Rattle.guest_calls.specs.Steps.{step_of, after_call, HaveRoom};
 
 use crate::output::Output;
 use llsc_base::CallAsk;
@@ -114,7 +114,7 @@ fn write(ask: &CallAsk, mem: u32, out: &Output) -> CallOutcome
 pub fn guest_call<C: Core>(core: &mut C, ask: &CallAsk, mem: u32, out: &mut Output) -> CallStep
     requires { IsCalling (C.machine core.old).phase }
     ensures step { result ≡ step_of (call_effect (C.set.call_of ask.now) mem (length out.old)) }
-    ensures core { C.machine core.new ≡ after_call_of C.set (C.machine core.old) (call_effect (C.set.call_of ask.now) mem (length out.old)) }
+    ensures core { C.machine core.new ≡ after_call C.set (C.machine core.old) (call_effect (C.set.call_of ask.now) mem (length out.old)) }
     ensures out { out.new ≡ out.old }
     ensures room { HaveRoom mem (length out.old) result }
 {

@@ -3,9 +3,9 @@ ghost use Rattle.std.specs.Prelude.{◌≡◌, ◌∷◌, [], false, true};
 ghost use Rattle.guest_calls.specs.Bound.{most_accesses_in};
 ghost use Rattle.guest_calls.specs.Calls.{answers, call_effect, exits, write_effect, writes_bytes};
 ghost use Rattle.guest_calls.specs.Pairs.{pair_of, pairs_in, pairs_of, reply_of};
-ghost use Rattle.guest_calls.specs.Run.{byte_loads, effect_of_call};
+ghost use Rattle.guest_calls.specs.Run.{byte_loads};
 ghost use Rattle.guest_calls.specs.Steps.{HaveRoom};
-ghost use Rattle.guest_calls.specs.Worked.{byte_at, call, calling, word};
+ghost use Rattle.guest_calls.specs.Worked.{byte_at, call, word};
 
 use crate::calls::CallStep;
 use llsc_base::Ask;
@@ -41,13 +41,6 @@ pub fn writes_by_rule()
     ensures address_before_room { write_effect 1 15 2 16 65535 ≡ answers 0xFFFFFFF2 }
     ensures last_room { write_effect 1 8 2 16 65534 ≡ writes_bytes 8 2 }
     ensures no_room { write_effect 1 8 2 16 65535 ≡ answers 0xFFFFFFE4 }
-{}
-
-/// In a program a write reaches to the end of its memory.
-pub fn writes_in_a_program()
-    ensures to_the_end { effect_of_call calling (call 4 1 14 2) 65534 ≡ writes_bytes 14 2 }
-    ensures past_the_end { effect_of_call calling (call 4 1 15 2) 0 ≡ answers 0xFFFFFFF2 }
-    ensures no_room { effect_of_call calling (call 4 1 14 2) 65535 ≡ answers 0xFFFFFFE4 }
 {}
 
 /// Bytes that are to be loaded are some, lie in memory, and have room in the output.

@@ -8,14 +8,17 @@ use Rattle.history.specs.Starts.{Started, starts_in}
 use Rattle.history.specs.declared.entry.Entry.{Entry}
 use Rattle.shared_memory.specs.Origin.{Origin}
 use Rattle.llsc_base.specs.declared.outside.CallAsk.{CallAsk}
-use Rattle.a32_step.specs.Machine.{Machine, after_next}
+use Rattle.a32_step.specs.Machine.{Machine, after_next, a32}
 use Rattle.guest_calls.specs.Pairs.{pairs_of}
-use Rattle.guest_calls.specs.Run.{Point, returned}
+use Rattle.guest_core.specs.Machine.{returned_of}
+use Rattle.guest_calls.specs.Run.{PointOf}
 use Rattle.guest_thread.specs.Begun.{stock_of}
 use Rattle.guest_thread.specs.StockRun.{Stock, Comes, starts_one, bad_entry, start_answer, start_point, starts_after}
 use Rattle.guest_family.specs.Next.{HasNoneLeft, after_answer, refusal_of}
 use Rattle.guest_family.specs.UnderWay.{HasCalled, IsUnderWay}
 use Rattle.guest_thread.specs.declared.pieces.Part.{Part}
+use Rattle.a32_instr.specs.declared.instructions.Instr.{Instr}
+use Rattle.a32_instr.specs.State.{State}
 
 pub some_of : {A : Type 0} (option : Option A) → is_some option ≡ true → (x : A) × (option ≡ Some x)
 some_of (Some x) is = (x, refl)
@@ -42,9 +45,9 @@ full_starts stock place starts call least = elim (cases_Bool (call.a % 4 == 0)) 
 ]
 
 module _ {P : Type 0} (home : P → TableId) (numbers : P → ℕ → Bool) (seen : P → List Entry) (mem : TableId) (origin : Origin) (program : Program) (budget t : ℕ)
-    (start : Machine) (old : P) (part : Part P) (entry arg : ℕ) (called : HasCalled home numbers seen mem origin program budget t start old part entry arg) where
+    (start : Machine) (old : P) (part : Part P Machine) (entry arg : ℕ) (called : HasCalled home numbers seen mem origin program budget t start old part entry arg) where
   -- where it stands at the call
-  abbrev at : Point
+  abbrev at : PointOf Instr State
   at = record { machine = called.machine; steps = part.steps; output = part.out }
 
   -- a call that is refused
@@ -56,18 +59,18 @@ module _ {P : Type 0} (home : P → TableId) (numbers : P → ℕ → Bool) (see
       let all = stock_of origin.first origin.spare t in
       let pairs = pairs_of t (seen part.pass) in
       let starts = starts_in t (seen part.pass) in
-      let behind : Comes all program budget start pairs (starts_after stock (length pairs) starts called.call) (start_point program stock starts called.call at) =
+      let behind : Comes a32 all program budget start pairs (starts_after stock (length pairs) starts called.call) (start_point a32 program stock starts called.call at) =
       starts_one pairs starts at called.call stock called.comes is called.within called.called called.starts in
-      let machine : returned (after_next program called.machine) (start_answer stock (length starts) called.call) ≡ returned part.cpu value =
-      ap (returned (after_next program called.machine)) answer ∙ ap (λ (m : Machine). returned m value) (sym called.cpu_is) in
+      let machine : returned_of a32 (after_next program called.machine) (start_answer stock (length starts) called.call) ≡ returned_of a32 part.cpu value =
+      ap (returned_of a32 (after_next program called.machine)) answer ∙ ap (λ (m : Machine). returned_of a32 m value) (sym called.cpu_is) in
       let within = called.within in
       record {
         memory = called.memory;
         single = called.single;
         may_act = called.may_act;
         between = refl;
-        comes = subst (λ (m : Machine). Comes all program budget start pairs starts (record { machine = m; steps = part.steps + 1; output = part.out })) machine
-            (subst (λ (ss : List Started). Comes all program budget start pairs ss (start_point program stock starts called.call at)) same behind);
+        comes = subst (λ (m : Machine). Comes a32 all program budget start pairs starts (record { machine = m; steps = part.steps + 1; output = part.out })) machine
+            (subst (λ (ss : List Started). Comes a32 all program budget start pairs ss (start_point a32 program stock starts called.call at)) same behind);
         counts = called.counts;
         accesses = called.accesses;
         few = called.few;

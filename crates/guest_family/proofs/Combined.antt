@@ -17,6 +17,7 @@ use Rattle.guest_family.specs.EndedStarters.{AreChildren, HasEndedWithAll, numbe
 use Rattle.guest_family.specs.UnderWay.{IsEndFrom}
 use Rattle.guest_family.specs.declared.starters.StarterEnd.{StarterEnd}
 use Rattle.guest_family.proofs.Later.{children_later, end_later, same_starts}
+use Rattle.a32_step.specs.Machine.{a32}
 
 or_left : (a b : Bool) → a ≡ true → (a || b) ≡ true
 or_left true b is = refl
@@ -43,7 +44,7 @@ module _ {P : Type 0} (home : P → TableId) (numbers : P → ℕ → Bool) (see
   -- what is left of a thread, and one that it has started
   pub ended_more : (before : List Started) (one : Started) (rest : List ℕ) (ended : StarterEnd P) (done : Finished P) (new : Ran P)
       → HasEndedWithAll home numbers seen mem origin program budget t (before ++ one ∷ []) rest ended
-      → IsEndFrom program origin budget one.child (child_start origin.size one.child one.entry one.arg) (seen done.pass) done.end
+      → IsEndFrom program origin budget one.child (child_start a32 origin.size one.child one.entry one.arg) (seen done.pass) done.end
       → IsOneOf one.child (numbers done.pass)
       → home new.pass ≡ mem → numbers new.pass ≡ joint (numbers ended.ran.pass) (numbers done.pass)
       → IsFront (seen ended.ran.pass) (seen new.pass) × IsFront (seen done.pass) (seen new.pass)
@@ -64,8 +65,8 @@ module _ {P : Type 0} (home : P → TableId) (numbers : P → ℕ → Bool) (see
         taken = All-cons (λ u. IsOneOf u (numbers new.pass)) one.child rest here (taken_by (numbers ended.ran.pass) (numbers new.pass) rest keeps is.taken);
         more = one ∷ is.more;
         starts = same_starts t (seen ended.ran.pass) (seen new.pass) (mine t is.own) ∙ is.starts ∙ append_assoc before (one ∷ []) is.more;
-        head = end_later program origin budget t (thread_start program origin.size origin.first t) (seen ended.ran.pass) (seen new.pass) ended.end fronts.0 (mine t is.own) is.head;
+        head = end_later program origin budget t (thread_start a32 program origin.size origin.first t) (seen ended.ran.pass) (seen new.pass) ended.end fronts.0 (mine t is.own) is.head;
         children = subst (AreChildren program origin budget (seen new.pass) (one ∷ is.more)) (sym all)
-            (end_later program origin budget one.child (child_start origin.size one.child one.entry one.arg) (seen done.pass) (seen new.pass) done.end fronts.1 (yours one.child taken) child, others);
+            (end_later program origin budget one.child (child_start a32 origin.size one.child one.entry one.arg) (seen done.pass) (seen new.pass) done.end fronts.1 (yours one.child taken) child, others);
         among = All-cons (λ u. IsOneOf u (numbers new.pass)) one.child (numbers_of is.more) here (taken_by (numbers ended.ran.pass) (numbers new.pass) (numbers_of is.more) keeps is.among);
       }

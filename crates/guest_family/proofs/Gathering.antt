@@ -20,6 +20,7 @@ use Rattle.guest_family.specs.declared.families.Gathered.{Gathered}
 use Rattle.guest_family.specs.declared.starters.StarterEnd.{StarterEnd}
 use Rattle.guest_family.proofs.Combined.{joint_left, joint_right, taken_by}
 use Rattle.guest_family.proofs.Later.{children_later, end_later, heads_later, same_starts}
+use Rattle.a32_step.specs.Machine.{a32}
 
 -- ---- one behind others
 
@@ -33,7 +34,7 @@ children_more program origin budget history (one ∷ all) more (end ∷ ends) ot
     (are.0, children_more program origin budget history all more ends others are.1 also)
 
 heads_more : (program : Program) (origin : Origin) (budget : ℕ) (history : List Entry) (ts : List ℕ) (ends : List GuestEnd) (t : ℕ) (end : GuestEnd)
-    → AreHeads program origin budget history ts ends → IsEndFrom program origin budget t (thread_start program origin.size origin.first t) history end
+    → AreHeads program origin budget history ts ends → IsEndFrom program origin budget t (thread_start a32 program origin.size origin.first t) history end
     → AreHeads program origin budget history (ts ++ t ∷ []) (ends ++ end ∷ [])
 heads_more program origin budget history [] [] t last are is = (is, tt)
 heads_more program origin budget history [] (end ∷ ends) t last are is = absurd are
@@ -102,7 +103,7 @@ module _ {P : Type 0} (home : P → TableId) (numbers : P → ℕ → Bool) (see
             (taken_by (numbers gathered.pass) (numbers new.pass) (flat_map own ts) left have.taken) (taken_by (numbers ended.ran.pass) (numbers new.pass) (own t) right has.taken));
         heads = subst (AreHeads program origin budget (seen new.pass) (ts ++ t ∷ [])) (sym ends) (heads_more program origin budget (seen new.pass) ts gathered.ends.items t ended.end
             (heads_later program origin budget (seen gathered.pass) (seen new.pass) (numbers gathered.pass) ts gathered.ends.items fronts.0 mine have.own have.heads)
-            (end_later program origin budget t (thread_start program origin.size origin.first t) (seen ended.ran.pass) (seen new.pass) ended.end fronts.1 (yours t has.own) has.head));
+            (end_later program origin budget t (thread_start a32 program origin.size origin.first t) (seen ended.ran.pass) (seen new.pass) ended.end fronts.1 (yours t has.own) has.head));
         children = subst (λ (ss : List Started). AreChildren program origin budget (seen new.pass) ss new.children.items) (sym all)
             (subst (AreChildren program origin budget (seen new.pass) (started_by_all ts (seen gathered.pass) ++ has.more)) (sym children)
             (children_more program origin budget (seen new.pass) (started_by_all ts (seen gathered.pass)) has.more gathered.children.items (reverse ended.ran.ends.items)

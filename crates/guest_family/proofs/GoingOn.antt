@@ -8,9 +8,9 @@ use Rattle.history.specs.Starts.{Started, starts_in}
 use Rattle.history.specs.declared.entry.Entry.{Entry}
 use Rattle.shared_memory.specs.Origin.{Origin}
 use Rattle.shared_memory.specs.Seen.{IsFront}
-use Rattle.a32_step.specs.Machine.{Machine}
+use Rattle.a32_step.specs.Machine.{Machine, a32}
 use Rattle.guest_calls.specs.Pairs.{pairs_of}
-use Rattle.guest_calls.specs.Run.{Pair, Point, begins}
+use Rattle.guest_calls.specs.Run.{Pair, PointOf, begins}
 use Rattle.guest_thread.specs.Begun.{stock_of}
 use Rattle.guest_thread.specs.Counting.{AreCounts, counts_in}
 use Rattle.guest_thread.specs.StockRun.{Comes, piece, IsStockRun}
@@ -21,6 +21,8 @@ use Rattle.guest_thread.specs.Pieces.{IsPiece, point_of}
 use Rattle.guest_family.specs.UnderWay.{HasCalled, HasEnded, IsUnderWay}
 use Rattle.guest_thread.specs.declared.pieces.Part.{Part}
 use Rattle.guest_thread.specs.declared.pieces.Paused.TheVariants.{Ended, Start, Pause}
+use Rattle.a32_instr.specs.declared.instructions.Instr.{Instr}
+use Rattle.a32_instr.specs.State.{State}
 
 pub front_on : (first at last : List Entry) → IsFront first at → IsFront at last → IsFront first last
 front_on first at last early late =
@@ -32,20 +34,20 @@ has_stock first zero t = refl
 has_stock first (suc spare) t = grind arith
 
 module _ {P : Type 0} (home : P → TableId) (numbers : P → ℕ → Bool) (seen : P → List Entry) (mem : TableId) (origin : Origin) (program : Program) (budget t : ℕ)
-    (start : Machine) (part : Part P) (goes : IsUnderWay home numbers seen mem origin program budget t start part) where
+    (start : Machine) (part : Part P Machine) (goes : IsUnderWay home numbers seen mem origin program budget t start part) where
   -- to its end
   pub to_end : (done : Finished P) → budget ≤ most_budget
-      → IsPiece home numbers seen mem origin program (is_some (stock_of origin.first origin.spare t)) budget budget t part (Ended done)
+      → IsPiece a32 (λ m. m) home numbers seen mem origin program (is_some (stock_of origin.first origin.spare t)) budget budget t part (Ended done)
       → HasEnded home numbers seen mem origin program budget t start part.pass done
   to_end done small is =
       let stock = stock_of origin.first origin.spare t in
-      let run : IsStockRun stock program budget start (pairs_of t (seen done.pass)) (starts_in t (seen done.pass)) done.end.stop done.end.steps done.end.out =
+      let run : IsStockRun a32 stock program budget start (pairs_of t (seen done.pass)) (starts_in t (seen done.pass)) done.end.stop done.end.steps done.end.out =
       record {
         before = pairs_of t (seen part.pass);
         more = is.pairs;
-        from = point_of part;
-        comes = subst (λ (starts : List Started). Comes stock program budget start (pairs_of t (seen part.pass)) starts (point_of part)) (sym is.unstarted) goes.comes;
-        ends = is.comes (point_of part) [] begins;
+        from = point_of a32 (λ m. m) part;
+        comes = subst (λ (starts : List Started). Comes a32 stock program budget start (pairs_of t (seen part.pass)) starts (point_of a32 (λ m. m) part)) (sym is.unstarted) goes.comes;
+        ends = is.comes (point_of a32 (λ m. m) part) [] begins;
         are = is.added;
       } in
       let thread = is.stands.thread in
@@ -61,7 +63,7 @@ module _ {P : Type 0} (home : P → TableId) (numbers : P → ℕ → Bool) (see
         end = record {
           thread = thread;
           on = record {
-            ends = subst (λ (u : ℕ). IsStockRun stock program budget start (pairs_of u (seen done.pass)) (starts_in u (seen done.pass)) done.end.stop done.end.steps done.end.out) (sym thread) run;
+            ends = subst (λ (u : ℕ). IsStockRun a32 stock program budget start (pairs_of u (seen done.pass)) (starts_in u (seen done.pass)) done.end.stop done.end.steps done.end.out) (sym thread) run;
             spent = is.stands.spent;
             counts = subst (λ (u : ℕ). AreCounts u (seen done.pass) (counts_in done.end)) (sym thread) counts;
           };
@@ -71,15 +73,15 @@ module _ {P : Type 0} (home : P → TableId) (numbers : P → ℕ → Bool) (see
       }
 
   -- to a call
-  pub to_call : (new : Part P) (entry arg : ℕ)
-      → IsPiece home numbers seen mem origin program (is_some (stock_of origin.first origin.spare t)) budget budget t part (Start new entry arg)
+  pub to_call : (new : Part P Machine) (entry arg : ℕ)
+      → IsPiece a32 (λ m. m) home numbers seen mem origin program (is_some (stock_of origin.first origin.spare t)) budget budget t part (Start new entry arg)
       → HasCalled home numbers seen mem origin program budget t start part.pass new entry arg × (part.steps ≤ new.steps)
   to_call new entry arg is =
       let stock = stock_of origin.first origin.spare t in
-      let called = is.comes (point_of part) [] begins in
-      let at : Point = record { machine = called.1.machine; steps = new.steps; output = new.out } in
-      let comes : Comes stock program budget start (pairs_of t (seen part.pass) ++ is.pairs) (starts_in t (seen part.pass)) at =
-      piece (pairs_of t (seen part.pass)) is.pairs (starts_in t (seen part.pass)) (point_of part) at goes.comes called.1.reached in (
+      let called = is.comes (point_of a32 (λ m. m) part) [] begins in
+      let at : PointOf Instr State = record { machine = called.1.machine; steps = new.steps; output = new.out } in
+      let comes : Comes a32 stock program budget start (pairs_of t (seen part.pass) ++ is.pairs) (starts_in t (seen part.pass)) at =
+      piece (pairs_of t (seen part.pass)) is.pairs (starts_in t (seen part.pass)) (point_of a32 (λ m. m) part) at goes.comes called.1.reached in (
         record {
           memory = is.memory;
           single = is.single;
@@ -94,8 +96,8 @@ module _ {P : Type 0} (home : P → TableId) (numbers : P → ℕ → Bool) (see
           stocked = is.stands.asked;
           machine = called.1.machine;
           call = called.0;
-          comes = subst (λ (starts : List Started). Comes stock program budget start (pairs_of t (seen new.pass)) starts at) (sym is.unstarted)
-              (subst (λ (pairs : List Pair). Comes stock program budget start pairs (starts_in t (seen part.pass)) at) (sym is.added) comes);
+          comes = subst (λ (starts : List Started). Comes a32 stock program budget start (pairs_of t (seen new.pass)) starts at) (sym is.unstarted)
+              (subst (λ (pairs : List Pair). Comes a32 stock program budget start pairs (starts_in t (seen part.pass)) at) (sym is.added) comes);
           called = called.1.called;
           starts = called.1.starts;
           cpu_is = called.1.cpu_is;
@@ -106,25 +108,25 @@ module _ {P : Type 0} (home : P → TableId) (numbers : P → ℕ → Bool) (see
       )
 
   -- it doesn't pause, since it is to go on up to its budget
-  pub no_pause : (new : Part P)
-      → IsPiece home numbers seen mem origin program (is_some (stock_of origin.first origin.spare t)) budget budget t part (Pause new) → ⊥
+  pub no_pause : (new : Part P Machine)
+      → IsPiece a32 (λ m. m) home numbers seen mem origin program (is_some (stock_of origin.first origin.spare t)) budget budget t part (Pause new) → ⊥
   no_pause new is = let less = is.stands.within in omega (arith, less)
 
 module _ {P : Type 0} (home : P → TableId) (numbers : P → ℕ → Bool) (seen : P → List Entry) where
   -- by calls that were refused a thread has gone on, and has started none
-  abbrev pub HasGone : TableId → Origin → Program → (budget t : ℕ) → Machine → (first now : Part P) → Type 0
+  abbrev pub HasGone : TableId → Origin → Program → (budget t : ℕ) → Machine → (first now : Part P Machine) → Type 0
   HasGone mem origin program budget t start first now =
       IsUnderWay home numbers seen mem origin program budget t start now × IsFront (seen first.pass) (seen now.pass)
       × (starts_in t (seen now.pass) ≡ starts_in t (seen first.pass)) × (first.steps ≤ now.steps)
 
-  abbrev pub HasGoneOn : TableId → Origin → Program → (budget : ℕ) → (first now : Part P) → Type 0
+  abbrev pub HasGoneOn : TableId → Origin → Program → (budget : ℕ) → (first now : Part P Machine) → Type 0
   HasGoneOn mem origin program budget first now = (t : ℕ) (start : Machine) → IsUnderWay home numbers seen mem origin program budget t start first
       → HasGone mem origin program budget t start first now
 
-  pub gone_none : (mem : TableId) (origin : Origin) (program : Program) (budget : ℕ) (first : Part P) → HasGoneOn mem origin program budget first first
+  pub gone_none : (mem : TableId) (origin : Origin) (program : Program) (budget : ℕ) (first : Part P Machine) → HasGoneOn mem origin program budget first first
   gone_none mem origin program budget first t start goes = (goes, ([], sym (append-nil (seen first.pass))), refl, omega arith)
 
-  pub gone_more : (mem : TableId) (origin : Origin) (program : Program) (budget t : ℕ) (start : Machine) (first now called : Part P) (entry arg value : ℕ)
+  pub gone_more : (mem : TableId) (origin : Origin) (program : Program) (budget t : ℕ) (start : Machine) (first now called : Part P Machine) (entry arg value : ℕ)
       → HasGone mem origin program budget t start first now
       → HasCalled home numbers seen mem origin program budget t start now.pass called entry arg × (now.steps ≤ called.steps)
       → IsUnderWay home numbers seen mem origin program budget t start (after_answer called value)
@@ -135,7 +137,7 @@ module _ {P : Type 0} (home : P → TableId) (numbers : P → ℕ → Bool) (see
       (goes, front_on (seen first.pass) (seen now.pass) (seen called.pass) gone.1 is.0.front, is.0.same ∙ gone.2, omega (arith, before, later))
 
   -- and has come to its end, or to a call
-  pub gone_to_end : (mem : TableId) (origin : Origin) (program : Program) (budget t : ℕ) (start : Machine) (first now : Part P) (done : Finished P)
+  pub gone_to_end : (mem : TableId) (origin : Origin) (program : Program) (budget t : ℕ) (start : Machine) (first now : Part P Machine) (done : Finished P)
       → IsFront (seen first.pass) (seen now.pass) → starts_in t (seen now.pass) ≡ starts_in t (seen first.pass)
       → HasEnded home numbers seen mem origin program budget t start now.pass done → HasEnded home numbers seen mem origin program budget t start first.pass done
   gone_to_end mem origin program budget t start first now done front same is = record {
@@ -146,7 +148,7 @@ module _ {P : Type 0} (home : P → TableId) (numbers : P → ℕ → Bool) (see
     end = is.end;
   }
 
-  pub gone_to_call : (mem : TableId) (origin : Origin) (program : Program) (budget t : ℕ) (start : Machine) (first now called : Part P) (entry arg : ℕ)
+  pub gone_to_call : (mem : TableId) (origin : Origin) (program : Program) (budget t : ℕ) (start : Machine) (first now called : Part P Machine) (entry arg : ℕ)
       → IsFront (seen first.pass) (seen now.pass) → starts_in t (seen now.pass) ≡ starts_in t (seen first.pass)
       → HasCalled home numbers seen mem origin program budget t start now.pass called entry arg
       → HasCalled home numbers seen mem origin program budget t start first.pass called entry arg

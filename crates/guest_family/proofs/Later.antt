@@ -8,7 +8,7 @@ use Rattle.history.specs.declared.entry.Entry.{Entry}
 use Rattle.history.proofs.Starts.{starts_from-own}
 use Rattle.shared_memory.specs.Origin.{Origin}
 use Rattle.shared_memory.specs.Seen.{IsFront, IsOneOf, SaysAllOf}
-use Rattle.a32_step.specs.Machine.{Machine}
+use Rattle.a32_step.specs.Machine.{Machine, a32}
 use Rattle.guest_calls.specs.Pairs.{pair_of, pairs_of}
 use Rattle.guest_calls.specs.Run.{Pair}
 use Rattle.guest_thread.specs.Begun.{child_start, stock_of}
@@ -34,8 +34,8 @@ end_later program origin budget t start old new end front same is =
     record {
       thread = is.thread;
       on = record {
-        ends = subst (λ (ps : List Pair). IsStockRun stock program budget start ps (starts_in end.thread new) end.stop end.steps end.out) (sym pairs)
-            (subst (λ (ss : List Started). IsStockRun stock program budget start (pairs_of end.thread old) ss end.stop end.steps end.out) (sym (same_starts end.thread old new own)) is.on.ends);
+        ends = subst (λ (ps : List Pair). IsStockRun a32 stock program budget start ps (starts_in end.thread new) end.stop end.steps end.out) (sym pairs)
+            (subst (λ (ss : List Started). IsStockRun a32 stock program budget start (pairs_of end.thread old) ss end.stop end.steps end.out) (sym (same_starts end.thread old new own)) is.on.ends);
         spent = λ addr stop. spent_later origin.size old new addr front (is.on.spent addr stop);
         counts = record {
           reads = is.on.counts.reads ∙ ap reads_of (sym own);
@@ -55,7 +55,7 @@ children_later program origin budget old new numbers [] [] front says taken are 
 children_later program origin budget old new numbers [] (end ∷ ends) front says taken are = absurd are
 children_later program origin budget old new numbers (one ∷ all) [] front says taken are = absurd are
 children_later program origin budget old new numbers (one ∷ all) (end ∷ ends) front says taken are = (
-  end_later program origin budget one.child (child_start origin.size one.child one.entry one.arg) old new end front
+  end_later program origin budget one.child (child_start a32 origin.size one.child one.entry one.arg) old new end front
       (says one.child (All-head (λ u. IsOneOf u numbers) one.child (numbers_of all) taken)) are.0,
   children_later program origin budget old new numbers all ends front says (All-tail (λ u. IsOneOf u numbers) one.child (numbers_of all) taken) are.1,
 )
@@ -68,7 +68,7 @@ heads_later program origin budget old new numbers [] [] front says taken are = t
 heads_later program origin budget old new numbers [] (end ∷ ends) front says taken are = absurd are
 heads_later program origin budget old new numbers (t ∷ ts) [] front says taken are = absurd are
 heads_later program origin budget old new numbers (t ∷ ts) (end ∷ ends) front says taken are = (
-  end_later program origin budget t (thread_start program origin.size origin.first t) old new end front
+  end_later program origin budget t (thread_start a32 program origin.size origin.first t) old new end front
       (says t (All-head (λ u. IsOneOf u numbers) t ts taken)) are.0,
   heads_later program origin budget old new numbers ts ends front says (All-tail (λ u. IsOneOf u numbers) t ts taken) are.1,
 )

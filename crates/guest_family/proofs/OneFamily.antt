@@ -13,7 +13,7 @@ use Rattle.history.specs.declared.entry.Entry.TheVariants.{Start}
 use Rattle.history.proofs.Born.{child-apart}
 use Rattle.history.proofs.Cuts.{each-front, each-last}
 use Rattle.history.proofs.Ends.{by_ends}
-use Rattle.a32_step.specs.Machine.{Machine}
+use Rattle.a32_step.specs.Machine.{Machine, a32}
 use Rattle.guest_calls.specs.Pairs.{pairs_of}
 use Rattle.guest_thread.specs.Begun.{BeginsAs, by_itself, by_start, child_start, stock_of}
 use Rattle.guest_thread.specs.BegunOutcome.{IsBegunEnd, IsOutcomeFrom}
@@ -107,27 +107,27 @@ module _ (first spare : ℕ) where
         let at = numbered history starter t entry arg born has in
         omega (arith, below, at.is)
 
-    begins_once : (t : ℕ) (start other : Machine) → BeginsAs program size first history t start → BeginsAs program size first history t other → start ≡ other
+    begins_once : (t : ℕ) (start other : Machine) → BeginsAs a32 program size first history t start → BeginsAs a32 program size first history t other → start ≡ other
     unfolding Starts_once
     begins_once t _ _ (by_itself below) (by_itself below_too) = refl
     begins_once t _ _ (by_itself below) (by_start starter entry arg has) = absurd (not_both t starter entry arg below has)
     begins_once t _ _ (by_start starter entry arg has) (by_itself below) = absurd (not_both t starter entry arg below has)
     begins_once t _ _ (by_start one entry arg has) (by_start other address value has_too) =
         let same = starts_once history one other t entry address arg value born has has_too in
-        ap₂ (λ e a. child_start size t e a) same.0 same.1
+        ap₂ (λ e a. child_start a32 size t e a) same.0 same.1
 
     -- ---- and has one end
 
     Begun : GuestEnd → Type 0
-    Begun = IsBegunEnd program size first spare budget history
+    Begun = IsBegunEnd a32 program size first spare budget history
 
     ends_once : (one two : GuestEnd) → one.thread ≡ two.thread → Begun one → Begun two → one ≡ two
     unfolding Begun
     ends_once one two thread is is_too =
-        let begins = subst (λ t. BeginsAs program size first history t is.start) thread is.begins in
+        let begins = subst (λ t. BeginsAs a32 program size first history t is.start) thread is.begins in
         let start = begins_once two.thread is.start is_too.start begins is_too.begins in
-        let mine = subst (λ t. IsStockRun (stock_of first spare t) program budget is.start (pairs_of t history) (starts_in t history) one.stop one.steps one.out) thread is.ends.ends in
-        let run = subst (λ s. IsStockRun (stock_of first spare two.thread) program budget s (pairs_of two.thread history) (starts_in two.thread history) one.stop one.steps one.out) start mine in
+        let mine = subst (λ t. IsStockRun a32 (stock_of first spare t) program budget is.start (pairs_of t history) (starts_in t history) one.stop one.steps one.out) thread is.ends.ends in
+        let run = subst (λ s. IsStockRun a32 (stock_of first spare two.thread) program budget s (pairs_of two.thread history) (starts_in two.thread history) one.stop one.steps one.out) start mine in
         let same = one_stock_run (stock_of first spare two.thread) program budget is_too.start (pairs_of two.thread history) (starts_in two.thread history)
         (starts_in two.thread history) one.stop two.stop one.steps two.steps one.out two.out run is_too.ends.ends in
         let counts = is.ends.counts in
@@ -152,7 +152,7 @@ module _ (first spare : ℕ) where
 
 -- the ends of all threads that have begun in a history are one
 pub one_outcome_from : (program : Program) (size : Numbers) (first spare budget : ℕ) (history : List Entry) (ends others : List GuestEnd)
-    → IsOutcomeFrom program size first spare budget history ends → IsOutcomeFrom program size first spare budget history others → ends ≡ others
+    → IsOutcomeFrom a32 program size first spare budget history ends → IsOutcomeFrom a32 program size first spare budget history others → ends ≡ others
 unfolding Begun
 one_outcome_from program size first spare budget history ends others are are_too =
     same_ends first spare program size budget history are.born ends others (are.ends.threads ∙ sym are_too.ends.threads) are.ends.each are_too.ends.each

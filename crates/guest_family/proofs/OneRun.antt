@@ -9,15 +9,16 @@ use Rattle.llsc_base.specs.declared.outside.Ask.TheVariants.{Store}
 use Rattle.llsc_base.specs.declared.outside.CallAsk.{CallAsk}
 use Rattle.llsc_base.specs.declared.outside.Stop.{Stop}
 use Rattle.llsc_base.specs.declared.outside.Stop.TheVariants.{Exit, Budget, TagLimit}
-use Rattle.a32_instr.specs.State.{Effect}
+use Rattle.a32_instr.specs.State.{Effect, State}
 use Rattle.llsc_base.specs.Effects.{asks, calls, completes, stops}
-use Rattle.a32_step.specs.Machine.{Machine, next_effect, after_next}
-use Rattle.guest_core.specs.Machine.{given}
+use Rattle.a32_step.specs.Machine.{Machine, next_effect, after_next, a32}
+use Rattle.guest_core.specs.Machine.{given, returned_of}
 use Rattle.guest_calls.specs.Calls.{CallEffect, exits, answers, writes_bytes, call_effect, is_start_call, no_call}
-use Rattle.guest_calls.specs.Run.{Pair, Point, first_point, byte_load, byte_loads, effect_of_call, returned, ReachesBy, begins, accesses, steps_on, returns, prints, halts, leaves, spends, EndsOnFrom, by_itself, by_limit}
+use Rattle.guest_calls.specs.Run.{Pair, PointOf, first_point, byte_load, byte_loads, begins, accesses, steps_on, returns, prints, halts, leaves, spends, by_itself, by_limit, EndsOnFrom, effect_of_call, ReachesBy}
 use Rattle.guest_calls.proofs.Decided.{AreDecided, Replies, bytes_by, decided_front, first_found, loads_on}
 use Rattle.guest_calls.proofs.Listed.{list_decides, list_ends, reply_after}
 use Rattle.guest_thread.specs.StockRun.{Stock, Comes, begins_so, piece, starts_one, IsStockRun, start_answer, starts_after}
+use Rattle.a32_instr.specs.declared.instructions.Instr.{Instr}
 
 -- ---- turns of any kind
 
@@ -63,7 +64,7 @@ record Spot : Type 0 where
   output : List ℕ
   starts : List Started
 
-abbrev spot_at : List Pair → List Started → Point → Spot
+abbrev spot_at : List Pair → List Started → PointOf Instr State → Spot
 spot_at pairs starts at = record { machine = at.machine; steps = at.steps; pairs = pairs; output = at.output; starts = starts }
 
 -- a start call is one that is answered, where the thread has no stock
@@ -81,7 +82,7 @@ module _ (stock : Option Stock) (replies : Replies) (program : Program) (budget 
 
   abbrev printed : Spot → ℕ → ℕ → Option (List ℕ) → Spot
   printed spot from count (Some bytes) = record spot {
-    machine = returned (after_next program spot.machine) count;
+    machine = returned_of a32 (after_next program spot.machine) count;
     steps = spot.steps + 1;
     pairs = spot.pairs ++ byte_loads from bytes;
     output = spot.output ++ bytes;
@@ -90,20 +91,20 @@ module _ (stock : Option Stock) (replies : Replies) (program : Program) (budget 
 
   abbrev answered : Spot → CallEffect → Spot
   answered spot (exits code) = spot
-  answered spot (answers answer) = record spot { machine = returned (after_next program spot.machine) answer; steps = spot.steps + 1 }
+  answered spot (answers answer) = record spot { machine = returned_of a32 (after_next program spot.machine) answer; steps = spot.steps + 1 }
   answered spot (writes_bytes from count) = printed spot from count (bytes_by replies spot.pairs from count)
 
   abbrev started : Spot → CallAsk → Stock → Spot
   started spot call numbers = record spot {
-    machine = returned (after_next program spot.machine) (start_answer numbers (length spot.starts) call);
+    machine = returned_of a32 (after_next program spot.machine) (start_answer numbers (length spot.starts) call);
     steps = spot.steps + 1;
     starts = starts_after numbers (length spot.pairs) spot.starts call;
   }
 
   abbrev called : Spot → CallAsk → Option Stock → Bool → Spot
   called spot call (Some numbers) true = started spot call numbers
-  called spot call (Some numbers) false = answered spot (effect_of_call program call (length spot.output))
-  called spot call None starts = answered spot (effect_of_call program call (length spot.output))
+  called spot call (Some numbers) false = answered spot (effect_of_call a32 program call (length spot.output))
+  called spot call None starts = answered spot (effect_of_call a32 program call (length spot.output))
 
   abbrev moved : Spot → Effect → Spot
   moved spot (asks ask) = replied spot ask (replies spot.pairs ask)
@@ -125,7 +126,7 @@ module _ (stock : Option Stock) (replies : Replies) (program : Program) (budget 
 
   -- a call that isn't answered as a start is
   called_plainly : (spot : Spot) (call : CallAsk) (s : Option Stock) (b : Bool) → (is_some s && b) ≡ false
-      → called spot call s b ≡ answered spot (effect_of_call program call (length spot.output))
+      → called spot call s b ≡ answered spot (effect_of_call a32 program call (length spot.output))
   called_plainly spot call None b plain = refl
   called_plainly spot call (Some numbers) false plain = refl
   called_plainly spot call (Some numbers) true plain = cc
@@ -135,7 +136,7 @@ module _ (stock : Option Stock) (replies : Replies) (program : Program) (budget 
   called_to_start spot call s b numbers is starts = ap (λ (o : Option Stock). called spot call o b) is ∙ ap (called spot call (Some numbers)) starts
 
   -- a call that exits or writes starts no thread
-  not_start : (call : CallAsk) (written : ℕ) (effect : CallEffect) → effect_of_call program call written ≡ effect → (effect ≡ answers no_call → ⊥) → is_start_call call ≡ false
+  not_start : (call : CallAsk) (written : ℕ) (effect : CallEffect) → effect_of_call a32 program call written ≡ effect → (effect ≡ answers no_call → ⊥) → is_start_call call ≡ false
   not_start call written effect is other = elim (cases_Bool (is_start_call call)) [
     | inl starts ↦ absurd (other (sym is ∙ start_is_none call (length program.bytes) written starts))
     | inr plain ↦ plain
@@ -170,8 +171,8 @@ module _ (stock : Option Stock) (replies : Replies) (program : Program) (budget 
 
   -- ---- a piece
 
-  module _ (before : List Pair) (starts : List Started) (from : Point) where
-    came : (pairs : List Pair) (machine : Machine) (steps : ℕ) (output : List ℕ) → ReachesBy (is_some stock) program budget from pairs machine steps output
+  module _ (before : List Pair) (starts : List Started) (from : PointOf Instr State) where
+    came : (pairs : List Pair) (machine : Machine) (steps : ℕ) (output : List ℕ) → ReachesBy a32 (is_some stock) program budget from pairs machine steps output
         → AreDecided replies (before ++ pairs)
         → Leads (spot_at before starts from) (spot_at (before ++ pairs) starts (record { machine = machine; steps = steps; output = output }))
     came _ _ _ _ begins decided =
@@ -196,14 +197,14 @@ module _ (stock : Option Stock) (replies : Replies) (program : Program) (budget 
         let all = subst (AreDecided replies) (sym parts) decided in
         let plain = not_start call (length output) (writes_bytes addr (length bytes)) known (λ same. cc) in
         subst (λ (ps : List Pair). Leads (spot_at before starts from)
-        (spot_at ps starts (record { machine = returned (after_next program machine) (length bytes); steps = steps + 1; output = output ++ bytes }))) parts
+        (spot_at ps starts (record { machine = returned_of a32 (after_next program machine) (length bytes); steps = steps + 1; output = output ++ bytes }))) parts
         (leads_once (spot_at before starts from) here _ (calls call) (came pairs machine steps output reached (decided_front replies (before ++ pairs) (byte_loads addr bytes) all)) less is
         (called_plainly here call stock (is_start_call call) (never stock (is_start_call call) plain) ∙ ap (answered here) known
         ∙ ap (printed here addr (length bytes)) (bytes_found (before ++ pairs) addr bytes all)))
 
   -- ---- a run up to a point
 
-  arrived : (start : Machine) (pairs : List Pair) (starts : List Started) (to : Point) → Comes stock program budget start pairs starts to → AreDecided replies pairs
+  arrived : (start : Machine) (pairs : List Pair) (starts : List Started) (to : PointOf Instr State) → Comes a32 stock program budget start pairs starts to → AreDecided replies pairs
       → Leads (spot_at [] [] (first_point start)) (spot_at pairs starts to)
   arrived start _ _ _ begins_so decided = leads_none (spot_at [] [] (first_point start))
   arrived start _ _ _ (piece pairs more starts from to comes reached) decided =
@@ -232,7 +233,7 @@ module _ (stock : Option Stock) (replies : Replies) (program : Program) (budget 
 
   abbrev by_effect : Spot → Effect → Rested
   by_effect spot (asks ask) = by_ask spot ask
-  by_effect spot (calls call) = by_call spot (effect_of_call program call (length spot.output))
+  by_effect spot (calls call) = by_call spot (effect_of_call a32 program call (length spot.output))
   by_effect spot (completes state) = record { stop = Budget; steps = spot.steps; output = spot.output }
   by_effect spot (stops stop) = record { stop = stop; steps = spot.steps; output = spot.output }
 
@@ -258,16 +259,16 @@ module _ (stock : Option Stock) (replies : Replies) (program : Program) (budget 
     starts_are : spot.starts ≡ starts
     rests : rest_of spot ≡ record { stop = stop; steps = steps; output = output }
 
-  module _ (start : Machine) (before : List Pair) (starts : List Started) (from : Point)
+  module _ (start : Machine) (before : List Pair) (starts : List Started) (from : PointOf Instr State)
       (comes : Leads (spot_at [] [] (first_point start)) (spot_at before starts from)) where
-    led : (pairs : List Pair) (machine : Machine) (steps : ℕ) (output : List ℕ) → ReachesBy (is_some stock) program budget from pairs machine steps output
+    led : (pairs : List Pair) (machine : Machine) (steps : ℕ) (output : List ℕ) → ReachesBy a32 (is_some stock) program budget from pairs machine steps output
         → AreDecided replies (before ++ pairs)
         → Leads (spot_at [] [] (first_point start)) (spot_at (before ++ pairs) starts (record { machine = machine; steps = steps; output = output }))
     led pairs machine steps output reached decided =
         leads_on (spot_at [] [] (first_point start)) (spot_at before starts from) (spot_at (before ++ pairs) starts (record { machine = machine; steps = steps; output = output })) comes
         (came before starts from pairs machine steps output reached decided)
 
-    ends_rest : (pairs : List Pair) (stop : Stop) (steps : ℕ) (output : List ℕ) → EndsOnFrom (is_some stock) program budget from pairs stop steps output
+    ends_rest : (pairs : List Pair) (stop : Stop) (steps : ℕ) (output : List ℕ) → EndsOnFrom a32 (is_some stock) program budget from pairs stop steps output
         → AreDecided replies (before ++ pairs) → ((ask : Ask) → replies (before ++ pairs) ask ≡ None) → Rests start starts stop steps output
     ends_rest _ _ _ _ (by_itself _ _ _ _ (halts pairs machine steps output stop reached less known)) decided none =
         let here : Spot = spot_at (before ++ pairs) starts (record { machine = machine; steps = steps; output = output }) in
@@ -317,13 +318,13 @@ module _ (stock : Option Stock) (replies : Replies) (program : Program) (budget 
 
 -- two runs with the same accesses and replies are one
 pub one_stock_run : (stock : Option Stock) (program : Program) (budget : ℕ) (start : Machine) (pairs : List Pair) (starts others : List Started) (stop other : Stop) (steps count : ℕ) (output text : List ℕ)
-    → IsStockRun stock program budget start pairs starts stop steps output → IsStockRun stock program budget start pairs others other count text
+    → IsStockRun a32 stock program budget start pairs starts stop steps output → IsStockRun a32 stock program budget start pairs others other count text
     → (starts ≡ others) × (stop ≡ other) × (steps ≡ count) × (output ≡ text)
 one_stock_run stock program budget start pairs starts others stop other steps count output text one two =
     let replies : Replies = λ front ask. reply_after pairs front in
     one_way stock replies program budget start starts others stop other steps count output text (rests starts stop steps output one) (rests others other count text two)
   where
-    rests : (ss : List Started) (s : Stop) (n : ℕ) (o : List ℕ) → IsStockRun stock program budget start pairs ss s n o
+    rests : (ss : List Started) (s : Stop) (n : ℕ) (o : List ℕ) → IsStockRun a32 stock program budget start pairs ss s n o
         → Rests stock (λ front ask. reply_after pairs front) program budget start ss s n o
     rests ss s n o run =
         let decided = subst (AreDecided (λ front ask. reply_after pairs front)) run.are (list_decides pairs) in

@@ -9,7 +9,7 @@ use Rattle.history.specs.Starts.{Started, access_by, started_by, starts_from, st
 use Rattle.history.specs.declared.entry.Entry.{Entry}
 use Rattle.history.specs.declared.entry.Entry.TheVariants.{Read, Write, Fail, Clear, Watch, Miss, Begin, End, Start}
 use Rattle.shared_memory.specs.Origin.{Origin}
-use Rattle.a32_step.specs.Machine.{Machine}
+use Rattle.a32_step.specs.Machine.{Machine, a32}
 use Rattle.guest_thread.specs.Begun.{BeginsAs, by_itself, by_start, child_start, children_of, stock_of}
 use Rattle.guest_thread.specs.BegunOutcome.{AreBegunEnds, IsBegunEnd, IsStockEndOn}
 use Rattle.guest_thread.specs.Start.{thread_start}
@@ -53,13 +53,13 @@ starts_stand t count (e ∷ es) =
 
 module _ (program : Program) (origin : Origin) (budget : ℕ) (history : List Entry) where
   abbrev Begun : GuestEnd → Type 0
-  Begun = IsBegunEnd program origin.size origin.first origin.spare budget history
+  Begun = IsBegunEnd a32 program origin.size origin.first origin.spare budget history
 
-  begun_by : (t : ℕ) (start : Machine) (end : GuestEnd) → IsEndFrom program origin budget t start history end → BeginsAs program origin.size origin.first history t start → Begun end
+  begun_by : (t : ℕ) (start : Machine) (end : GuestEnd) → IsEndFrom program origin budget t start history end → BeginsAs a32 program origin.size origin.first history t start → Begun end
   begun_by t start end is begins = record {
     start = start;
-    begins = subst (λ (u : ℕ). BeginsAs program origin.size origin.first history u start) (sym is.thread) begins;
-    ends = subst (λ (u : ℕ). IsStockEndOn (stock_of origin.first origin.spare u) program origin.size budget start history end) (sym is.thread) is.on;
+    begins = subst (λ (u : ℕ). BeginsAs a32 program origin.size origin.first history u start) (sym is.thread) begins;
+    ends = subst (λ (u : ℕ). IsStockEndOn a32 (stock_of origin.first origin.spare u) program origin.size budget start history end) (sym is.thread) is.on;
   }
 
   -- ---- those of started threads
@@ -70,7 +70,7 @@ module _ (program : Program) (origin : Origin) (budget : ℕ) (history : List En
   children_begun t (one ∷ all) [] stand are = absurd are
   children_begun t (one ∷ all) (end ∷ ends) stand are =
       All-cons Begun end ends
-      (begun_by one.child (child_start origin.size one.child one.entry one.arg) end are.0 (by_start t one.entry one.arg (All-head (Stands t history) one all stand)))
+      (begun_by one.child (child_start a32 origin.size one.child one.entry one.arg) end are.0 (by_start t one.entry one.arg (All-head (Stands t history) one all stand)))
       (children_begun t all ends (All-tail (Stands t history) one all stand) are.1)
 
   record IsParted (all more : List Started) (ends : List GuestEnd) : Type 0 where
@@ -115,7 +115,7 @@ module _ (program : Program) (origin : Origin) (budget : ℕ) (history : List En
   heads_begun n (suc count) (end ∷ ends) within are =
       let less : n < origin.first = omega (arith, within) in
       let more : n + 1 + count ≤ origin.first = omega (arith, within) in
-      All-cons Begun end ends (begun_by n (thread_start program origin.size origin.first n) end are.0 (by_itself less)) (heads_begun (n + 1) count ends more are.1)
+      All-cons Begun end ends (begun_by n (thread_start a32 program origin.size origin.first n) end are.0 (by_itself less)) (heads_begun (n + 1) count ends more are.1)
 
   heads_threads : (ts : List ℕ) (ends : List GuestEnd) → AreHeads program origin budget history ts ends → map (λ end. end.thread) ends ≡ ts
   heads_threads [] [] are = refl
@@ -127,7 +127,7 @@ module _ (program : Program) (origin : Origin) (budget : ℕ) (history : List En
   -- all of them
   pub are_begun : (ts : List ℕ) (heads children : List GuestEnd) → ts ≡ range_with_len 0 origin.first
       → AreHeads program origin budget history ts heads → AreChildren program origin budget history (started_by_all ts history) children
-      → AreBegunEnds program origin.size origin.first origin.spare budget history (heads ++ children)
+      → AreBegunEnds a32 program origin.size origin.first origin.spare budget history (heads ++ children)
   are_begun ts heads children is are also =
       let first = subst (λ (us : List ℕ). AreHeads program origin budget history us heads) is are in
       record {
@@ -148,11 +148,11 @@ module _ (program : Program) (origin : Origin) (budget : ℕ) (history : List En
       of_heads [] [] are = All-nil holds
       of_heads [] (end ∷ ends) are = absurd are
       of_heads (t ∷ ts) [] are = absurd are
-      of_heads (t ∷ ts) (end ∷ ends) are = All-cons holds end ends (each t (thread_start program origin.size origin.first t) end are.0) (of_heads ts ends are.1)
+      of_heads (t ∷ ts) (end ∷ ends) are = All-cons holds end ends (each t (thread_start a32 program origin.size origin.first t) end are.0) (of_heads ts ends are.1)
 
       of_children : (all : List Started) (ends : List GuestEnd) → AreChildren program origin budget history all ends → All holds ends
       of_children [] [] are = All-nil holds
       of_children [] (end ∷ ends) are = absurd are
       of_children (one ∷ all) [] are = absurd are
       of_children (one ∷ all) (end ∷ ends) are =
-          All-cons holds end ends (each one.child (child_start origin.size one.child one.entry one.arg) end are.0) (of_children all ends are.1)
+          All-cons holds end ends (each one.child (child_start a32 origin.size one.child one.entry one.arg) end are.0) (of_children all ends are.1)

@@ -16,15 +16,18 @@ use Rattle.history.proofs.Starts.{starts_from-length, starts_in-start}
 use Rattle.shared_memory.specs.Origin.{Origin}
 use Rattle.shared_memory.specs.Seen.{IsSingle, Sees}
 use Rattle.llsc_base.specs.declared.outside.CallAsk.{CallAsk}
-use Rattle.a32_step.specs.Machine.{Machine, after_next}
+use Rattle.a32_step.specs.Machine.{Machine, after_next, a32}
 use Rattle.guest_calls.specs.Pairs.{pair_of, pairs_of}
-use Rattle.guest_calls.specs.Run.{Pair, Point, returned}
+use Rattle.guest_core.specs.Machine.{returned_of}
+use Rattle.guest_calls.specs.Run.{Pair, PointOf}
 use Rattle.guest_thread.specs.Begun.{stock_of}
 use Rattle.guest_thread.specs.Counts.{reads_in, writes_in, fails_in}
 use Rattle.guest_thread.specs.StockRun.{Stock, Comes, starts_one, start_answer, start_point, starts_after}
 use Rattle.guest_family.specs.Next.{after_answer}
 use Rattle.guest_family.specs.UnderWay.{HasCalled, IsUnderWay}
 use Rattle.guest_thread.specs.declared.pieces.Part.{Part}
+use Rattle.a32_instr.specs.declared.instructions.Instr.{Instr}
+use Rattle.a32_instr.specs.State.{State}
 
 -- the stock of a first thread that may start others
 abbrev own_stock : (first spare t : ℕ) → Stock
@@ -71,7 +74,7 @@ module _ (t : ℕ) (old new added : List Entry) (child entry arg : ℕ) (longer 
   one_start = ap (starts_in t) longer ∙ starts_in-start t old added child entry arg mine
 
 module _ {P : Type 0} (home : P → TableId) (numbers : P → ℕ → Bool) (seen : P → List Entry) (mem : TableId) (origin : Origin) (program : Program) (budget t : ℕ)
-    (start : Machine) (old : P) (part : Part P) (entry arg : ℕ) (called : HasCalled home numbers seen mem origin program budget t start old part entry arg) where
+    (start : Machine) (old : P) (part : Part P Machine) (entry arg : ℕ) (called : HasCalled home numbers seen mem origin program budget t start old part entry arg) where
   pub started_on : (child : ℕ) (new : P) → t < origin.first → entry % 4 ≡ 0 → starts_of t (seen part.pass) < origin.spare
       → child ≡ child_of origin.first origin.spare t (starts_of t (seen part.pass))
       → Sees origin t (seen part.pass) (Start t child entry arg ∷ []) (seen new)
@@ -82,7 +85,7 @@ module _ {P : Type 0} (home : P → TableId) (numbers : P → ℕ → Bool) (see
       let stock = own_stock origin.first origin.spare t in
       let pairs = pairs_of t (seen part.pass) in
       let starts = starts_in t (seen part.pass) in
-      let at : Point = record { machine = called.machine; steps = part.steps; output = part.out } in
+      let at : PointOf Instr State = record { machine = called.machine; steps = part.steps; output = part.out } in
       let spare : 0 < origin.spare = omega (arith, few) in
       let count : length starts ≡ starts_of t (seen part.pass) = starts_from-length t 0 (seen part.pass) in
       let less : length starts < stock.count = omega (arith, few, count) in
@@ -97,10 +100,10 @@ module _ {P : Type 0} (home : P → TableId) (numbers : P → ℕ → Bool) (see
       ∙ ap (λ (n : ℕ). starts ++ record { child = child; entry = entry; arg = n; place = length pairs } ∷ []) (sym called.arg_is)
       ∙ ap (λ (n : ℕ). starts ++ record { child = child; entry = entry; arg = arg; place = n } ∷ []) made
       ∙ sym (one_start t (seen part.pass) (seen new) sees.added child entry arg sees.longer sees.mine) in
-      let behind : Comes all program budget start pairs (starts_after stock (length pairs) starts called.call) (start_point program stock starts called.call at) =
+      let behind : Comes a32 all program budget start pairs (starts_after stock (length pairs) starts called.call) (start_point a32 program stock starts called.call at) =
       starts_one pairs starts at called.call stock called.comes (first_stock origin.first origin.spare t below spare) called.within called.called called.starts in
-      let machine : returned (after_next program called.machine) (start_answer stock (length starts) called.call) ≡ returned part.cpu child =
-      ap (returned (after_next program called.machine)) answer ∙ ap (λ (m : Machine). returned m child) (sym called.cpu_is) in
+      let machine : returned_of a32 (after_next program called.machine) (start_answer stock (length starts) called.call) ≡ returned_of a32 part.cpu child =
+      ap (returned_of a32 (after_next program called.machine)) answer ∙ ap (λ (m : Machine). returned_of a32 m child) (sym called.cpu_is) in
       let within = called.within in
       let mine = own t (seen part.pass) (seen new) sees.added child entry arg sees.longer sees.mine in
       record {
@@ -108,10 +111,10 @@ module _ {P : Type 0} (home : P → TableId) (numbers : P → ℕ → Bool) (see
         single = subst (IsSingle t) (sym same_numbers) called.single;
         may_act = subst (MayAct origin.first t) (sym sees.longer) (may-act-later origin.first t (seen part.pass) sees.added called.may_act);
         between = refl;
-        comes = subst (λ (ps : List Pair). Comes all program budget start ps (starts_in t (seen new)) (record { machine = returned part.cpu child; steps = part.steps + 1; output = part.out }))
+        comes = subst (λ (ps : List Pair). Comes a32 all program budget start ps (starts_in t (seen new)) (record { machine = returned_of a32 part.cpu child; steps = part.steps + 1; output = part.out }))
             (sym (same_pairs t (seen part.pass) (seen new) sees.added child entry arg sees.longer sees.mine))
-            (subst (λ (m : Machine). Comes all program budget start pairs (starts_in t (seen new)) (record { machine = m; steps = part.steps + 1; output = part.out })) machine
-            (subst (λ (ss : List Started). Comes all program budget start pairs ss (start_point program stock starts called.call at)) one behind));
+            (subst (λ (m : Machine). Comes a32 all program budget start pairs (starts_in t (seen new)) (record { machine = m; steps = part.steps + 1; output = part.out })) machine
+            (subst (λ (ss : List Started). Comes a32 all program budget start pairs ss (start_point a32 program stock starts called.call at)) one behind));
         counts = record {
           reads = called.counts.reads ∙ sym (ap (λ (es : List Entry). sum_by reads_in es) mine ∙ one_none reads_in (entries_of t (seen part.pass)) (Start t child entry arg) refl);
           writes = called.counts.writes ∙ sym (ap (λ (es : List Entry). sum_by writes_in es) mine ∙ one_none writes_in (entries_of t (seen part.pass)) (Start t child entry arg) refl);

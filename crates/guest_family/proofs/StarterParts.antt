@@ -15,7 +15,7 @@ use Rattle.history.proofs.Born.{child-below}
 use Rattle.history.proofs.Starts.{starts_from-length, starts_from-own}
 use Rattle.shared_memory.specs.Origin.{Origin}
 use Rattle.shared_memory.specs.Seen.{IsFront, IsOneOf, IsSingle, SaysAllOf, Sees, joint}
-use Rattle.a32_step.specs.Machine.{Machine}
+use Rattle.a32_step.specs.Machine.{Machine, a32}
 use Rattle.guest_core.specs.Machine.{between}
 use Rattle.guest_calls.specs.Pairs.{pair_of, pairs_of}
 use Rattle.guest_calls.specs.Run.{Pair, first_point}
@@ -74,8 +74,8 @@ module _ {P : Type 0} (home : P → TableId) (numbers : P → ℕ → Bool) (see
         single = single;
         may_act = acts;
         between = rests;
-        comes = subst (λ (ps : List Pair). Comes stock program budget start ps (starts_in t (seen pass)) (first_point start)) (sym pairs)
-            (subst (λ (ss : List Started). Comes stock program budget start [] ss (first_point start)) (sym (none_started t (seen pass) none)) begins_so);
+        comes = subst (λ (ps : List Pair). Comes a32 stock program budget start ps (starts_in t (seen pass)) (first_point start)) (sym pairs)
+            (subst (λ (ss : List Started). Comes a32 stock program budget start [] ss (first_point start)) (sym (none_started t (seen pass) none)) begins_so);
         counts = record {
           reads = sym (ap reads_of none);
           writes = sym (ap writes_of none);
@@ -86,7 +86,7 @@ module _ {P : Type 0} (home : P → TableId) (numbers : P → ℕ → Bool) (see
         within = omega arith;
       }
 
-  pub under_at_start : (start : Machine) (part : Part P) (cpu : Machine) (pass : P) (out : List ℕ)
+  pub under_at_start : (start : Machine) (part : Part P Machine) (cpu : Machine) (pass : P) (out : List ℕ)
       → part ≡ record { cpu = cpu; pass = pass; out = out; steps = 0; reads = 0; writes = 0; fails = 0 } → cpu ≡ start → out ≡ []
       → home pass ≡ mem → IsSingle t (numbers pass) → MayAct origin.first t (seen pass) → entries_of t (seen pass) ≡ [] → start ≡ between start.state
       → IsUnderWay home numbers seen mem origin program budget t start part
@@ -97,7 +97,7 @@ module _ {P : Type 0} (home : P → TableId) (numbers : P → ℕ → Bool) (see
       subst (IsUnderWay home numbers seen mem origin program budget t start) (sym first) (begins_under start pass memory single acts none rests)
 
   -- one that was started, once it has come in
-  pub child_begins : (start : Machine) (part : Part P) (cpu : Machine) (old pass : P) (out : List ℕ)
+  pub child_begins : (start : Machine) (part : Part P Machine) (cpu : Machine) (old pass : P) (out : List ℕ)
       → part ≡ record { cpu = cpu; pass = pass; out = out; steps = 0; reads = 0; writes = 0; fails = 0 } → cpu ≡ start → out ≡ []
       → home old ≡ mem → IsSingle t (numbers old) → entries_of t (seen old) ≡ [] → start ≡ between start.state
       → home pass ≡ home old → numbers pass ≡ numbers old → is_started t (seen pass) ≡ true → Sees origin t (seen old) [] (seen pass)
@@ -107,21 +107,21 @@ module _ {P : Type 0} (home : P → TableId) (numbers : P → ℕ → Bool) (see
       (none_later origin t (seen old) (seen pass) none sees) rests
 
   -- one of the first at its start
-  pub starter_begins : (starter : Starter P) (part : Part P) → IsStarter home numbers seen mem origin program starter → starter.job.thread ≡ t
+  pub starter_begins : (starter : Starter P) (part : Part P Machine) → IsStarter home numbers seen mem origin program starter → starter.job.thread ≡ t
       → part ≡ record { cpu = starter.job.cpu; pass = starter.job.pass; out = starter.job.out; steps = 0; reads = 0; writes = 0; fails = 0 }
       → IsStarterPart home numbers seen mem origin program budget t (record { part = part; code = starter.job.code; spares = starter.spares; ends = starter.ends })
   starter_begins starter part is thread begun =
       let single : IsSingle t (numbers starter.job.pass) = subst (λ (u : ℕ). IsSingle u (numbers starter.job.pass)) thread is.job.single in
       let none : entries_of t (seen starter.job.pass) ≡ [] = subst (λ (u : ℕ). entries_of u (seen starter.job.pass) ≡ []) thread is.job.none in
       let below : t < origin.first = subst (λ (u : ℕ). u < origin.first) thread is.job.first in
-      let cpu : starter.job.cpu ≡ thread_start program origin.size origin.first t = is.job.start ∙ ap (thread_start program origin.size origin.first) thread in
+      let cpu : starter.job.cpu ≡ thread_start a32 program origin.size origin.first t = is.job.start ∙ ap (thread_start a32 program origin.size origin.first) thread in
       let pass : part.pass ≡ starter.job.pass = ap (λ p. p.pass) begun in
       let started : starts_of t (seen part.pass) ≡ 0 =
       ap (λ (p : P). starts_of t (seen p)) pass ∙ sym (starts_from-length t 0 (seen starter.job.pass)) ∙ ap length (none_started t (seen starter.job.pass) none) in
       let many = is.many in
       record {
         first = below;
-        goes = under_at_start (thread_start program origin.size origin.first t) part starter.job.cpu starter.job.pass starter.job.out begun cpu is.job.empty is.job.memory single (inl below) none refl;
+        goes = under_at_start (thread_start a32 program origin.size origin.first t) part starter.job.cpu starter.job.pass starter.job.out begun cpu is.job.empty is.job.memory single (inl below) none refl;
         code = is.job.code;
         spares = is.spares;
         threads = is.threads ∙ ap (λ (u : ℕ). range_with_len (child_of origin.first origin.spare u 0) origin.spare) thread
@@ -134,7 +134,7 @@ module _ {P : Type 0} (home : P → TableId) (numbers : P → ℕ → Bool) (see
       }
 
   -- and at its end
-  pub starter_ends : (starter : Starter P) (part : Part P) (ended : StarterEnd P) → IsStarter home numbers seen mem origin program starter → starter.job.thread ≡ t
+  pub starter_ends : (starter : Starter P) (part : Part P Machine) (ended : StarterEnd P) → IsStarter home numbers seen mem origin program starter → starter.job.thread ≡ t
       → part.pass ≡ starter.job.pass
       → HasEndedWithAll home numbers seen mem origin program budget t (starts_in t (seen part.pass)) (spares_of starter.spares.items) ended
       → HasEndedWithAll home numbers seen mem origin program budget t [] (own_numbers origin.first origin.spare t) ended
@@ -147,13 +147,13 @@ module _ {P : Type 0} (home : P → TableId) (numbers : P → ℕ → Bool) (see
   -- ---- to its end
 
   pub ended_alone : (starter : StarterPart P) (done : Finished P) (ended : StarterEnd P) → IsStarterPart home numbers seen mem origin program budget t starter
-      → HasEnded home numbers seen mem origin program budget t (thread_start program origin.size origin.first t) starter.part.pass done
+      → HasEnded home numbers seen mem origin program budget t (thread_start a32 program origin.size origin.first t) starter.part.pass done
       → IsLater home numbers seen done.pass ended.ran.pass → AreTaken (numbers ended.ran.pass) (spares_of starter.spares.items)
       → ended.ran.ends ≡ starter.ends → ended.end ≡ done.end
       → HasEndedWithAll home numbers seen mem origin program budget t (starts_in t (seen starter.part.pass)) (spares_of starter.spares.items) ended
   ended_alone starter done ended is has later taken ends end =
       let pass = ended.ran.pass in
-      let start = thread_start program origin.size origin.first t in
+      let start = thread_start a32 program origin.size origin.first t in
       let same = later.says t has.single.has in
       let none : reverse ended.ran.ends.items ≡ [] = ap (λ (es : Vec GuestEnd Global). reverse es.items) ends ∙ ap reverse is.empty.0 in
       record {
@@ -203,8 +203,8 @@ module _ {P : Type 0} (home : P → TableId) (numbers : P → ℕ → Bool) (see
       }
 
   -- at its call it has a number left
-  pub called_few : (old : StarterPart P) (spare : Spare P) (rest : List (Spare P)) (len : ℕ) (called : Part P) (entry arg : ℕ) → IsNextSpare old spare rest len
-      → HasCalled home numbers seen mem origin program budget t (thread_start program origin.size origin.first t) old.part.pass called entry arg
+  pub called_few : (old : StarterPart P) (spare : Spare P) (rest : List (Spare P)) (len : ℕ) (called : Part P Machine) (entry arg : ℕ) → IsNextSpare old spare rest len
+      → HasCalled home numbers seen mem origin program budget t (thread_start a32 program origin.size origin.first t) old.part.pass called entry arg
       → starts_of t (seen called.pass) < origin.spare
   called_few old spare rest len called entry arg next is =
       let same : starts_of t (seen called.pass) ≡ starts_of t (seen old.part.pass) =
@@ -213,9 +213,9 @@ module _ {P : Type 0} (home : P → TableId) (numbers : P → ℕ → Bool) (see
       omega (arith, same, few)
 
   -- what it has started by a call that was answered so
-  module _ (old new : StarterPart P) (spare : Spare P) (called : Part P) (entry arg : ℕ)
+  module _ (old new : StarterPart P) (spare : Spare P) (called : Part P Machine) (entry arg : ℕ)
       (next : IsNextSpare old spare new.spares.items (vec_len new.spares))
-      (is_called : HasCalled home numbers seen mem origin program budget t (thread_start program origin.size origin.first t) old.part.pass called entry arg)
+      (is_called : HasCalled home numbers seen mem origin program budget t (thread_start a32 program origin.size origin.first t) old.part.pass called entry arg)
       (starts : starts_in t (seen new.part.pass) ≡ starts_in t (seen called.pass) ++ next_start origin t (seen called.pass) entry arg ∷ []) where
     same_count : starts_of t (seen called.pass) ≡ starts_of t (seen old.part.pass)
     same_count = sym (starts_from-length t 0 (seen called.pass)) ∙ ap length is_called.same ∙ starts_from-length t 0 (seen old.part.pass)
@@ -230,7 +230,7 @@ module _ {P : Type 0} (home : P → TableId) (numbers : P → ℕ → Bool) (see
         omega (arith, longer, before, after, same)
 
     pub part_left : IsStarterPart home numbers seen mem origin program budget t old
-        → IsUnderWay home numbers seen mem origin program budget t (thread_start program origin.size origin.first t) new.part
+        → IsUnderWay home numbers seen mem origin program budget t (thread_start a32 program origin.size origin.first t) new.part
         → new.code.program ≡ program → new.ends ≡ old.ends → vec_len old.spares ≡ vec_len new.spares + 1
         → IsStarterPart home numbers seen mem origin program budget t new
     part_left is goes code ends longer =
@@ -252,7 +252,7 @@ module _ {P : Type 0} (home : P → TableId) (numbers : P → ℕ → Bool) (see
         }
 
     pub branched : IsStarterPart home numbers seen mem origin program budget t old
-        → IsUnderWay home numbers seen mem origin program budget t (thread_start program origin.size origin.first t) new.part
+        → IsUnderWay home numbers seen mem origin program budget t (thread_start a32 program origin.size origin.first t) new.part
         → new.code.program ≡ program → new.ends ≡ old.ends → vec_len old.spares ≡ vec_len new.spares + 1 → old.spares.items ≡ spare ∷ new.spares.items
         → IsFront (seen called.pass) (seen new.part.pass)
         → HasBranched home numbers seen mem origin program budget t old new spare entry arg
@@ -273,7 +273,7 @@ module _ {P : Type 0} (home : P → TableId) (numbers : P → ℕ → Bool) (see
       → HasBranched home numbers seen mem origin program budget t old new spare entry arg
       → HasEndedWithAll home numbers seen mem origin program budget t (starts_in t (seen new.part.pass)) (spares_of new.spares.items) ended
       × IsFront (seen new.part.pass) (seen ended.ran.pass)
-      → IsEndFrom program origin budget spare.thread (child_start origin.size spare.thread entry arg) (seen done.pass) done.end
+      → IsEndFrom program origin budget spare.thread (child_start a32 origin.size spare.thread entry arg) (seen done.pass) done.end
       → IsOneOf spare.thread (numbers done.pass)
       → home ran.pass ≡ mem → numbers ran.pass ≡ joint (numbers ended.ran.pass) (numbers done.pass)
       → IsFront (seen ended.ran.pass) (seen ran.pass) × IsFront (seen done.pass) (seen ran.pass)

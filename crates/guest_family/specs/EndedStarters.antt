@@ -20,6 +20,7 @@ use Rattle.guest_family.specs.declared.starters.Branch.{Branch}
 use Rattle.guest_family.specs.declared.starters.Branch.TheVariants.{Ended, Starts}
 use Rattle.guest_family.specs.declared.starters.StarterEnd.{StarterEnd}
 use Rattle.guest_family.specs.declared.starters.StarterPart.{StarterPart}
+use Rattle.a32_step.specs.Machine.{a32}
 
 -- the ends of the threads that were started so, one of each, in this order
 abbrev pub AreChildren : Program → Origin → (budget : ℕ) → List Entry → List Started → List GuestEnd → Type 0
@@ -27,7 +28,7 @@ AreChildren program origin budget history [] [] = Unit {0}
 AreChildren program origin budget history [] (end ∷ ends) = ⊥
 AreChildren program origin budget history (started ∷ all) [] = ⊥
 AreChildren program origin budget history (started ∷ all) (end ∷ ends) =
-    IsEndFrom program origin budget started.child (child_start origin.size started.child started.entry started.arg) history end
+    IsEndFrom program origin budget started.child (child_start a32 origin.size started.child started.entry started.arg) history end
     × AreChildren program origin budget history all ends
 
 -- the ends of these first threads, one of each, in this order
@@ -36,7 +37,7 @@ AreHeads program origin budget history [] [] = Unit {0}
 AreHeads program origin budget history [] (end ∷ ends) = ⊥
 AreHeads program origin budget history (t ∷ ts) [] = ⊥
 AreHeads program origin budget history (t ∷ ts) (end ∷ ends) =
-    IsEndFrom program origin budget t (thread_start program origin.size origin.first t) history end × AreHeads program origin budget history ts ends
+    IsEndFrom program origin budget t (thread_start a32 program origin.size origin.first t) history end × AreHeads program origin budget history ts ends
 
 -- the numbers of those that were started so
 abbrev pub numbers_of : List Started → List ℕ
@@ -78,7 +79,7 @@ module _ {P : Type 0} (home : P → TableId) (numbers : P → ℕ → Bool) (see
   -- one of the first threads under way, with those that it may still start, in order of number, and with room for all ends
   pub record IsStarterPart (mem : TableId) (origin : Origin) (program : Program) (budget t : ℕ) (starter : StarterPart P) : Type 0 where
     pub first : t < origin.first
-    pub goes : IsUnderWay home numbers seen mem origin program budget t (thread_start program origin.size origin.first t) starter.part
+    pub goes : IsUnderWay home numbers seen mem origin program budget t (thread_start a32 program origin.size origin.first t) starter.part
     pub code : starter.code.program ≡ program
     pub spares : AreSpares home numbers seen mem program starter.spares.items
     pub threads : spares_of starter.spares.items ≡ range_with_len (child_of origin.first origin.spare t (starts_of t (seen starter.part.pass))) (vec_len starter.spares)
@@ -95,7 +96,7 @@ module _ {P : Type 0} (home : P → TableId) (numbers : P → ℕ → Bool) (see
     pub taken : AreTaken (numbers ended.ran.pass) spares
     pub more : List Started
     pub starts : starts_in t (seen ended.ran.pass) ≡ before ++ more
-    pub head : IsEndFrom program origin budget t (thread_start program origin.size origin.first t) (seen ended.ran.pass) ended.end
+    pub head : IsEndFrom program origin budget t (thread_start a32 program origin.size origin.first t) (seen ended.ran.pass) ended.end
     pub children : AreChildren program origin budget (seen ended.ran.pass) more (reverse ended.ran.ends.items)
     pub among : AreTaken (numbers ended.ran.pass) (numbers_of more)
 

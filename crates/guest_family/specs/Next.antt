@@ -4,8 +4,8 @@ use Rattle.atomic_table.specs.Seated.{TableId}
 use Rattle.llsc_base.specs.Images.{Program}
 use Rattle.history.specs.declared.entry.Entry.{Entry}
 use Rattle.shared_memory.specs.Origin.{Origin}
-use Rattle.a32_step.specs.Machine.{Machine}
-use Rattle.guest_calls.specs.Run.{returned}
+use Rattle.a32_step.specs.Machine.{Machine, a32}
+use Rattle.guest_core.specs.Machine.{returned_of}
 use Rattle.history.specs.Starts.{Started}
 use Rattle.guest_thread.specs.StockRun.{Stock, bad_entry, none_left}
 use Rattle.guest_thread.specs.declared.pieces.Part.{Part}
@@ -23,8 +23,8 @@ abbrev pub refusal_of : ℕ → ℕ
 refusal_of entry = if not (entry % 4 == 0) then bad_entry else none_left
 
 -- a thread whose call was answered, which is a step
-abbrev pub after_answer : {P : Type 0} → Part P → ℕ → Part P
-after_answer part value = record part { cpu = returned part.cpu value; steps = part.steps + 1 }
+abbrev pub after_answer : {P : Type 0} → Part P Machine → ℕ → Part P Machine
+after_answer part value = record part { cpu = returned_of a32 part.cpu value; steps = part.steps + 1 }
 
 -- where it calls, it does so for a thread that begins at a word
 abbrev pub IsAligned : {P : Type 0} → Next P → Type 0

@@ -11,7 +11,7 @@ use Rattle.shared_memory.specs.Seen.{IsFront, IsSingle}
 use Rattle.llsc_base.specs.declared.outside.CallAsk.{CallAsk}
 use Rattle.llsc_base.specs.declared.outside.Stop.TheVariants.{TagLimit}
 use Rattle.llsc_base.specs.Effects.{calls}
-use Rattle.a32_step.specs.Machine.{Machine, next_effect, after_next}
+use Rattle.a32_step.specs.Machine.{Machine, next_effect, after_next, a32}
 use Rattle.guest_core.specs.Machine.{IsCalling, between}
 use Rattle.guest_calls.specs.Calls.{is_start_call}
 use Rattle.guest_calls.specs.Pairs.{pairs_of}
@@ -27,26 +27,26 @@ use Rattle.guest_thread.specs.declared.pieces.Part.{Part}
 -- how a thread ended in a history, that began at a state; where it was stopped at a store, the memory counts a class's writes
 pub record IsEndFrom (program : Program) (origin : Origin) (budget t : ℕ) (start : Machine) (history : List Entry) (end : GuestEnd) : Type 0 where
   pub thread : end.thread ≡ t
-  pub on : IsStockEndOn (stock_of origin.first origin.spare t) program origin.size budget start history end
+  pub on : IsStockEndOn a32 (stock_of origin.first origin.spare t) program origin.size budget start history end
   pub spends : (addr : ℕ) → end.stop ≡ TagLimit addr → origin.spends ≡ true
   pub few : accesses_counted (counts_in end) < 2 ^ 45
 
 -- what a memory says of a pass: which memory made it, which numbers it holds, and what it has seen
 module _ {P : Type 0} (home : P → TableId) (numbers : P → ℕ → Bool) (seen : P → List Entry) where
   -- a thread that may act is between two instructions: it came there from its start by the accesses and the starts that its pass has seen
-  pub record IsUnderWay (mem : TableId) (origin : Origin) (program : Program) (budget t : ℕ) (start : Machine) (part : Part P) : Type 0 where
+  pub record IsUnderWay (mem : TableId) (origin : Origin) (program : Program) (budget t : ℕ) (start : Machine) (part : Part P Machine) : Type 0 where
     pub memory : home part.pass ≡ mem
     pub single : IsSingle t (numbers part.pass)
     pub may_act : MayAct origin.first t (seen part.pass)
     pub between : part.cpu ≡ between part.cpu.state
-    pub comes : Comes (stock_of origin.first origin.spare t) program budget start (pairs_of t (seen part.pass)) (starts_in t (seen part.pass)) (point_of part)
+    pub comes : Comes a32 (stock_of origin.first origin.spare t) program budget start (pairs_of t (seen part.pass)) (starts_in t (seen part.pass)) (point_of a32 (λ m. m) part)
     pub counts : AreCounts t (seen part.pass) (counts_by part)
     pub accesses : made_by t (seen part.pass) ≤ 16 * part.steps + length part.out
     pub few : CountFew (counts_by part) part.steps part.out
     pub within : part.steps ≤ budget
 
   -- it has gone on to a call that starts a thread, at an address and with an argument, and has started none on its way
-  pub record HasCalled (mem : TableId) (origin : Origin) (program : Program) (budget t : ℕ) (start : Machine) (old : P) (part : Part P) (entry arg : ℕ) : Type 0 where
+  pub record HasCalled (mem : TableId) (origin : Origin) (program : Program) (budget t : ℕ) (start : Machine) (old : P) (part : Part P Machine) (entry arg : ℕ) : Type 0 where
     pub memory : home part.pass ≡ mem
     pub single : IsSingle t (numbers part.pass)
     pub may_act : MayAct origin.first t (seen part.pass)
@@ -60,7 +60,7 @@ module _ {P : Type 0} (home : P → TableId) (numbers : P → ℕ → Bool) (see
     pub stocked : is_some (stock_of origin.first origin.spare t) ≡ true
     pub machine : Machine
     pub call : CallAsk
-    pub comes : Comes (stock_of origin.first origin.spare t) program budget start (pairs_of t (seen part.pass)) (starts_in t (seen part.pass))
+    pub comes : Comes a32 (stock_of origin.first origin.spare t) program budget start (pairs_of t (seen part.pass)) (starts_in t (seen part.pass))
         (record { machine = machine; steps = part.steps; output = part.out })
     pub called : next_effect program machine ≡ calls call
     pub starts : is_start_call call ≡ true

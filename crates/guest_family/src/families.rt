@@ -8,6 +8,7 @@ ghost use Rattle.guest_thread.specs.declared.ends.GuestEnd.{GuestEnd};
 ghost use Rattle.guest_family.specs.EndedStarters.{HasEndedWithAll, HaveEndedWithAll};
 ghost use Rattle.guest_family.specs.Kin.{IsReady, IsStarter, MayRun, heads_of, own_numbers};
 ghost use denote.Param.Send.{IsSync, IsSend};
+ghost use Rattle.a32_step.specs.Machine.{a32};
 
 use crate::kin::{Kin, Starter};
 use crate::starters::{StarterEnd, StarterPart, run_on};
@@ -243,7 +244,7 @@ pub fn run_family<M: StartMemory, R: Threads + Wait + Sync>(
     requires kin { IsReady M.home M.numbers M.seen (M.id mem.now) (M.origin mem.now) image.now kin }
     requires whole { length image.now.bytes ≡ (M.origin mem.now).size.mem }
     requires budget { budget ≤ most_budget }
-    ensures ends { AreBegunEnds image.now (M.origin mem.now).size (M.origin mem.now).first (M.origin mem.now).spare budget (M.seen result.pass) result.ends.items }
+    ensures ends { AreBegunEnds a32 image.now (M.origin mem.now).size (M.origin mem.now).first (M.origin mem.now).spare budget (M.seen result.pass) result.ends.items }
     ensures spends { All (λ (end : GuestEnd). (addr : ℕ) → end.stop ≡ Stop.TagLimit addr → (M.origin mem.now).spends ≡ true) result.ends.items }
     ensures few { All (λ (end : GuestEnd). accesses_counted (counts_in end) < 2 ^ 45) result.ends.items }
     ensures many { vec_len result.ends ≤ (M.origin mem.now).size.threads }

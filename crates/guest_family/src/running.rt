@@ -11,7 +11,7 @@ ghost use Rattle.guest_family.specs.UnderWay.{HasEnded, IsUnderWay};
 
 use guest_core::Code;
 
-use a32_step::Conditional;
+use a32_step::{Conditional, Cpu};
 use guest_thread::{Finished, Part, Paused, go_on};
 use shared_memory::StartMemory;
 use std::sync::Wait;
@@ -27,7 +27,7 @@ pub(crate) enum Next<P> {
     /// It has ended.
     Ended(Finished<P>),
     /// It calls for a thread to be started, at an address and with an argument.
-    Calls { part: Part<P>, entry: u32, arg: u32 },
+    Calls { part: Part<P, Cpu>, entry: u32, arg: u32 },
 }
 
 /// Goes on with a thread until it has ended or calls for another to be started.
@@ -35,7 +35,7 @@ pub(crate) fn to_next<M: StartMemory, R: Wait>(
     rt: &R,
     mem: &M,
     code: &mut Code<Conditional>,
-    part: Part<M::Pass>,
+    part: Part<M::Pass, Cpu>,
     budget: u64,
 ) -> Next<M::Pass>
     requires whole { length code.old.program.bytes ≡ (M.origin mem.now).size.mem }
@@ -63,7 +63,7 @@ fn refusal(entry: u32) -> u32
 }
 
 /// A thread whose call was answered, which is a step.
-pub(crate) fn answered<P>(mut part: Part<P>, value: u32) -> Part<P>
+pub(crate) fn answered<P>(mut part: Part<P, Cpu>, value: u32) -> Part<P, Cpu>
     requires calling { IsCalling part.cpu.phase }
     requires few { part.steps < 2 ^ 63 }
     ensures { result ≡ after_answer part value }
@@ -78,7 +78,7 @@ pub(crate) fn run_out<M: StartMemory, R: Wait>(
     rt: &R,
     mem: &M,
     code: &mut Code<Conditional>,
-    mut part: Part<M::Pass>,
+    mut part: Part<M::Pass, Cpu>,
     budget: u64,
 ) -> Finished<M::Pass>
     requires whole { length code.old.program.bytes ≡ (M.origin mem.now).size.mem }
@@ -106,7 +106,7 @@ pub(crate) fn to_start<M: StartMemory, R: Wait>(
     rt: &R,
     mem: &M,
     code: &mut Code<Conditional>,
-    mut part: Part<M::Pass>,
+    mut part: Part<M::Pass, Cpu>,
     budget: u64,
 ) -> Next<M::Pass>
     requires whole { length code.old.program.bytes ≡ (M.origin mem.now).size.mem }

@@ -6,12 +6,11 @@ ghost use Rattle.history.specs.Parts.{entries_of};
 ghost use Rattle.history.specs.Started.{starts_of};
 ghost use Rattle.history.specs.Starts.{starts_in};
 ghost use Rattle.shared_memory.specs.Seen.{IsFront, IsOneOf, IsSingle};
-ghost use Rattle.a32_step.specs.Machine.{Machine};
+ghost use Rattle.a32_step.specs.Machine.{Machine, a32};
 ghost use Rattle.guest_core.specs.Machine.{IsCalling};
 ghost use Rattle.guest_thread.specs.Begun.{child_start};
 ghost use Rattle.guest_thread.specs.Crews.{AreTaken};
-ghost use Rattle.guest_thread.specs.Start.{thread_start};
-ghost use Rattle.guest_family.specs.EndedStarters.{ComesTo, IfEnded, IfStarts, IsLater, IsStarterPart, LeavesRoom, RunsTo, next_start};
+ghost use Rattle.guest_family.specs.EndedStarters.{IfEnded, IfStarts, IsLater, IsStarterPart, LeavesRoom, RunsTo, next_start, ComesTo};
 ghost use Rattle.guest_family.specs.Kin.{AreSpares, IsSpare, spares_of};
 ghost use Rattle.guest_family.specs.UnderWay.{HasCalled, IsEndFrom, IsUnderWay};
 ghost use denote.Param.Send.{IsSync, IsSend};
@@ -31,7 +30,7 @@ use std::thread::{Threads, join};
 /// the ends of all of them.
 #[derive(Drop)]
 pub(crate) struct StarterPart<'i, P> {
-    pub(crate) part: Part<P>,
+    pub(crate) part: Part<P, Cpu>,
     pub(crate) code: Code<'i, Conditional>,
     pub(crate) spares: Vec<Spare<'i, P>>,
     pub(crate) ends: Vec<GuestEnd>,
@@ -42,7 +41,7 @@ pub(crate) struct StarterPart<'i, P> {
 fn child_cpu(size: &MachineSize, child: u32, entry: u32, arg: u32) -> Cpu
     requires known { child < size.now.threads }
     requires aligned { entry % 4 ≡ 0 }
-    ensures { result ≡ child_start size.now child entry arg }
+    ensures { result ≡ child_start a32 size.now child entry arg }
 {
     let stack = size.room() + 4096 * (child + 1);
     Cpu::start(entry, arg, child, stack)
@@ -57,7 +56,7 @@ fn come_in<M: StartMemory, R: Wait>(
     out: Output,
     entry: u32,
     arg: u32,
-) -> Part<M::Pass>
+) -> Part<M::Pass, Cpu>
     requires memory { M.home pass ≡ M.id mem.now }
     requires single { IsSingle thread (M.numbers pass) }
     requires none { entries_of thread (M.seen pass) ≡ [] }
@@ -65,7 +64,7 @@ fn come_in<M: StartMemory, R: Wait>(
     requires number { ((M.origin mem.now).first ≤ thread) × (thread < (M.origin mem.now).size.threads) }
     requires aligned { entry % 4 ≡ 0 }
     ensures { (program : Program) (budget : ℕ) →
-        IsUnderWay M.home M.numbers M.seen (M.id mem.now) (M.origin mem.now) program budget thread (child_start (M.origin mem.now).size thread entry arg) result }
+        IsUnderWay M.home M.numbers M.seen (M.id mem.now) (M.origin mem.now) program budget thread (child_start a32 (M.origin mem.now).size thread entry arg) result }
 {
     mem.enter(rt, &mut pass);
     let cpu = child_cpu(&mem.size(), thread, entry, arg);
@@ -87,7 +86,7 @@ fn run_child<M: StartMemory, R: Wait>(
     requires aligned { entry % 4 ≡ 0 }
     requires whole { length image.now.bytes ≡ (M.origin mem.now).size.mem }
     requires budget { budget ≤ most_budget }
-    ensures end { IsEndFrom image.now (M.origin mem.now) budget spare.entry.thread (child_start (M.origin mem.now).size spare.entry.thread entry arg) (M.seen result.pass) result.end }
+    ensures end { IsEndFrom image.now (M.origin mem.now) budget spare.entry.thread (child_start a32 (M.origin mem.now).size spare.entry.thread entry arg) (M.seen result.pass) result.end }
     ensures number { IsOneOf spare.entry.thread (M.numbers result.pass) }
     ensures memory { M.home result.pass ≡ M.id mem.now }
 {
@@ -132,7 +131,7 @@ fn join_unstarted<M: StartMemory>(
 }
 
 /// A thread that has called for another to be started, which is then started, and its call answered by the number of that.
-fn started<M: StartMemory>(mem: &M, mut part: Part<M::Pass>, entry: u32, arg: u32) -> Part<M::Pass>
+fn started<M: StartMemory>(mem: &M, mut part: Part<M::Pass, Cpu>, entry: u32, arg: u32) -> Part<M::Pass, Cpu>
     requires memory { M.home part.pass ≡ M.id mem.now }
     requires single { (t : ℕ) × IsSingle t (M.numbers part.pass) × (t < (M.origin mem.now).first) × (starts_of t (M.seen part.pass) < (M.origin mem.now).spare) }
     requires calling { IsCalling part.cpu.phase }
@@ -256,7 +255,7 @@ pub(crate) fn run_on<M: StartMemory, R: Threads + Wait + Sync>(
         move || -> Finished<M::Pass>
             requires { IsSpare M.home M.numbers M.seen (M.id mem.now) image.now spare × (((M.origin mem.now).first ≤ spare.thread) × (spare.thread < (M.origin mem.now).size.threads))
                 × (entry % 4 ≡ 0) × (length image.now.bytes ≡ (M.origin mem.now).size.mem) × (budget ≤ most_budget) }
-            ensures { IsEndFrom image.entry.now (M.origin mem.entry.now) budget spare.entry.thread (child_start (M.origin mem.entry.now).size spare.entry.thread entry arg) (M.seen result.pass) result.end
+            ensures { IsEndFrom image.entry.now (M.origin mem.entry.now) budget spare.entry.thread (child_start a32 (M.origin mem.entry.now).size spare.entry.thread entry arg) (M.seen result.pass) result.end
                 × IsOneOf spare.entry.thread (M.numbers result.pass) × (M.home result.pass ≡ M.id mem.entry.now) }
         { run_child(rt, mem, image, spare, entry, arg, budget) },
     );

@@ -1,10 +1,2 @@
-pub mod Listing
-pub mod Words
-pub mod States
-pub mod Blocks
-pub mod Rounds
-pub mod Stores
-pub mod Holding
-pub mod Counted
 pub mod Loops
 pub mod Totals

@@ -1,4 +1,3 @@
 pub mod Counters
 pub mod Namings
 pub mod Text
-pub mod Tries

@@ -1,5 +1,5 @@
 //! The program whose threads count.
-ghost use Rattle.std.specs.Prelude.{◌≡◌, ◌<◌, ◌^◌, IfOk, IfErr, OnOk};
+ghost use Rattle.std.specs.Prelude.{◌≡◌, ◌<◌, ◌^◌, IfOk, IfErr};
 ghost use Rattle.elf32.specs.Units.{IsWithin};
 ghost use Rattle.guest_gen.specs.Counters.{AreInRange, counter_unit, counter_words, fault_of, imm4_imm12};
 

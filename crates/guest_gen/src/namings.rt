@@ -1,5 +1,5 @@
 //! How often the threads of the counter guest name a counter.
-ghost use Rattle.std.specs.Prelude.{◌≡◌, ◌<◌, ◌≤◌, ◌^◌};
+ghost use Rattle.std.specs.Prelude.{◌≡◌, ◌<◌, ◌≤◌};
 ghost use Rattle.guest_gen.specs.Counters.{AreInRange};
 ghost use Rattle.guest_gen.specs.Namings.{drawn_after, first_draw, namings_in, namings_of, one_at};
 

@@ -10,6 +10,4 @@ pub mod Seated
 pub mod Turning
 pub mod UnderWay
 pub mod TracedAlone
-pub mod SmallRuns
-pub mod SmallTraces
-pub mod SmallLoop
+pub mod Seen

@@ -5,6 +5,7 @@ use Rattle.llsc_base.specs.Images.{Program}
 use Rattle.llsc_base.specs.Sizes.{Numbers}
 use Rattle.history.specs.declared.entry.Access.{Access}
 use Rattle.guest_machine.specs.Turns.{drawn, turn_of, without, Takes, begins, makes, stops, IsTrace}
+use Rattle.guest_core.specs.Machine.{InstructionSet}
 
 -- thread 0 alone, or nobody
 abbrev pub IsAlone : List ℕ → Type 0
@@ -28,37 +29,38 @@ alone_without : (t : ℕ) (live : List ℕ) → IsAlone live → t ≡ 0 → IsA
 alone_without t live (inl one) same = inr (ap (without t) one ∙ ap (λ u. without u (0 ∷ [])) same)
 alone_without t live (inr none) same = inr (ap (without t) none)
 
--- the same turns from another number
-pub record FromAny (program : Program) (size : Numbers) (seed budget : ℕ) (live : List ℕ) (accesses : List Access) : Type 0 where
-  pub alone : IsAlone live
-  pub number : ℕ
-  pub takes : Takes program size seed budget number live accesses
+module _ {I S : Type 0} (set : InstructionSet I S) where
+  -- the same turns from another number
+  pub record FromAny (program : Program) (size : Numbers) (seed budget : ℕ) (live : List ℕ) (accesses : List Access) : Type 0 where
+    pub alone : IsAlone live
+    pub number : ℕ
+    pub takes : Takes set program size seed budget number live accesses
 
-pub from_any : (program : Program) (size : Numbers) (seed other budget x : ℕ) (live : List ℕ) (accesses : List Access) → size.threads ≡ 1
-    → Takes program size seed budget x live accesses → FromAny program size other budget live accesses
-from_any program size seed other budget _ _ _ one begins = record {
-  alone = inl (ap (range_with_len 0) one);
-  number = other;
-  takes = begins;
-}
-from_any program size seed other budget _ _ _ one (makes x live accesses t ask before turn asks) =
-    let was = from_any program size seed other budget x live accesses one before in
-    record {
-      alone = was.alone;
-      number = drawn was.number;
-      takes = makes was.number live accesses t ask was.takes (same_turn (drawn x) (drawn was.number) t live was.alone turn).0 asks;
-    }
-from_any program size seed other budget _ _ _ one (stops x live accesses t stop steps output before turn ends) =
-    let was = from_any program size seed other budget x live accesses one before in
-    let same = same_turn (drawn x) (drawn was.number) t live was.alone turn in
-    record {
-      alone = alone_without t live was.alone same.1;
-      number = drawn was.number;
-      takes = stops was.number live accesses t stop steps output was.takes same.0 ends;
-    }
+  pub from_any : (program : Program) (size : Numbers) (seed other budget x : ℕ) (live : List ℕ) (accesses : List Access) → size.threads ≡ 1
+      → Takes set program size seed budget x live accesses → FromAny program size other budget live accesses
+  from_any program size seed other budget _ _ _ one begins = record {
+    alone = inl (ap (range_with_len 0) one);
+    number = other;
+    takes = begins;
+  }
+  from_any program size seed other budget _ _ _ one (makes x live accesses t ask before turn asks) =
+      let was = from_any program size seed other budget x live accesses one before in
+      record {
+        alone = was.alone;
+        number = drawn was.number;
+        takes = makes was.number live accesses t ask was.takes (same_turn (drawn x) (drawn was.number) t live was.alone turn).0 asks;
+      }
+  from_any program size seed other budget _ _ _ one (stops x live accesses t stop steps output before turn ends) =
+      let was = from_any program size seed other budget x live accesses one before in
+      let same = same_turn (drawn x) (drawn was.number) t live was.alone turn in
+      record {
+        alone = alone_without t live was.alone same.1;
+        number = drawn was.number;
+        takes = stops was.number live accesses t stop steps output was.takes same.0 ends;
+      }
 
-pub any_seed : (program : Program) (size : Numbers) (seed other budget : ℕ) (accesses : List Access) → size.threads ≡ 1
-    → IsTrace program size seed budget accesses → IsTrace program size other budget accesses
-any_seed program size seed other budget accesses one trace =
-    let all = from_any program size seed other budget trace.0 [] accesses one trace.1 in
-    (all.number, all.takes)
+  pub any_seed : (program : Program) (size : Numbers) (seed other budget : ℕ) (accesses : List Access) → size.threads ≡ 1
+      → IsTrace set program size seed budget accesses → IsTrace set program size other budget accesses
+  any_seed program size seed other budget accesses one trace =
+      let all = from_any program size seed other budget trace.0 [] accesses one trace.1 in
+      (all.number, all.takes)

@@ -4,7 +4,7 @@ use Rattle.guest_calls.specs.Run.{Pair, Ends}
 use Rattle.guest_thread.specs.Ports.{EndsBy}
 use Rattle.guest_core.specs.Ports.{Leads, goes, refused, stays}
 use Rattle.guest_machine.specs.Served.{IsServed, IsServedBy}
-use Rattle.guest_machine.specs.Alone.{IsAlone}
+use Rattle.guest_machine.specs.Alone.{IsAlone, FailsUnmarked, AllFailUnmarked, IsEndAlone}
 use Rattle.llsc_base.specs.Images.{Program}
 use Rattle.llsc_base.specs.Memory.{row_of}
 use Rattle.history.specs.ArmLegal.{MayAccess}
@@ -18,13 +18,12 @@ use Rattle.history.proofs.Appends.{monitor_after-push, IsArmLegal-push}
 use Rattle.llsc_base.specs.declared.outside.Ask.{Ask}
 use Rattle.llsc_base.specs.declared.outside.Ask.TheVariants.{Load, LoadEx, Store, StoreEx, Clear}
 use Rattle.llsc_base.specs.declared.outside.Stop.{Stop}
-use Rattle.a32_step.specs.Machine.{Machine}
+use Rattle.guest_core.specs.Machine.{MachineOf, InstructionSet}
 use Rattle.guest_calls.specs.Pairs.{pairs_of, reply_of}
 use Rattle.guest_thread.proofs.Pushed.{thread_is}
 use Rattle.history.specs.Accesses.{entry_of, entry_by}
-use Rattle.guest_thread.specs.ThreadState.{ThreadState}
+use Rattle.guest_thread.specs.ThreadState.{ThreadOf}
 use Rattle.guest_thread.specs.Accesses.{access_by}
-use Rattle.guest_machine.specs.Alone.{FailsUnmarked, AllFailUnmarked, IsEndAlone}
 use Rattle.guest_thread.specs.Counting.{AreCounts, accesses_counted}
 use Rattle.guest_machine.specs.declared.alone.Alone.{Alone}
 use Rattle.guest_thread.proofs.Counted.{own_counted}
@@ -110,26 +109,27 @@ after_all granule bytes first _ _ begun (goes pairs between next ask reply leads
     after_access granule bytes pairs between next ask reply (after_all granule bytes first pairs between begun leads) served
 after_all granule bytes first _ _ begun (refused pairs between next ask leads none) = absurd none
 
--- where no store is refused a thread ends by itself
-ended_by_itself : (program : Program) (budget : ℕ) (start : Machine) (pairs : List Pair) (stop : Stop) (steps : ℕ) (out : List ℕ)
-    → EndsBy (λ addr. ⊥) program budget start pairs stop steps out → Ends program budget start pairs stop steps out
-ended_by_itself program budget start pairs stop steps out (inl ends) = ends
-ended_by_itself program budget start pairs stop steps out (inr limit) = absurd limit.1.0
+module _ {I S : Type 0} (set : InstructionSet I S) where
+  -- where no store is refused a thread ends by itself
+  ended_by_itself : (program : Program) (budget : ℕ) (start : MachineOf I S) (pairs : List Pair) (stop : Stop) (steps : ℕ) (out : List ℕ)
+      → EndsBy set (λ addr. ⊥) program budget start pairs stop steps out → Ends set program budget start pairs stop steps out
+  ended_by_itself program budget start pairs stop steps out (inl ends) = ends
+  ended_by_itself program budget start pairs stop steps out (inr limit) = absurd limit.1.0
 
--- at the end
-pub end_of : (program : Program) (budget : ℕ) (start : Machine) (granule : ℕ) (bytes : List ℕ) (pairs : List Pair) (stop : Stop) (alone : Alone) (guest : ThreadState) (steps : ℕ) (out : List ℕ)
-    → steps ≡ guest.steps → out ≡ guest.output → IsMade granule bytes pairs alone → EndsBy (λ addr. ⊥) program budget start pairs stop guest.steps guest.output
-    → IsEndAlone program budget start granule bytes
-    (record { thread = 0; stop = stop; steps = steps; reads = alone.counts.reads; writes = alone.counts.writes; fails = alone.counts.fails; out = out })
-end_of program budget start granule bytes pairs stop alone guest steps out steps_are out_is made ends = record {
-  number = refl;
-  history = made.history;
-  alone = made.allowed;
-  end_in = record {
-    ends = subst (λ n. Ends program budget start (pairs_of 0 made.history) stop n out) (sym steps_are)
-        (subst (λ o. Ends program budget start (pairs_of 0 made.history) stop guest.steps o) (sym out_is)
-        (subst (λ p. Ends program budget start p stop guest.steps guest.output) made.pairs_are
-        (ended_by_itself program budget start pairs stop guest.steps guest.output ends)));
-    counts = made.counts;
-  };
-}
+  -- at the end
+  pub end_of : (program : Program) (budget : ℕ) (start : MachineOf I S) (granule : ℕ) (bytes : List ℕ) (pairs : List Pair) (stop : Stop) (alone : Alone) (guest : ThreadOf I S) (steps : ℕ) (out : List ℕ)
+      → steps ≡ guest.steps → out ≡ guest.output → IsMade granule bytes pairs alone → EndsBy set (λ addr. ⊥) program budget start pairs stop guest.steps guest.output
+      → IsEndAlone set program budget start granule bytes
+      (record { thread = 0; stop = stop; steps = steps; reads = alone.counts.reads; writes = alone.counts.writes; fails = alone.counts.fails; out = out })
+  end_of program budget start granule bytes pairs stop alone guest steps out steps_are out_is made ends = record {
+    number = refl;
+    history = made.history;
+    alone = made.allowed;
+    end_in = record {
+      ends = subst (λ n. Ends set program budget start (pairs_of 0 made.history) stop n out) (sym steps_are)
+          (subst (λ o. Ends set program budget start (pairs_of 0 made.history) stop guest.steps o) (sym out_is)
+          (subst (λ p. Ends set program budget start p stop guest.steps guest.output) made.pairs_are
+          (ended_by_itself program budget start pairs stop guest.steps guest.output ends)));
+      counts = made.counts;
+    };
+  }

@@ -7,7 +7,7 @@ use Rattle.history.specs.Monitor.{Monitor, accessed, at_rest_by, is_on, marked_r
 use Rattle.history.specs.ArmLegal.{IsArmLegal}
 use Rattle.history.specs.declared.entry.Entry.{Entry}
 use Rattle.history.specs.declared.entry.Entry.TheVariants as entry
-use Rattle.a32_step.specs.Machine.{Machine}
+use Rattle.guest_core.specs.Machine.{MachineOf, InstructionSet}
 use Rattle.guest_thread.specs.End.{IsEndIn}
 use Rattle.guest_thread.specs.Start.{thread_start}
 use Rattle.guest_thread.specs.declared.ends.GuestEnd.{GuestEnd}
@@ -27,13 +27,14 @@ pub record IsAlone (granule : ℕ) (bytes : List ℕ) (history : List Entry) : T
   pub legal : IsArmLegal (at_rest_by granule bytes 1) history
   pub decided : AllFailUnmarked (at_rest_by granule bytes 1) history
 
--- the end of a thread alone: that of thread 0 in such a history
-pub record IsEndAlone (program : Program) (budget : ℕ) (start : Machine) (granule : ℕ) (bytes : List ℕ) (end : GuestEnd) : Type 0 where
-  pub number : end.thread ≡ 0
-  pub history : List Entry
-  pub alone : IsAlone granule bytes history
-  pub end_in : IsEndIn program budget start history end
+module _ {I S : Type 0} (set : InstructionSet I S) where
+  -- the end of a thread alone: that of thread 0 in such a history
+  pub record IsEndAlone (program : Program) (budget : ℕ) (start : MachineOf I S) (granule : ℕ) (bytes : List ℕ) (end : GuestEnd) : Type 0 where
+    pub number : end.thread ≡ 0
+    pub history : List Entry
+    pub alone : IsAlone granule bytes history
+    pub end_in : IsEndIn set program budget start history end
 
--- the machine has one thread, and the end is that of the program's, on a memory that begins as the program's bytes
-abbrev pub IsSoloEnd : Program → Numbers → ℕ → GuestEnd → Type 0
-IsSoloEnd program size budget end = (size.threads ≡ 1) × IsEndAlone program budget (thread_start program size size.threads 0) size.granule program.bytes end
+  -- the machine has one thread, and the end is that of the program's, on a memory that begins as the program's bytes
+  abbrev pub IsSoloEnd : Program → Numbers → ℕ → GuestEnd → Type 0
+  IsSoloEnd program size budget end = (size.threads ≡ 1) × IsEndAlone program budget (thread_start set program size size.threads 0) size.granule program.bytes end

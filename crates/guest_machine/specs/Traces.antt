@@ -11,14 +11,16 @@ use Rattle.run_record.specs.declared.records.RunRecord.{RunRecord}
 use Rattle.guest_machine.specs.Turns.{IsTrace}
 use Rattle.guest_machine.specs.declared.traces.TraceFault.{TraceFault}
 use Rattle.guest_machine.specs.declared.traces.TraceFault.TheVariants as fault
+use Rattle.guest_core.specs.Machine.{InstructionSet}
 
--- the record of a trace: the machine's threads, its granule, the budget, and the accesses
-pub record IsTraceRecord (program : Program) (size : Numbers) (seed budget : ℕ) (run : RunRecord) : Type 0 where
-  pub threads : run.threads ≡ size.threads
-  pub budget_is : run.budget ≡ budget
-  pub granule_is : run.granule ≡ size.granule
-  pub trace : IsTrace program size seed budget run.accesses
-  pub sound : IsRecord run
+module _ {I S : Type 0} (set : InstructionSet I S) where
+  -- the record of a trace: the machine's threads, its granule, the budget, and the accesses
+  pub record IsTraceRecord (program : Program) (size : Numbers) (seed budget : ℕ) (run : RunRecord) : Type 0 where
+    pub threads : run.threads ≡ size.threads
+    pub budget_is : run.budget ≡ budget
+    pub granule_is : run.granule ≡ size.granule
+    pub trace : IsTrace set program size seed budget run.accesses
+    pub sound : IsRecord run
 
 -- Arm allows these accesses to the program's memory
 abbrev pub IsLegalTrace : Program → Numbers → List Access → Type 0

@@ -1,12 +1,11 @@
 //! A run of one thread.
-ghost use Rattle.std.specs.Prelude.{◌≡◌, ◌≤◌, ℕ, IfOk, length};
+ghost use Rattle.std.specs.Prelude.{◌≡◌, ◌≤◌, IfOk, length};
 ghost use Rattle.llsc_base.specs.Limits.{most_budget};
 ghost use Rattle.guest_machine.specs.Alone.{IsSoloEnd};
 
 use crate::serving::serve;
 use llsc_base::{Ask, Image, MachineSize};
-use guest_core::{Code, Port};
-use a32_step::Cpu;
+use guest_core::{Code, Core, Port};
 use guest_calls::reply_of;
 use guest_thread::{Counts, Guest, GuestEnd};
 use history::PlainMemory;
@@ -51,7 +50,7 @@ impl Port for Alone {
 /// # Errors
 ///
 /// `AllocError` is want of memory.
-pub fn solo(
+pub fn solo<C: Core>(
     alloc: Global,
     image: &Image,
     size: &MachineSize,
@@ -60,11 +59,11 @@ pub fn solo(
     requires one_thread { size.now.threads ≡ 1 }
     requires whole { length image.now.bytes ≡ size.now.mem }
     requires budget { budget ≤ most_budget }
-    ensures { IfOk result (λ end. IsSoloEnd image.now size.now budget end) }
+    ensures { IfOk result (λ end. IsSoloEnd C.set image.now size.now budget end) }
 {
     let mem = size.mem();
     prove!(mem <= 16_777_216);
-    let mut guest = Guest::<Cpu>::start(alloc, image, size, 0)?;
+    let mut guest = Guest::<C>::start(alloc, image, size, 0)?;
     let mut alone = Alone {
         memory: PlainMemory::sized(alloc, image.bytes(), size)?,
         counts: Counts::none(),

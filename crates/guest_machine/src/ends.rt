@@ -3,14 +3,15 @@ ghost use Rattle.std.specs.Prelude.{◌≤◌, IfOk, IsSome, length};
 ghost use Rattle.guest_machine.specs.Seats.{AreEndsOfSeats, HaveStopped, IsEndOfSeat};
 
 use crate::seats::Seat;
+use guest_core::Core;
 use guest_thread::{GuestEnd, counts_of};
 use history::Access;
 use std::alloc::{AllocError, Global};
 
 /// The ends of all threads, which have stopped and made these accesses, in order of number.
-pub(crate) fn ends_of(
+pub(crate) fn ends_of<C: Core>(
     alloc: Global,
-    mut seats: Vec<Seat>,
+    mut seats: Vec<Seat<C>>,
     accesses: &[Access],
 ) -> Result<Vec<GuestEnd>, AllocError>
     requires stopped { HaveStopped seats.items }
@@ -25,8 +26,8 @@ pub(crate) fn ends_of(
 }
 
 /// The end of a thread that has stopped.
-fn end_of(seat: Seat, thread: u32, accesses: &[Access]) -> GuestEnd
-    requires { IsSome seat.stop }
+fn end_of<C: Core>(seat: Seat<C>, thread: u32, accesses: &[Access]) -> GuestEnd
+    requires stopped { IsSome seat.stop }
     ensures { IsEndOfSeat accesses.now thread seat result }
 {
     let counts = counts_of(accesses, thread);

@@ -15,7 +15,6 @@ mod alone;
 mod drawing;
 mod ends;
 pub mod laws;
-mod runs;
 mod seats;
 mod serving;
 mod traces;
@@ -24,6 +23,5 @@ pub mod worked;
 pub mod worked_alone;
 
 pub use alone::solo;
-pub use guest_thread::{Crew, Job, Ran, prepare};
-pub use runs::run_all;
+pub use guest_thread::{Crew, Job, Ran, prepare, run_all};
 pub use traces::{TraceFault, Traced, trace};

@@ -8,6 +8,7 @@ ghost use Rattle.guest_machine.specs.Turns.{IsTooLong};
 
 use crate::ends::ends_of;
 use crate::turns::{Plan, Turns};
+use guest_core::Core;
 use guest_thread::GuestEnd;
 use llsc_base::{Image, MachineSize};
 use run_record::{Accesses, RunRecord};
@@ -55,7 +56,7 @@ impl TraceFault {
 ///
 /// [`TraceFault::TooLong`] only where the run has more than 1,000,000 accesses, and [`TraceFault::Memory`] is want of
 /// memory. Such a run has no trace: it is answered by one of the two.
-pub fn trace(
+pub fn trace<C: Core>(
     alloc: Global,
     image: &Image,
     size: &MachineSize,
@@ -65,10 +66,10 @@ pub fn trace(
     requires whole { length image.now.bytes ≡ size.now.mem }
     requires some { 1 ≤ budget }
     requires budget { budget ≤ most_budget }
-    ensures run { IfOk result (λ traced. IsTraceRecord image.now size.now seed budget traced.run) }
-    ensures ends { IfOk result (λ traced. AreEnds image.now size.now budget (history_of traced.run.accesses) traced.ends.items) }
+    ensures run { IfOk result (λ traced. IsTraceRecord C.set image.now size.now seed budget traced.run) }
+    ensures ends { IfOk result (λ traced. AreEnds C.set image.now size.now budget (history_of traced.run.accesses) traced.ends.items) }
     ensures legal { IfOk result (λ traced. IsLegalTrace image.now size.now traced.run.accesses) }
-    ensures fault { IfErr result (λ fault. ((fault ≡ TraceFault.TooLong) × IsTooLong image.now size.now seed budget)
+    ensures fault { IfErr result (λ fault. ((fault ≡ TraceFault.TooLong) × IsTooLong C.set image.now size.now seed budget)
         ⊎ (fault ≡ TraceFault.Memory)) }
 {
     let threads = size.threads();
@@ -78,7 +79,7 @@ pub fn trace(
         seed,
         budget,
     };
-    let Ok(mut turns) = Turns::new(alloc, &plan) else {
+    let Ok(mut turns) = Turns::<C>::new(alloc, &plan) else {
         return Err(TraceFault::Memory);
     };
     turns.run(&plan)?;

@@ -2,7 +2,6 @@
 ghost use Rattle.std.specs.Prelude.{◌≡◌, ◌⊎◌, ◌<◌, ◌≤◌, [], IfErr, IfOk, length};
 ghost use Rattle.guest_machine.specs.Seats.{AreUnderWay, left_of};
 ghost use Rattle.llsc_base.specs.Limits.{most_budget};
-ghost use Rattle.guest_thread.specs.Ends.{AreEnds};
 ghost use Rattle.guest_machine.specs.Turns.{IsTooLong};
 
 use crate::drawing::{drawn, take_out, turn_of};
@@ -10,6 +9,7 @@ use crate::seats::{Seat, numbers, seats};
 use crate::serving::serve;
 use crate::traces::TraceFault;
 use guest_calls::reply_of;
+use guest_core::Core;
 use guest_thread::Turn;
 use history::{Access, PlainMemory};
 use llsc_base::{Image, MachineSize};
@@ -28,20 +28,20 @@ pub(crate) struct Plan<'a> {
 /// The threads so far: the last number that was drawn, the threads that have not stopped, all threads in order of
 /// number, memory, and the accesses.
 #[derive(Drop)]
-pub(crate) struct Turns {
+pub(crate) struct Turns<C: Core> {
     number: u64,
     live: Vec<u32>,
-    pub(crate) seats: Vec<Seat>,
+    pub(crate) seats: Vec<Seat<C>>,
     memory: PlainMemory,
     pub(crate) accesses: Vec<Access>,
 }
 
-impl Turns {
+impl<C: Core> Turns<C> {
     /// Before the first turn.
-    pub(crate) fn new(alloc: Global, plan: &Plan) -> Result<Turns, AllocError>
+    pub(crate) fn new(alloc: Global, plan: &Plan) -> Result<Turns<C>, AllocError>
         requires whole { length plan.now.image.now.bytes ≡ plan.now.size.now.mem }
         ensures small { length plan.now.image.now.bytes ≤ 16777216 }
-        ensures under_way { IfOk result (λ turns. AreUnderWay plan.now.image.now plan.now.size.now plan.now.seed plan.now.budget turns) }
+        ensures under_way { IfOk result (λ turns. AreUnderWay C.set C.machine plan.now.image.now plan.now.size.now plan.now.seed plan.now.budget turns) }
     {
         let (threads, mem) = (plan.size.threads(), plan.size.mem());
         prove!(mem <= 16_777_216);
@@ -56,13 +56,13 @@ impl Turns {
 
     /// One turn: its thread makes one access, or stops.
     fn turn(&mut self, plan: &Plan) -> Result<(), TraceFault>
-        requires under_way { AreUnderWay plan.now.image.now plan.now.size.now plan.now.seed plan.now.budget self.old }
+        requires under_way { AreUnderWay C.set C.machine plan.now.image.now plan.now.size.now plan.now.seed plan.now.budget self.old }
         requires some { 1 ≤ length self.old.live.items }
         requires small { length plan.now.image.now.bytes ≤ 16777216 }
         requires budget { plan.now.budget ≤ most_budget }
-        ensures goes_on { IfOk result (λ _. AreUnderWay plan.now.image.now plan.now.size.now plan.now.seed plan.now.budget self.new) }
+        ensures goes_on { IfOk result (λ _. AreUnderWay C.set C.machine plan.now.image.now plan.now.size.now plan.now.seed plan.now.budget self.new) }
         ensures nearer { IfOk result (λ _. left_of self.new < left_of self.old) }
-        ensures fault { IfErr result (λ fault. ((fault ≡ TraceFault.TooLong) × IsTooLong plan.now.image.now plan.now.size.now plan.now.seed plan.now.budget)
+        ensures fault { IfErr result (λ fault. ((fault ≡ TraceFault.TooLong) × IsTooLong C.set plan.now.image.now plan.now.size.now plan.now.seed plan.now.budget)
             ⊎ (fault ≡ TraceFault.Memory)) }
     {
         self.number = drawn(self.number);
@@ -90,11 +90,11 @@ impl Turns {
 
     /// All turns, up to the last thread's stop.
     pub(crate) fn run(&mut self, plan: &Plan) -> Result<(), TraceFault>
-        requires under_way { AreUnderWay plan.now.image.now plan.now.size.now plan.now.seed plan.now.budget self.old }
+        requires under_way { AreUnderWay C.set C.machine plan.now.image.now plan.now.size.now plan.now.seed plan.now.budget self.old }
         requires small { length plan.now.image.now.bytes ≤ 16777216 }
         requires budget { plan.now.budget ≤ most_budget }
-        ensures over { IfOk result (λ _. AreUnderWay plan.now.image.now plan.now.size.now plan.now.seed plan.now.budget self.new × (self.new.live.items ≡ [])) }
-        ensures fault { IfErr result (λ fault. ((fault ≡ TraceFault.TooLong) × IsTooLong plan.now.image.now plan.now.size.now plan.now.seed plan.now.budget)
+        ensures over { IfOk result (λ _. AreUnderWay C.set C.machine plan.now.image.now plan.now.size.now plan.now.seed plan.now.budget self.new × (self.new.live.items ≡ [])) }
+        ensures fault { IfErr result (λ fault. ((fault ≡ TraceFault.TooLong) × IsTooLong C.set plan.now.image.now plan.now.size.now plan.now.seed plan.now.budget)
             ⊎ (fault ≡ TraceFault.Memory)) }
     {
         while !self.live.is_empty() {

@@ -1,10 +1,9 @@
-//! Worked histories and ends of a thread alone, in a small memory of zeros or on a small program.
+//! Worked histories of a thread alone, in a small memory of zeros.
 ghost use Rattle.std.specs.Prelude.{◌∷◌, [], true, false};
 ghost use Rattle.history.specs.Worked.{beside, next_row, word};
-ghost use Rattle.guest_machine.specs.Alone.{AllFailUnmarked, FailsUnmarked, IsAlone, IsSoloEnd};
-ghost use Rattle.guest_machine.specs.Worked.{first_word, leaving, loading, lone_after, silent_end, small_machine, zeros};
+ghost use Rattle.guest_machine.specs.Alone.{AllFailUnmarked, FailsUnmarked, IsAlone};
+ghost use Rattle.guest_machine.specs.Worked.{first_word, lone_after, zeros};
 
-use llsc_base::Stop;
 use history::{Cause, Entry};
 
 /// A store-exclusive fails unmarked where its thread has no mark or one on another row, whose width is by the granule.
@@ -33,20 +32,4 @@ pub fn histories_of_a_thread_alone()
     ensures stored_unmarked { ¬ IsAlone 0 zeros (Entry.Write 0 word 9 true ∷ []) }
     ensures another_value { ¬ IsAlone 0 zeros (Entry.Read 0 word 5 false ∷ []) }
     ensures of_another { ¬ IsAlone 0 zeros (Entry.Read 1 word 0 false ∷ []) }
-{}
-
-/// A thread alone ends as thread 0 of a machine that has one: where it leaves, behind a load too, or where its steps are spent.
-pub fn ends_of_a_thread_alone()
-    ensures at_once { IsSoloEnd leaving (small_machine 1) 10 (silent_end 0 (Stop.Exit 0) 2 0) }
-    ensures behind_a_load { IsSoloEnd loading (small_machine 1) 10 (silent_end 0 (Stop.Exit 0) 3 1) }
-    ensures spent { IsSoloEnd leaving (small_machine 1) 1 (silent_end 0 Stop.Budget 1 0) }
-{}
-
-/// It has no other end: no other number, stop or steps, no load that it didn't make, and none on a machine of two threads.
-pub fn ends_that_are_another_threads()
-    ensures another_number { ¬ IsSoloEnd leaving (small_machine 1) 10 (silent_end 1 (Stop.Exit 0) 2 0) }
-    ensures another_code { ¬ IsSoloEnd leaving (small_machine 1) 10 (silent_end 0 (Stop.Exit 1) 2 0) }
-    ensures another_step { ¬ IsSoloEnd leaving (small_machine 1) 10 (silent_end 0 (Stop.Exit 0) 3 0) }
-    ensures no_load { ¬ IsSoloEnd loading (small_machine 1) 10 (silent_end 0 (Stop.Exit 0) 3 0) }
-    ensures of_two { ¬ IsSoloEnd leaving (small_machine 2) 10 (silent_end 0 (Stop.Exit 0) 2 0) }
 {}

@@ -11,12 +11,12 @@ use Rattle.guest_core.specs.Phase.{PhaseOf, Between, Inside, Awaiting, Calling, 
 use Rattle.guest_core.specs.Passages.{ComesOf, starts, replied, EndsAtOf, IsCarriedOnOf}
 use Rattle.guest_core.specs.Ports.{Leads, goes, refused, stays}
 use Rattle.guest_core.proofs.Follows.{follows_of}
-use Rattle.guest_calls.specs.Run.{Pair, ReachesByOf, accesses, steps_on, PointOf}
+use Rattle.guest_calls.specs.Run.{Pair, ReachesBy, accesses, steps_on, PointOf}
 use Rattle.guest_calls.specs.Calls.{most_output}
 use Rattle.guest_calls.proofs.FewAccesses.{given_one}
 use Rattle.guest_thread.specs.Ports.{IsAtRest, IsRunning}
 use Rattle.guest_thread.specs.ThreadState.{ThreadOf, IsReadyBy}
-use Rattle.guest_thread.specs.Under.{HasComeFromOf}
+use Rattle.guest_thread.specs.Under.{HasComeFrom}
 use Rattle.guest_thread.proofs.Reached.{come_by, reached_at, reached_by}
 
 -- ---- how many accesses a port counts
@@ -40,12 +40,12 @@ module _ {I S : Type 0} (set : InstructionSet I S) where
   -- ---- how far its run has come
 
   pub come_on : (stocked : Bool) (program : Program) (budget : ℕ) (point : PointOf I S) (old : MachineOf I S) (before : List Pair) (steps : ℕ) (output : List ℕ) (pairs : List Pair) (machine : MachineOf I S)
-      → ReachesByOf set stocked program budget point before old steps output → steps < budget → ComesOf set program old pairs machine
-      → ReachesByOf set stocked program budget point (before ++ pairs) machine steps output
+      → ReachesBy set stocked program budget point before old steps output → steps < budget → ComesOf set program old pairs machine
+      → ReachesBy set stocked program budget point (before ++ pairs) machine steps output
   come_on stocked program budget point old before steps output _ _ reached within starts =
-      subst (λ all. ReachesByOf set stocked program budget point all old steps output) (sym (append-nil before)) reached
+      subst (λ all. ReachesBy set stocked program budget point all old steps output) (sym (append-nil before)) reached
   come_on stocked program budget point old before steps output _ _ reached within (replied pairs machine ask reply comes asked) =
-      subst (λ all. ReachesByOf set stocked program budget point all (given (after_of set program machine) reply) steps output) (append_assoc before pairs ((ask, reply) ∷ []))
+      subst (λ all. ReachesBy set stocked program budget point all (given (after_of set program machine) reply) steps output) (append_assoc before pairs ((ask, reply) ∷ []))
       (accesses (before ++ pairs) machine steps output ask reply (come_on stocked program budget point old before steps output pairs machine reached within comes) within asked)
 
   -- ---- how many accesses it made
@@ -106,7 +106,7 @@ module _ {I S : Type 0} (set : InstructionSet I S) where
       (rest : IsAtRest old) (within : old.steps < budget) (same : new.output ≡ old.output) (still : new.printing ≡ None) where
     -- it was complete
     pub after_one : IsCarriedOnOf set replies program old.cpu from Complete new.cpu to → new.steps ≡ old.steps + 1 → (stocked : Bool) (point : PointOf I S) (before : List Pair)
-        → HasComeFromOf set stocked program budget point before old → (pairs : List Pair) × (Leads replies from pairs to × HasComeFromOf set stocked program budget point (before ++ pairs) new)
+        → HasComeFrom set stocked program budget point before old → (pairs : List Pair) × (Leads replies from pairs to × HasComeFrom set stocked program budget point (before ++ pairs) new)
     after_one carried more stocked point before come =
         let reached = come_on stocked program budget point old.cpu before old.steps old.output carried.pairs carried.machine (reached_by set stocked program budget point before old rest.printing come) within carried.comes in (
           carried.pairs,
@@ -120,8 +120,8 @@ module _ {I S : Type 0} (set : InstructionSet I S) where
 
     -- it wasn't
     pub after_part : (machine : MachineOf I S) (pairs : List Pair) → Leads replies from pairs to → ComesOf set program old.cpu pairs machine → new.cpu ≡ machine → new.steps ≡ old.steps
-        → (stocked : Bool) (point : PointOf I S) (before : List Pair) → HasComeFromOf set stocked program budget point before old
-        → (pairs : List Pair) × (Leads replies from pairs to × HasComeFromOf set stocked program budget point (before ++ pairs) new)
+        → (stocked : Bool) (point : PointOf I S) (before : List Pair) → HasComeFrom set stocked program budget point before old
+        → (pairs : List Pair) × (Leads replies from pairs to × HasComeFrom set stocked program budget point (before ++ pairs) new)
     after_part machine pairs leads comes is steps stocked point before come = (
       pairs,
       (

@@ -16,10 +16,10 @@ use Rattle.shared_memory.specs.Origin.{Origin}
 use Rattle.shared_memory.specs.Seen.{IsFront, IsOneOf, SaysAllOf, joint}
 use Rattle.guest_core.specs.Machine.{MachineOf, InstructionSet}
 use Rattle.guest_calls.specs.Pairs.{pair_of}
-use Rattle.guest_calls.specs.Run.{EndsOnOf}
+use Rattle.guest_calls.specs.Run.{EndsOn}
 use Rattle.guest_thread.specs.Counts.{reads_of, writes_of, fails_of}
-use Rattle.guest_thread.specs.Outcome.{AreEndsOnOf, IsEndOnOf, IsSpent}
-use Rattle.guest_thread.specs.Start.{thread_start_of}
+use Rattle.guest_thread.specs.Outcome.{AreEndsOn, IsEndOn, IsSpent}
+use Rattle.guest_thread.specs.Start.{thread_start}
 use Rattle.guest_thread.specs.declared.ends.GuestEnd.{GuestEnd}
 use Rattle.guest_thread.specs.Crews.{AreEndsOf, AreFresh, AreTaken, HaveEnded, IsEndOf, IsFresh, threads_of}
 use Rattle.guest_thread.specs.declared.crews.Job.{Job}
@@ -68,9 +68,9 @@ module _ {I S : Type 0} (set : InstructionSet I S) where
   -- ---- an end in a history that begins a longer one, which has no more of its thread
 
   end_later : (program : Program) (size : Numbers) (budget : ℕ) (start : MachineOf I S) (old new : List Entry) (end : GuestEnd) → IsFront old new
-      → entries_of end.thread new ≡ entries_of end.thread old → IsEndOnOf set program size budget start old end → IsEndOnOf set program size budget start new end
+      → entries_of end.thread new ≡ entries_of end.thread old → IsEndOn set program size budget start old end → IsEndOn set program size budget start new end
   end_later program size budget start old new end front same is = record {
-    ends = subst (λ p. EndsOnOf set program budget start p end.stop end.steps end.out) (ap (λ l. map pair_of (accesses_of l)) (sym same)) is.ends;
+    ends = subst (λ p. EndsOn set program budget start p end.stop end.steps end.out) (ap (λ l. map pair_of (accesses_of l)) (sym same)) is.ends;
     spent = λ addr stop. spent_later size old new addr front (is.spent addr stop);
     counts = record {
       reads = is.counts.reads ∙ ap reads_of (sym same);
@@ -83,7 +83,7 @@ module _ {I S : Type 0} (set : InstructionSet I S) where
       → entries_of t new ≡ entries_of t old → IsEndOf set program origin budget old t end → IsEndOf set program origin budget new t end
   ended_later program origin budget old new t end front same is = record {
     thread = is.thread;
-    end_on = end_later program origin.size budget (thread_start_of set program origin.size origin.first t) old new end front
+    end_on = end_later program origin.size budget (thread_start set program origin.size origin.first t) old new end front
         (subst (λ u. entries_of u new ≡ entries_of u old) (sym is.thread) same) is.end_on;
     spends = is.spends;
     few = is.few;
@@ -167,7 +167,7 @@ module _ {I S : Type 0} (set : InstructionSet I S) where
 
   pub are_ends : (program : Program) (origin : Origin) (budget : ℕ) (history : List Entry) (ts : List ℕ) (ends : List GuestEnd)
       → origin.first ≡ origin.size.threads → ts ≡ range_with_len 0 origin.size.threads → AreEndsOf set program origin budget history ts ends
-      → AreEndsOnOf set program origin.size budget history ends
+      → AreEndsOn set program origin.size budget history ends
   are_ends program origin budget history ts ends begin is are =
       let all = subst (λ l. AreEndsOf set program origin budget history l ends) is are in
       let at : (t : ℕ) (end : GuestEnd) → slice_get ends t ≡ Some end → IsEndOf set program origin budget history t end =
@@ -176,7 +176,7 @@ module _ {I S : Type 0} (set : InstructionSet I S) where
         many = as_many program origin budget history 0 origin.size.threads ends all;
         numbers = λ t end got. (at t end got).thread;
         each = λ t end got.
-            subst (λ n. IsEndOnOf set program origin.size budget (thread_start_of set program origin.size n t) history end) begin (at t end got).end_on;
+            subst (λ n. IsEndOn set program origin.size budget (thread_start set program origin.size n t) history end) begin (at t end got).end_on;
       }
 
   -- what holds of each thread's end

@@ -16,14 +16,14 @@ use Rattle.guest_calls.specs.Pairs.{pair_of}
 use Rattle.guest_calls.proofs.FewAccesses.{few_accesses, steps_within}
 use Rattle.guest_thread.specs.Counting.{AreCounts, accesses_counted, counts_in}
 use Rattle.guest_thread.specs.Counts.{reads_in, writes_in, fails_in, reads_of, writes_of, fails_of}
-use Rattle.guest_thread.specs.Outcome.{IsEndOnOf}
+use Rattle.guest_thread.specs.Outcome.{IsEndOn}
 use Rattle.guest_thread.specs.declared.ends.GuestEnd.{GuestEnd}
 
 -- its accesses are those of its run
 pub few_in_history : {I S : Type 0} (set : InstructionSet I S)
     → ((program : Program) (machine : MachineOf I S) (asked : Ask) → GoesOnWith machine.phase machine.replies → next_of set program machine ≡ asks asked → length machine.replies < 16)
     → (program : Program) (size : Numbers) (budget : ℕ) (start : MachineOf I S) (history : List Entry) (end : GuestEnd) → start ≡ between start.state
-    → IsEndOnOf set program size budget start history end → length (accesses_of (entries_of end.thread history)) ≤ most_accesses_in end.steps
+    → IsEndOn set program size budget start history end → length (accesses_of (entries_of end.thread history)) ≤ most_accesses_in end.steps
 few_in_history set room program size budget start history end between_two is =
     subst (λ n. n ≤ most_accesses_in end.steps) (length-map (accesses_of (entries_of end.thread history)) pair_of)
     (few_accesses set room program budget start between_two _ end.stop end.steps end.out is.ends)
@@ -64,7 +64,7 @@ counted_within thread history end are =
 
 -- and so they are below 2 to the 45 together, however large the budget may be
 pub few_counted : {I S : Type 0} (set : InstructionSet I S) (program : Program) (size : Numbers) (budget : ℕ) (start : MachineOf I S) (history : List Entry) (end : GuestEnd) → budget ≤ most_budget
-    → IsEndOnOf set program size budget start history end → length (accesses_of (entries_of end.thread history)) ≤ most_accesses_in end.steps
+    → IsEndOn set program size budget start history end → length (accesses_of (entries_of end.thread history)) ≤ most_accesses_in end.steps
     → accesses_counted (counts_in end) < 2 ^ 45
 few_counted set program size budget start history end small is few =
     let counted = counted_within end.thread history end is.counts in

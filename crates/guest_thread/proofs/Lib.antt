@@ -13,10 +13,7 @@ pub mod Counted
 pub mod OneOutcome
 pub mod Finishing
 pub mod Shared
-pub mod SmallEnds
-pub mod SmallRuns
 pub mod Carried
-pub mod LeftRuns
 pub mod StockRun
 pub mod Crewed
 pub mod Prepared

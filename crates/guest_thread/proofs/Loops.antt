@@ -6,7 +6,7 @@ use Rattle.guest_calls.specs.Run.{Pair}
 use Rattle.guest_thread.specs.Progress.{IsBounded, HasKept}
 use Rattle.guest_thread.specs.ThreadState.{ThreadOf}
 use Rattle.guest_thread.specs.Turns.{IsAtTurn}
-use Rattle.guest_thread.specs.Under.{HasComeOf}
+use Rattle.guest_thread.specs.Under.{HasCome}
 
 module _ {I S : Type 0} (set : InstructionSet I S) where
   -- no write is under way, its core is ready, its steps are within the budget, and it has come as far as it had at first,
@@ -14,5 +14,5 @@ module _ {I S : Type 0} (set : InstructionSet I S) where
   pub record IsOnItsWay (program : Program) (budget : ℕ) (from standing : ThreadOf I S) : Type 0 where
     pub at_turn : IsAtTurn standing
     pub within : standing.steps ≤ budget
-    pub way : (start : MachineOf I S) (pairs : List Pair) → HasComeOf set program budget start pairs from → HasComeOf set program budget start pairs standing
+    pub way : (start : MachineOf I S) (pairs : List Pair) → HasCome set program budget start pairs from → HasCome set program budget start pairs standing
     pub kept : IsBounded from → HasKept from standing

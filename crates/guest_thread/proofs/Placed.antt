@@ -7,15 +7,14 @@ use Rattle.llsc_base.specs.declared.outside.Stop.{Stop}
 use Rattle.llsc_base.specs.declared.outside.Stop.TheVariants as stop
 use Rattle.llsc_base.specs.Effects.{asks, stops}
 use Rattle.guest_core.specs.Phase.{PhaseOf, Between, Inside, Awaiting, Calling, Stopped}
-use Rattle.a32_step.specs.Machine.{Machine, a32}
-use Rattle.guest_core.specs.Machine.{MachineOf, next_of, PassesTests, wanted_of, after_of, given_in, IsReady, IsAwaiting, InstructionSet, IsOwn, GoesOn}
+use Rattle.guest_core.specs.Sound.{AsksPass, StopsAreOwn}
+use Rattle.guest_core.specs.Machine.{MachineOf, wanted_of, after_of, given_in, IsReady, IsAwaiting, InstructionSet, IsOwn, GoesOn}
 use Rattle.guest_core.specs.declared.phases.Wanted.TheVariants as wanted
 use Rattle.guest_core.proofs.Follows.{follows_of}
-use Rattle.guest_calls.specs.Run.{Pair, PointOf, first_point, ReachesByOf, begins, accesses, steps_on, returns, prints, EndsFromOf, halts, leaves, spends, AsksFromOf, asks_access, asks_byte, Point, ReachesBy, EndsFrom, Ends, Asks}
+use Rattle.guest_calls.specs.Run.{Pair, PointOf, first_point, ReachesBy, begins, accesses, steps_on, returns, prints, EndsFrom, halts, leaves, spends, AsksFrom, asks_access, asks_byte, Ends, Asks}
 use Rattle.guest_calls.proofs.Written.{written_within}
 use Rattle.guest_core.specs.Ports.{IsPlaced}
 use Rattle.guest_core.proofs.Placed.{passed_placed}
-use Rattle.a32_step.proofs.Tested.{next_own, next_passes}
 
 -- ---- what a thread asks for
 
@@ -35,56 +34,46 @@ given_goes machine reply (Calling call) awaits = absurd awaits
 given_goes machine reply (Stopped why) awaits = absurd awaits
 
 module _ {I S : Type 0} (set : InstructionSet I S)
-    (passes : (program : Program) (machine : MachineOf I S) (asked : Ask) → GoesOn machine.phase → next_of set program machine ≡ asks asked → PassesTests program asked)
-    (own : (program : Program) (machine : MachineOf I S) (why : Stop) → GoesOn machine.phase → next_of set program machine ≡ stops why → IsOwn why) where
+    (passes : AsksPass set) (own : StopsAreOwn set) where
   module _ (stocked : Bool) (program : Program) (budget : ℕ) (point : PointOf I S) (first : GoesOn point.machine.phase) where
     -- a machine that a run reaches goes on
-    pub reached_goes_of : (pairs : List Pair) (machine : MachineOf I S) (steps : ℕ) (output : List ℕ) → ReachesByOf set stocked program budget point pairs machine steps output → GoesOn machine.phase
-    reached_goes_of _ _ _ _ begins = first
-    reached_goes_of _ _ _ _ (accesses pairs machine steps output asked reply reached less is) =
-        let ready = goes_ready machine.phase (reached_goes_of pairs machine steps output reached) in
+    pub reached_goes : (pairs : List Pair) (machine : MachineOf I S) (steps : ℕ) (output : List ℕ) → ReachesBy set stocked program budget point pairs machine steps output → GoesOn machine.phase
+    reached_goes _ _ _ _ begins = first
+    reached_goes _ _ _ _ (accesses pairs machine steps output asked reply reached less is) =
+        let ready = goes_ready machine.phase (reached_goes pairs machine steps output reached) in
         let follows = follows_of set program machine (wanted.Access asked) (after_of set program machine) ready (ap wanted_of (sym is)) refl in
         given_goes (after_of set program machine) reply (after_of set program machine).phase follows.0
-    reached_goes_of _ _ _ _ (steps_on pairs machine steps output state reached less is) =
-        let ready = goes_ready machine.phase (reached_goes_of pairs machine steps output reached) in
+    reached_goes _ _ _ _ (steps_on pairs machine steps output state reached less is) =
+        let ready = goes_ready machine.phase (reached_goes pairs machine steps output reached) in
         let follows = follows_of set program machine wanted.Done (after_of set program machine) ready (ap wanted_of (sym is)) refl in
         subst (λ (m : MachineOf I S). GoesOn m.phase) (sym follows) tt
-    reached_goes_of _ _ _ _ (returns pairs machine steps output call answer reached less is known plain) = tt
-    reached_goes_of _ _ _ _ (prints pairs machine steps output call from bytes reached less is known) = tt
+    reached_goes _ _ _ _ (returns pairs machine steps output call answer reached less is known plain) = tt
+    reached_goes _ _ _ _ (prints pairs machine steps output call from bytes reached less is known) = tt
 
     -- what it asks lies in memory
-    pub asks_placed_from_of : (pairs : List Pair) (asked : Ask) → AsksFromOf set stocked program budget point pairs asked → IsPlaced (length program.bytes) asked
-    asks_placed_from_of _ _ (asks_access pairs machine steps output asked reached less is) =
-        passed_placed program asked (passes program machine asked (reached_goes_of pairs machine steps output reached) is)
-    asks_placed_from_of _ _ (asks_byte pairs machine steps output call from count bytes reached less is known short) =
+    pub asks_placed_from : (pairs : List Pair) (asked : Ask) → AsksFrom set stocked program budget point pairs asked → IsPlaced (length program.bytes) asked
+    asks_placed_from _ _ (asks_access pairs machine steps output asked reached less is) =
+        passed_placed program asked (passes program machine asked (reached_goes pairs machine steps output reached) is)
+    asks_placed_from _ _ (asks_byte pairs machine steps output call from count bytes reached less is known short) =
         let inside : from + count ≤ length program.bytes = (written_within (set.call_of call) (length program.bytes) (length output) from count known).0 in
         (eq-eqb ((from + length bytes) % 1) 0 (omega arith), omega (arith, inside, short))
 
     -- its stop is an instruction's, the exit call, or the end of its steps
-    ends_own : (pairs : List Pair) (why : Stop) (steps : ℕ) (output : List ℕ) → EndsFromOf set stocked program budget point pairs why steps output → IsOwn why
+    ends_own : (pairs : List Pair) (why : Stop) (steps : ℕ) (output : List ℕ) → EndsFrom set stocked program budget point pairs why steps output → IsOwn why
     ends_own _ _ _ _ (halts pairs machine steps output why reached less is) =
-        own program machine why (reached_goes_of pairs machine steps output reached) is
+        own program machine why (reached_goes pairs machine steps output reached) is
     ends_own _ _ _ _ (leaves pairs machine steps output call code reached less is known) = tt
     ends_own _ _ _ _ (spends pairs machine output reached) = tt
 
     -- and no want of a tag
-    pub ends_untagged_from_of : (pairs : List Pair) (why : Stop) (steps : ℕ) (output : List ℕ) (addr : ℕ) → EndsFromOf set stocked program budget point pairs why steps output → why ≡ stop.TagLimit addr → ⊥
-    ends_untagged_from_of pairs why steps output addr ends same = subst IsOwn same (ends_own pairs why steps output ends)
+    pub ends_untagged_from : (pairs : List Pair) (why : Stop) (steps : ℕ) (output : List ℕ) (addr : ℕ) → EndsFrom set stocked program budget point pairs why steps output → why ≡ stop.TagLimit addr → ⊥
+    ends_untagged_from pairs why steps output addr ends same = subst IsOwn same (ends_own pairs why steps output ends)
 
--- ---- of A32
+  -- ---- from its start
 
-module _ (stocked : Bool) (program : Program) (budget : ℕ) (point : Point) (first : GoesOn point.machine.phase) where
-  pub reached_goes : (pairs : List Pair) (machine : Machine) (steps : ℕ) (output : List ℕ) → ReachesBy stocked program budget point pairs machine steps output → GoesOn machine.phase
-  reached_goes = reached_goes_of a32 next_passes next_own stocked program budget point first
+  module _ (program : Program) (budget : ℕ) (start : MachineOf I S) (first : GoesOn start.phase) where
+    pub asks_placed : (pairs : List Pair) (asked : Ask) → Asks set program budget start pairs asked → IsPlaced (length program.bytes) asked
+    asks_placed = asks_placed_from false program budget (first_point start) first
 
-  pub ends_untagged_from : (pairs : List Pair) (why : Stop) (steps : ℕ) (output : List ℕ) (addr : ℕ) → EndsFrom stocked program budget point pairs why steps output → why ≡ stop.TagLimit addr → ⊥
-  ends_untagged_from = ends_untagged_from_of a32 next_passes next_own stocked program budget point first
-
--- ---- from its start
-
-module _ (program : Program) (budget : ℕ) (start : Machine) (first : GoesOn start.phase) where
-  pub asks_placed : (pairs : List Pair) (asked : Ask) → Asks program budget start pairs asked → IsPlaced (length program.bytes) asked
-  asks_placed = asks_placed_from_of a32 next_passes next_own false program budget (first_point start) first
-
-  pub ends_untagged : (pairs : List Pair) (why : Stop) (steps : ℕ) (output : List ℕ) (addr : ℕ) → Ends program budget start pairs why steps output → why ≡ stop.TagLimit addr → ⊥
-  ends_untagged = ends_untagged_from false program budget (first_point start) first
+    pub ends_untagged : (pairs : List Pair) (why : Stop) (steps : ℕ) (output : List ℕ) (addr : ℕ) → Ends set program budget start pairs why steps output → why ≡ stop.TagLimit addr → ⊥
+    ends_untagged = ends_untagged_from false program budget (first_point start) first

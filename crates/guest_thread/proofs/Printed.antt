@@ -5,12 +5,12 @@ use Rattle.llsc_base.specs.Images.{Program}
 use Rattle.llsc_base.specs.declared.outside.Ask.{Ask}
 use Rattle.guest_core.specs.Machine.{after_of, InstructionSet, returned_of}
 use Rattle.guest_calls.specs.Calls.{writes_bytes}
-use Rattle.guest_calls.specs.Run.{Pair, byte_load, byte_loads, ReachesByOf, AsksFromOf, prints, asks_byte, PointOf}
+use Rattle.guest_calls.specs.Run.{Pair, byte_load, byte_loads, ReachesBy, AsksFrom, prints, asks_byte, PointOf}
 use Rattle.guest_thread.specs.declared.guests.Printing.{Printing}
 use Rattle.guest_thread.specs.declared.guests.Turn.TheVariants as turn
 use Rattle.guest_thread.specs.ThreadState.{ThreadOf}
-use Rattle.guest_thread.specs.Turns.{after_byte_of, after_front_byte, after_last_byte_of}
-use Rattle.guest_thread.specs.Under.{HasComeFromOf, HasComeByOf, IsPrintingFromOf, AwaitsFromOf, AwaitsByOf, ComesToFromOf}
+use Rattle.guest_thread.specs.Turns.{after_byte, after_front_byte, after_last_byte}
+use Rattle.guest_thread.specs.Under.{HasComeFrom, HasComeBy, IsPrintingFrom, AwaitsFrom, AwaitsBy, ComesToFrom}
 use Rattle.guest_thread.proofs.Reached.{reached_at}
 
 module _ {I S : Type 0} (set : InstructionSet I S) where
@@ -28,15 +28,15 @@ module _ {I S : Type 0} (set : InstructionSet I S) where
 
   -- it asks for its next byte
   pub asking_byte : (stocked : Bool) (program : Program) (budget : ℕ) (point : PointOf I S) (pairs : List Pair) (standing : ThreadOf I S) (printing : Printing)
-      → HasComeFromOf set stocked program budget point pairs standing → standing.printing ≡ Some printing
-      → ComesToFromOf set stocked program budget point pairs (turn.Asks (byte_load (printing.from + printing.loaded))) standing
+      → HasComeFrom set stocked program budget point pairs standing → standing.printing ≡ Some printing
+      → ComesToFrom set stocked program budget point pairs (turn.Asks (byte_load (printing.from + printing.loaded))) standing
   asking_byte stocked program budget point pairs standing printing come is =
-      let way : IsPrintingFromOf set stocked program budget point pairs standing printing = subst (λ p. HasComeByOf set stocked program budget point pairs standing p) is come in
+      let way : IsPrintingFrom set stocked program budget point pairs standing printing = subst (λ p. HasComeBy set stocked program budget point pairs standing p) is come in
       let less : length way.bytes < printing.len = subst (λ n. n < printing.len) (sym way.loaded) way.left in (
-        subst (λ l. AsksFromOf set stocked program budget point l (byte_load (printing.from + printing.loaded))) (sym way.pairs_are)
-            (subst (λ n. AsksFromOf set stocked program budget point (way.before ++ byte_loads printing.from way.bytes) (byte_load (printing.from + n))) way.loaded
+        subst (λ l. AsksFrom set stocked program budget point l (byte_load (printing.from + printing.loaded))) (sym way.pairs_are)
+            (subst (λ n. AsksFrom set stocked program budget point (way.before ++ byte_loads printing.from way.bytes) (byte_load (printing.from + n))) way.loaded
             (asks_byte way.before way.machine standing.steps way.output way.call printing.from printing.len way.bytes way.reached way.within way.called way.writes less)),
-        subst (λ p. AwaitsByOf set stocked program budget point pairs (byte_load (printing.from + printing.loaded)) standing p) (sym is) (way, refl),
+        subst (λ p. AwaitsBy set stocked program budget point pairs (byte_load (printing.from + printing.loaded)) standing p) (sym is) (way, refl),
       )
 
   -- its accesses with one more byte
@@ -51,8 +51,8 @@ module _ {I S : Type 0} (set : InstructionSet I S) where
 
   -- a byte that isn't the last one
   after_front : (stocked : Bool) (program : Program) (budget : ℕ) (point : PointOf I S) (pairs : List Pair) (ask : Ask) (byte : ℕ) (old : ThreadOf I S) (printing : Printing)
-      → IsPrintingFromOf set stocked program budget point pairs old printing → ask ≡ byte_load (printing.from + printing.loaded) → printing.loaded + 1 < printing.len
-      → HasComeFromOf set stocked program budget point (pairs ++ (ask, byte) ∷ []) (after_front_byte old printing byte)
+      → IsPrintingFrom set stocked program budget point pairs old printing → ask ≡ byte_load (printing.from + printing.loaded) → printing.loaded + 1 < printing.len
+      → HasComeFrom set stocked program budget point (pairs ++ (ask, byte) ∷ []) (after_front_byte old printing byte)
   after_front stocked program budget point pairs ask byte old printing way is less = record {
     before = way.before;
     machine = way.machine;
@@ -72,13 +72,13 @@ module _ {I S : Type 0} (set : InstructionSet I S) where
 
   -- the last byte
   after_last : (stocked : Bool) (program : Program) (budget : ℕ) (point : PointOf I S) (pairs : List Pair) (ask : Ask) (byte : ℕ) (old : ThreadOf I S) (printing : Printing)
-      → IsPrintingFromOf set stocked program budget point pairs old printing → ask ≡ byte_load (printing.from + printing.loaded) → printing.loaded + 1 ≡ printing.len
-      → HasComeFromOf set stocked program budget point (pairs ++ (ask, byte) ∷ []) (after_last_byte_of set old printing byte)
+      → IsPrintingFrom set stocked program budget point pairs old printing → ask ≡ byte_load (printing.from + printing.loaded) → printing.loaded + 1 ≡ printing.len
+      → HasComeFrom set stocked program budget point (pairs ++ (ask, byte) ∷ []) (after_last_byte set old printing byte)
   after_last stocked program budget point pairs ask byte old printing way is last =
       let bytes : List ℕ = way.bytes ++ byte ∷ [] in
       let number : length bytes ≡ printing.len = length-more way.bytes byte ∙ ap (λ n. n + 1) way.loaded ∙ last in
       let more = pairs_more way.before pairs printing.from printing.loaded way.bytes ask byte way.pairs_are way.loaded is in
-      subst (λ l. ReachesByOf set stocked program budget point l (returned_of set old.cpu printing.len) (old.steps + 1) (old.output ++ byte ∷ [])) (sym more)
+      subst (λ l. ReachesBy set stocked program budget point l (returned_of set old.cpu printing.len) (old.steps + 1) (old.output ++ byte ∷ [])) (sym more)
       (reached_at set stocked program budget point (returned_of set old.cpu printing.len) (returned_of set (after_of set program way.machine) (length bytes))
       (way.before ++ byte_loads printing.from bytes) (old.steps + 1) (old.steps + 1) (old.output ++ byte ∷ []) (way.output ++ bytes)
       (ap (λ m. returned_of set m printing.len) way.cpu ∙ ap (returned_of set (after_of set program way.machine)) (sym number)) refl
@@ -88,8 +88,8 @@ module _ {I S : Type 0} (set : InstructionSet I S) where
 
   -- either
   after_either : (stocked : Bool) (program : Program) (budget : ℕ) (point : PointOf I S) (pairs : List Pair) (ask : Ask) (byte : ℕ) (old : ThreadOf I S) (printing : Printing) (b : Bool)
-      → IsPrintingFromOf set stocked program budget point pairs old printing → ask ≡ byte_load (printing.from + printing.loaded) → nat_lt (printing.loaded + 1) printing.len ≡ b
-      → HasComeFromOf set stocked program budget point (pairs ++ (ask, byte) ∷ []) (if b then after_front_byte old printing byte else after_last_byte_of set old printing byte)
+      → IsPrintingFrom set stocked program budget point pairs old printing → ask ≡ byte_load (printing.from + printing.loaded) → nat_lt (printing.loaded + 1) printing.len ≡ b
+      → HasComeFrom set stocked program budget point (pairs ++ (ask, byte) ∷ []) (if b then after_front_byte old printing byte else after_last_byte set old printing byte)
   after_either stocked program budget point pairs ask byte old printing true way is test =
       after_front stocked program budget point pairs ask byte old printing way is (grind (arith, nat_tests, test))
   after_either stocked program budget point pairs ask byte old printing false way is test =
@@ -98,9 +98,9 @@ module _ {I S : Type 0} (set : InstructionSet I S) where
 
   -- a thread after the reply to the load of a byte
   pub after_byte_reply : (stocked : Bool) (program : Program) (budget : ℕ) (point : PointOf I S) (pairs : List Pair) (ask : Ask) (byte : ℕ) (old new : ThreadOf I S) (printing : Printing)
-      → AwaitsFromOf set stocked program budget point pairs ask old → old.printing ≡ Some printing → new ≡ after_byte_of set old printing byte
-      → HasComeFromOf set stocked program budget point (pairs ++ (ask, byte) ∷ []) new
+      → AwaitsFrom set stocked program budget point pairs ask old → old.printing ≡ Some printing → new ≡ after_byte set old printing byte
+      → HasComeFrom set stocked program budget point (pairs ++ (ask, byte) ∷ []) new
   after_byte_reply stocked program budget point pairs ask byte old new printing awaits some is =
-      let awaited = subst (λ p. AwaitsByOf set stocked program budget point pairs ask old p) some awaits in
-      subst (λ s. HasComeFromOf set stocked program budget point (pairs ++ (ask, byte) ∷ []) s) (sym is)
+      let awaited = subst (λ p. AwaitsBy set stocked program budget point pairs ask old p) some awaits in
+      subst (λ s. HasComeFrom set stocked program budget point (pairs ++ (ask, byte) ∷ []) s) (sym is)
       (after_either stocked program budget point pairs ask byte old printing (nat_lt (printing.loaded + 1) printing.len) awaited.0 awaited.1 refl)

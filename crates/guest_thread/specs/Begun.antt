@@ -8,7 +8,7 @@ use Rattle.history.specs.Started.{child_of}
 use Rattle.history.specs.Starts.{starts_in}
 use Rattle.history.specs.declared.entry.Entry.{Entry}
 use Rattle.history.specs.declared.entry.Entry.TheVariants.{Start}
-use Rattle.a32_step.specs.Machine.{Machine, start_of}
+use Rattle.guest_core.specs.Machine.{MachineOf, InstructionSet, start_in}
 use Rattle.guest_thread.specs.Start.{thread_start}
 use Rattle.guest_thread.specs.StockRun.{Stock}
 
@@ -20,16 +20,17 @@ children_of thread history = map (λ started. started.child) (starts_in thread h
 abbrev pub begun_in : (first : ℕ) → List Entry → List ℕ
 begun_in first history = range_with_len 0 first ++ flat_map (λ thread. children_of thread history) (range_with_len 0 first)
 
--- where a started thread begins: at the address of its start, with the argument in r0 and its number in r1; its stack is that of its
--- number, as that of the first is
-abbrev pub child_start : Numbers → (child entry arg : ℕ) → Machine
-child_start size child entry arg = start_of entry arg child (room_of size + 4096 * (child + 1))
+module _ {I S : Type 0} (set : InstructionSet I S) where
+  -- where a started thread begins: at the address of its start, with the argument where a first thread has its number, and its own number
+  -- where that has how many begin by themselves; its stack is that of its number, as that of the first is
+  abbrev pub child_start : Numbers → (child entry arg : ℕ) → MachineOf I S
+  child_start size child entry arg = start_in set entry arg child (room_of size + 4096 * (child + 1))
 
--- a thread begins so in a history
-pub data BeginsAs (program : Program) (size : Numbers) (first : ℕ) (history : List Entry) (thread : ℕ) : Machine → Type 0 where
-  by_itself : thread < first → BeginsAs program size first history thread (thread_start program size first thread)
-  by_start : (starter entry arg : ℕ) → Contains history (Start starter thread entry arg)
-      → BeginsAs program size first history thread (child_start size thread entry arg)
+  -- a thread begins so in a history
+  pub data BeginsAs (program : Program) (size : Numbers) (first : ℕ) (history : List Entry) (thread : ℕ) : MachineOf I S → Type 0 where
+    by_itself : thread < first → BeginsAs program size first history thread (thread_start set program size first thread)
+    by_start : (starter entry arg : ℕ) → Contains history (Start starter thread entry arg)
+        → BeginsAs program size first history thread (child_start size thread entry arg)
 
 -- the numbers that a thread has for those that it starts: as many as are spare where it is one of the first, none where it was started.
 -- Where none is spare nobody has a stock, and the call that starts a thread is unknown

@@ -10,8 +10,8 @@ use Rattle.shared_memory.specs.Seen.{IsOneOf, IsSingle}
 use Rattle.llsc_base.specs.declared.outside.Stop.TheVariants.{TagLimit}
 use Rattle.guest_core.specs.Machine.{MachineOf, InstructionSet}
 use Rattle.guest_thread.specs.Counting.{accesses_counted, counts_in}
-use Rattle.guest_thread.specs.Outcome.{IsEndOnOf}
-use Rattle.guest_thread.specs.Start.{thread_start_of}
+use Rattle.guest_thread.specs.Outcome.{IsEndOn}
+use Rattle.guest_thread.specs.Start.{thread_start}
 use Rattle.guest_thread.specs.declared.ends.GuestEnd.{GuestEnd}
 use Rattle.guest_thread.specs.declared.crews.Crew.{Crew}
 use Rattle.guest_thread.specs.declared.crews.Job.{Job}
@@ -28,7 +28,7 @@ module _ {I S : Type 0} (set : InstructionSet I S) {C : Type 0} (machine : C →
     pub first : job.thread < origin.first
     pub none : entries_of job.thread (seen job.pass) ≡ []
     pub code : job.code.program ≡ program
-    pub start : machine job.cpu ≡ thread_start_of set program origin.size origin.first job.thread
+    pub start : machine job.cpu ≡ thread_start set program origin.size origin.first job.thread
     pub empty : job.out ≡ []
 
   -- each of them is
@@ -44,7 +44,7 @@ module _ {I S : Type 0} (set : InstructionSet I S) where
   -- how a thread ended that began by itself, in a history; where it was stopped at a store, the memory counts a class's writes
   pub record IsEndOf (program : Program) (origin : Origin) (budget : ℕ) (history : List Entry) (t : ℕ) (end : GuestEnd) : Type 0 where
     pub thread : end.thread ≡ t
-    pub end_on : IsEndOnOf set program origin.size budget (thread_start_of set program origin.size origin.first t) history end
+    pub end_on : IsEndOn set program origin.size budget (thread_start set program origin.size origin.first t) history end
     pub spends : (addr : ℕ) → end.stop ≡ TagLimit addr → origin.spends ≡ true
     pub few : accesses_counted (counts_in end) < 2 ^ 45
 

@@ -10,11 +10,10 @@ use Rattle.history.specs.Started.{AreBorn}
 use Rattle.history.specs.declared.entry.Entry.{Entry}
 use Rattle.llsc_base.specs.declared.outside.Stop.TheVariants.{Exit, TagLimit}
 use Rattle.guest_core.specs.Machine.{MachineOf, InstructionSet}
-use Rattle.a32_step.specs.Machine.{Machine, a32}
-use Rattle.guest_calls.specs.Run.{EndsOnOf}
+use Rattle.guest_calls.specs.Run.{EndsOn}
 use Rattle.guest_calls.specs.Pairs.{pairs_of}
 use Rattle.guest_thread.specs.Counting.{AreCounts, counts_in}
-use Rattle.guest_thread.specs.Start.{thread_start_of}
+use Rattle.guest_thread.specs.Start.{thread_start}
 use Rattle.guest_thread.specs.declared.ends.GuestEnd.{GuestEnd}
 
 -- the class of an address's row has had as many Writes in a history as it may have
@@ -23,36 +22,25 @@ IsSpent size history addr = size.limit ≤ writes_in_class size (row_of size.gra
 
 -- a thread's stop, its steps and its output are those of its run with its accesses in the history; where it was stopped at a
 -- store, the class of the store has no write left; and its counts are those of its accesses
-pub record IsEndOnOf {I S : Type 0} (set : InstructionSet I S) (program : Program) (size : Numbers) (budget : ℕ) (start : MachineOf I S) (history : List Entry) (end : GuestEnd) : Type 0 where
-  pub ends : EndsOnOf set program budget start (pairs_of end.thread history) end.stop end.steps end.out
+pub record IsEndOn {I S : Type 0} (set : InstructionSet I S) (program : Program) (size : Numbers) (budget : ℕ) (start : MachineOf I S) (history : List Entry) (end : GuestEnd) : Type 0 where
+  pub ends : EndsOn set program budget start (pairs_of end.thread history) end.stop end.steps end.out
   pub spent : (addr : ℕ) → end.stop ≡ TagLimit addr → IsSpent size history addr
   pub counts : AreCounts end.thread history (counts_in end)
 
-abbrev pub IsEndOn : Program → Numbers → ℕ → Machine → List Entry → GuestEnd → Type 0
-IsEndOn = IsEndOnOf a32
-
 module _ {I S : Type 0} (set : InstructionSet I S) where
   -- the ends of all threads, each of which began by itself, in order of number
-  pub record AreEndsOnOf (program : Program) (size : Numbers) (budget : ℕ) (history : List Entry) (all : List GuestEnd) : Type 0 where
+  pub record AreEndsOn (program : Program) (size : Numbers) (budget : ℕ) (history : List Entry) (all : List GuestEnd) : Type 0 where
     pub many : length all ≡ size.threads
     pub numbers : (t : ℕ) (end : GuestEnd) → slice_get all t ≡ Some end → end.thread ≡ t
     pub each : (t : ℕ) (end : GuestEnd) → slice_get all t ≡ Some end
-        → IsEndOnOf set program size budget (thread_start_of set program size size.threads t) history end
+        → IsEndOn set program size budget (thread_start set program size size.threads t) history end
 
   -- these are the ends of all threads in a legal and complete history, from the program's memory on, in which no thread starts another
-  pub record IsOutcomeOf (program : Program) (size : Numbers) (budget : ℕ) (history : List Entry) (all : List GuestEnd) : Type 0 where
+  pub record IsOutcome (program : Program) (size : Numbers) (budget : ℕ) (history : List Entry) (all : List GuestEnd) : Type 0 where
     pub legal : IsLegal size program.bytes history
     pub complete : IsComplete history
     pub born : AreBorn size.threads 0 history
-    pub ends : AreEndsOnOf program size budget history all
-
--- The same of A32.
-
-abbrev pub AreEndsOn : Program → Numbers → ℕ → List Entry → List GuestEnd → Type 0
-AreEndsOn = AreEndsOnOf a32
-
-abbrev pub IsOutcome : Program → Numbers → ℕ → List Entry → List GuestEnd → Type 0
-IsOutcome = IsOutcomeOf a32
+    pub ends : AreEndsOn program size budget history all
 
 -- each thread left by an exit call with code 0
 abbrev pub HaveLeft : List GuestEnd → Type 0

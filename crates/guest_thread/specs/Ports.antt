@@ -4,44 +4,32 @@ use Rattle.llsc_base.specs.Images.{Program}
 use Rattle.llsc_base.specs.declared.outside.Stop.{Stop}
 use Rattle.llsc_base.specs.declared.outside.Stop.TheVariants.{TagLimit}
 use Rattle.guest_core.specs.Machine.{MachineOf, InstructionSet, between}
-use Rattle.a32_step.specs.Machine.{Machine, a32}
-use Rattle.guest_calls.specs.Run.{Pair, PointOf, Point, first_point, EndsFromOf, EndsOnFromOf}
+use Rattle.guest_calls.specs.Run.{Pair, PointOf, first_point, EndsFrom, EndsOnFrom}
 use Rattle.guest_thread.specs.Progress.{IsBounded}
-use Rattle.guest_thread.specs.ThreadState.{ThreadOf, ThreadState, IsReadyIn, StopsWithin}
-use Rattle.guest_thread.specs.Under.{ComesToEventOf}
+use Rattle.guest_thread.specs.ThreadState.{ThreadOf, IsReadyIn, StopsWithin}
+use Rattle.guest_thread.specs.Under.{ComesToEvent}
 use Rattle.guest_thread.specs.declared.guests.Event.TheVariants as event
 use Rattle.guest_thread.specs.declared.ports.Rest.{Rest}
 use Rattle.guest_thread.specs.declared.ports.Rest.TheVariants.{Stopped, Starts, Spent}
 
 module _ {I S : Type 0} (set : InstructionSet I S) where
   -- a thread ends by itself, or at a store to an address where memory refuses it
-  abbrev pub EndsByFromOf : Bool → (ℕ → Type 0) → Program → ℕ → PointOf I S → List Pair → Stop → ℕ → List ℕ → Type 0
-  EndsByFromOf stocked refuses program budget from pairs stop steps output =
-      EndsFromOf set stocked program budget from pairs stop steps output
-      ⊎ ((addr : ℕ) × (refuses addr × (stop ≡ TagLimit addr) × EndsOnFromOf set stocked program budget from pairs stop steps output))
+  abbrev pub EndsByFrom : Bool → (ℕ → Type 0) → Program → ℕ → PointOf I S → List Pair → Stop → ℕ → List ℕ → Type 0
+  EndsByFrom stocked refuses program budget from pairs stop steps output =
+      EndsFrom set stocked program budget from pairs stop steps output
+      ⊎ ((addr : ℕ) × (refuses addr × (stop ≡ TagLimit addr) × EndsOnFrom set stocked program budget from pairs stop steps output))
 
   -- from its start, where it has no stock
-  abbrev pub EndsByOf : (ℕ → Type 0) → Program → ℕ → MachineOf I S → List Pair → Stop → ℕ → List ℕ → Type 0
-  EndsByOf refuses program budget start = EndsByFromOf false refuses program budget (first_point start)
+  abbrev pub EndsBy : (ℕ → Type 0) → Program → ℕ → MachineOf I S → List Pair → Stop → ℕ → List ℕ → Type 0
+  EndsBy refuses program budget start = EndsByFrom false refuses program budget (first_point start)
 
   -- How a thread that may start threads comes to rest: it has ended; or it has called for a thread to be started; or its steps are the
   -- budget.
-  abbrev pub RestsByOf : Bool → (ℕ → Type 0) → Program → ℕ → PointOf I S → List Pair → Rest → ThreadOf I S → Type 0
-  RestsByOf stocked refuses program budget from pairs (Stopped stop) standing =
-      EndsByFromOf stocked refuses program budget from pairs stop standing.steps standing.output
-  RestsByOf stocked refuses program budget from pairs Starts standing = ComesToEventOf set stocked program budget from pairs event.Starts standing
-  RestsByOf stocked refuses program budget from pairs Spent standing = ComesToEventOf set stocked program budget from pairs event.Spent standing
-
--- The same of A32.
-
-abbrev pub EndsByFrom : Bool → (ℕ → Type 0) → Program → ℕ → Point → List Pair → Stop → ℕ → List ℕ → Type 0
-EndsByFrom = EndsByFromOf a32
-
-abbrev pub EndsBy : (ℕ → Type 0) → Program → ℕ → Machine → List Pair → Stop → ℕ → List ℕ → Type 0
-EndsBy = EndsByOf a32
-
-abbrev pub RestsBy : Bool → (ℕ → Type 0) → Program → ℕ → Point → List Pair → Rest → ThreadState → Type 0
-RestsBy = RestsByOf a32
+  abbrev pub RestsBy : Bool → (ℕ → Type 0) → Program → ℕ → PointOf I S → List Pair → Rest → ThreadOf I S → Type 0
+  RestsBy stocked refuses program budget from pairs (Stopped stop) standing =
+      EndsByFrom stocked refuses program budget from pairs stop standing.steps standing.output
+  RestsBy stocked refuses program budget from pairs Starts standing = ComesToEvent set stocked program budget from pairs event.Starts standing
+  RestsBy stocked refuses program budget from pairs Spent standing = ComesToEvent set stocked program budget from pairs event.Spent standing
 
 -- where it has ended, that was before its steps were the budget, or by the exit call
 abbrev pub RestsWithin : {I S : Type 0} → ℕ → Rest → ThreadOf I S → Type 0

@@ -4,7 +4,6 @@ use Rattle.llsc_base.specs.declared.outside.Ask.{Ask}
 use Rattle.llsc_base.specs.declared.outside.Stop.{Stop}
 use Rattle.llsc_base.specs.declared.outside.Stop.TheVariants.{Exit}
 use Rattle.guest_core.specs.Machine.{MachineOf, IsReady, IsAwaiting, IsCalling}
-use Rattle.a32_step.specs.Machine.{Machine}
 use Rattle.guest_core.specs.Ports.{IsAskIn, ReplyFits}
 use Rattle.guest_calls.specs.Calls.{most_output}
 use Rattle.guest_thread.specs.declared.guests.Event.{Event}
@@ -32,10 +31,6 @@ thread_in machine standing = record {
   output = standing.output;
   printing = standing.printing;
 }
-
--- the thread of an A32 guest
-abbrev pub ThreadState : Type 0
-ThreadState = ThreadStateOf Machine
 
 -- the core waits for the answer to the write, which has bytes left, and these have room in the output
 pub record HasLeft {I S : Type 0} (standing : ThreadOf I S) (printing : Printing) : Type 0 where

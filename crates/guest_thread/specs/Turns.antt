@@ -2,7 +2,6 @@
 use Rattle.std.specs.Prelude.{◌≡◌, ℕ, ◌+◌, ◌<◌, ◌≤◌, nat_lt, if◌then◌else◌, [], ◌∷◌, ◌++◌, length, Option, Some, None}
 use Rattle.llsc_base.specs.declared.outside.Stop.TheVariants as stop
 use Rattle.guest_core.specs.Machine.{InstructionSet, returned_of, IsReady}
-use Rattle.a32_step.specs.Machine.{a32}
 use Rattle.guest_calls.specs.Calls.{CallEffect, exits, answers, writes_bytes, most_output}
 use Rattle.guest_calls.specs.Run.{byte_load}
 use Rattle.guest_thread.specs.declared.guests.Printing.{Printing}
@@ -10,7 +9,7 @@ use Rattle.guest_thread.specs.declared.guests.Called.{Called}
 use Rattle.guest_thread.specs.declared.guests.Called.TheVariants as called
 use Rattle.guest_thread.specs.declared.guests.Turn.{Turn}
 use Rattle.guest_thread.specs.declared.guests.Turn.TheVariants as turn
-use Rattle.guest_thread.specs.ThreadState.{ThreadState, ThreadOf}
+use Rattle.guest_thread.specs.ThreadState.{ThreadOf}
 
 -- no write is under way, and its core waits for nothing
 pub record IsAtTurn {I S : Type 0} (standing : ThreadOf I S) : Type 0 where
@@ -50,33 +49,22 @@ after_front_byte old printing byte = record old {
 module _ {I S : Type 0} (set : InstructionSet I S) where
   -- What a call makes of a thread that waits for its answer, in memory of so many bytes: the exit is one step, and so is
   -- an answer.
-  abbrev pub AfterCallOf : ℕ → CallEffect → ThreadOf I S → Called → ThreadOf I S → Type 0
-  AfterCallOf mem (exits code) old result new =
+  abbrev pub AfterCall : ℕ → CallEffect → ThreadOf I S → Called → ThreadOf I S → Type 0
+  AfterCall mem (exits code) old result new =
       (result ≡ called.Exits code) × (new ≡ record old { steps = old.steps + 1 })
-  AfterCallOf mem (answers value) old result new =
+  AfterCall mem (answers value) old result new =
       (result ≡ called.Answered) × (new ≡ record old { cpu = returned_of set old.cpu value; steps = old.steps + 1 })
-  AfterCallOf mem (writes_bytes from count) old result new = BeginsWrite mem from count old result new
+  AfterCall mem (writes_bytes from count) old result new = BeginsWrite mem from count old result new
 
   -- after the last one: the call is answered by the number of the bytes, which is one step
-  abbrev pub after_last_byte_of : ThreadOf I S → Printing → ℕ → ThreadOf I S
-  after_last_byte_of old printing byte = record {
+  abbrev pub after_last_byte : ThreadOf I S → Printing → ℕ → ThreadOf I S
+  after_last_byte old printing byte = record {
     cpu = returned_of set old.cpu printing.len;
     steps = old.steps + 1;
     output = old.output ++ byte ∷ [];
     printing = None;
   }
 
-  abbrev pub after_byte_of : ThreadOf I S → Printing → ℕ → ThreadOf I S
-  after_byte_of old printing byte =
-      if nat_lt (printing.loaded + 1) printing.len then after_front_byte old printing byte else after_last_byte_of old printing byte
-
--- The same of A32.
-
-abbrev pub AfterCall : ℕ → CallEffect → ThreadState → Called → ThreadState → Type 0
-AfterCall = AfterCallOf a32
-
-abbrev pub after_last_byte : ThreadState → Printing → ℕ → ThreadState
-after_last_byte = after_last_byte_of a32
-
-abbrev pub after_byte : ThreadState → Printing → ℕ → ThreadState
-after_byte = after_byte_of a32
+  abbrev pub after_byte : ThreadOf I S → Printing → ℕ → ThreadOf I S
+  after_byte old printing byte =
+      if nat_lt (printing.loaded + 1) printing.len then after_front_byte old printing byte else after_last_byte old printing byte

@@ -6,13 +6,13 @@ ghost use Rattle.llsc_base.specs.declared.outside.Ask.{Ask};
 ghost use Rattle.llsc_base.specs.declared.outside.CallAsk.{CallAsk};
 ghost use Rattle.guest_core.specs.Phase as phase;
 ghost use Rattle.guest_core.specs.Machine.{MachineOf, IsReady, IsCalling};
-ghost use Rattle.guest_calls.specs.Run.{Pair, PointOf, byte_load, effect_of_call_of};
+ghost use Rattle.guest_calls.specs.Run.{Pair, PointOf, byte_load, effect_of_call};
 ghost use Rattle.guest_thread.specs.Ports.{IsAtRest};
 ghost use Rattle.guest_thread.specs.Progress.{HasKept, HasMoved, IsBounded};
 ghost use Rattle.guest_thread.specs.ThreadState.{thread_in, EndsWithin, HasLeft, IsReadyIn, IsWaitingIn, IsPendingAfter, IsPendingAfterEvent, MayGive};
-ghost use Rattle.guest_thread.specs.Start.{first_state_of, thread_start_of};
-ghost use Rattle.guest_thread.specs.Turns.{AfterCallOf, IsAtTurn, IsOneStepOn, after_byte_of, turn_by};
-ghost use Rattle.guest_thread.specs.Under.{HasComeOf, HasComeFromOf, AwaitsOf, AwaitsFromOf, ComesToOf, ComesToEventOf};
+ghost use Rattle.guest_thread.specs.Start.{first_state, thread_start};
+ghost use Rattle.guest_thread.specs.Turns.{AfterCall, IsAtTurn, IsOneStepOn, after_byte, turn_by};
+ghost use Rattle.guest_thread.specs.Under.{HasCome, HasComeFrom, Awaits, AwaitsFrom, ComesTo, ComesToEvent};
 
 use crate::starts::start_cpu;
 use llsc_base::{Ask, CallAsk, Image, MachineSize, Place, Size, Stop};
@@ -106,9 +106,9 @@ impl<C: Core> Guest<C> {
         t: u32,
     ) -> Result<Guest<C>, AllocError>
         requires { t < size.now.threads }
-        ensures state { IfOk result (λ guest. thread_in C.machine guest ≡ first_state_of C.set image.now size.now size.now.threads t) }
+        ensures state { IfOk result (λ guest. thread_in C.machine guest ≡ first_state C.set image.now size.now size.now.threads t) }
         ensures ready { IfOk result (λ guest. (mem budget : ℕ) → IsReadyIn mem budget (thread_in C.machine guest)) }
-        ensures comes { IfOk result (λ guest. (budget : ℕ) → HasComeOf C.set image.now budget (thread_start_of C.set image.now size.now size.now.threads t) [] (thread_in C.machine guest)) }
+        ensures comes { IfOk result (λ guest. (budget : ℕ) → HasCome C.set image.now budget (thread_start C.set image.now size.now size.now.threads t) [] (thread_in C.machine guest)) }
     {
         let output = Output::new(alloc)?;
         Ok(Guest::new(start_cpu(image, size, size.threads(), t), output))
@@ -128,7 +128,7 @@ impl<C: Core> Guest<C> {
     pub(crate) fn new(cpu: C, output: Output) -> Guest<C>
         ensures state { result ≡ record { cpu = cpu; steps = 0; output = output; printing = None } }
         ensures ready { IsReady (C.machine cpu).phase → (mem budget : ℕ) → IsReadyIn mem budget (thread_in C.machine result) }
-        ensures comes { output ≡ [] → (program : Program) (budget : ℕ) → HasComeOf C.set program budget (C.machine cpu) [] (thread_in C.machine result) }
+        ensures comes { output ≡ [] → (program : Program) (budget : ℕ) → HasCome C.set program budget (C.machine cpu) [] (thread_in C.machine result) }
     {
         Guest {
             cpu,
@@ -190,8 +190,8 @@ impl<C: Core> Guest<C> {
         requires ready { IsReadyIn (length image.now.bytes) budget (thread_in C.machine self.old) }
         requires small { length image.now.bytes < 2 ^ 32 }
         requires budget { budget ≤ most_budget }
-        ensures comes { (start : MachineOf C.Instr C.State) (pairs : List Pair) → HasComeOf C.set image.now budget start pairs (thread_in C.machine self.old)
-            → ComesToOf C.set image.now budget start pairs result (thread_in C.machine self.new) }
+        ensures comes { (start : MachineOf C.Instr C.State) (pairs : List Pair) → HasCome C.set image.now budget start pairs (thread_in C.machine self.old)
+            → ComesTo C.set image.now budget start pairs result (thread_in C.machine self.new) }
         ensures pending { IsPendingAfter (length image.now.bytes) budget result (thread_in C.machine self.new) }
         ensures within { self.new.steps ≤ budget }
         ensures kept { IsBounded (thread_in C.machine self.old) → HasKept (thread_in C.machine self.old) (thread_in C.machine self.new) }
@@ -214,8 +214,8 @@ impl<C: Core> Guest<C> {
         requires ready { IsReadyIn (length image.now.bytes) budget (thread_in C.machine self.old) }
         requires small { length image.now.bytes < 2 ^ 32 }
         requires budget { budget ≤ most_budget }
-        ensures comes { (from : PointOf C.Instr C.State) (pairs : List Pair) → HasComeFromOf C.set starts image.now budget from pairs (thread_in C.machine self.old)
-            → MatchOption result (HasComeFromOf C.set starts image.now budget from pairs (thread_in C.machine self.new)) (λ event. ComesToEventOf C.set starts image.now budget from pairs event (thread_in C.machine self.new)) }
+        ensures comes { (from : PointOf C.Instr C.State) (pairs : List Pair) → HasComeFrom C.set starts image.now budget from pairs (thread_in C.machine self.old)
+            → MatchOption result (HasComeFrom C.set starts image.now budget from pairs (thread_in C.machine self.new)) (λ event. ComesToEvent C.set starts image.now budget from pairs event (thread_in C.machine self.new)) }
         ensures pending { IfSome result (λ event. IsPendingAfterEvent (length image.now.bytes) budget event (thread_in C.machine self.new)) }
         ensures ready { IfNone result (IsReadyIn (length image.now.bytes) budget (thread_in C.machine self.new)) }
         ensures later { IfNone result ((self.old.steps < self.new.steps) × (self.new.output ≡ self.old.output)) }
@@ -239,8 +239,8 @@ impl<C: Core> Guest<C> {
         requires few { self.old.steps < most_budget }
         requires small { length image.now.bytes < 2 ^ 32 }
         ensures goes_on { IfNone result (IsOneStepOn (thread_in C.machine self.old) (thread_in C.machine self.new)) }
-        ensures comes { (budget : ℕ) (start : MachineOf C.Instr C.State) (pairs : List Pair) → HasComeOf C.set image.now budget start pairs (thread_in C.machine self.old) → self.old.steps < budget
-            → MatchOption result (HasComeOf C.set image.now budget start pairs (thread_in C.machine self.new)) (λ turn. ComesToOf C.set image.now budget start pairs turn (thread_in C.machine self.new)) }
+        ensures comes { (budget : ℕ) (start : MachineOf C.Instr C.State) (pairs : List Pair) → HasCome C.set image.now budget start pairs (thread_in C.machine self.old) → self.old.steps < budget
+            → MatchOption result (HasCome C.set image.now budget start pairs (thread_in C.machine self.new)) (λ turn. ComesTo C.set image.now budget start pairs turn (thread_in C.machine self.new)) }
         ensures pending { IfSome result (λ turn. (budget : ℕ) → self.old.steps < budget → IsPendingAfter (length image.now.bytes) budget turn (thread_in C.machine self.new)) }
         ensures output { self.new.output ≡ self.old.output }
         ensures at_most { self.new.steps ≤ self.old.steps + 1 }
@@ -263,8 +263,8 @@ impl<C: Core> Guest<C> {
         requires few { self.old.steps < most_budget }
         requires small { length image.now.bytes < 2 ^ 32 }
         ensures goes_on { IfNone result (IsOneStepOn (thread_in C.machine self.old) (thread_in C.machine self.new)) }
-        ensures comes { (budget : ℕ) (from : PointOf C.Instr C.State) (pairs : List Pair) → HasComeFromOf C.set starts image.now budget from pairs (thread_in C.machine self.old) → self.old.steps < budget
-            → MatchOption result (HasComeFromOf C.set starts image.now budget from pairs (thread_in C.machine self.new)) (λ event. ComesToEventOf C.set starts image.now budget from pairs event (thread_in C.machine self.new)) }
+        ensures comes { (budget : ℕ) (from : PointOf C.Instr C.State) (pairs : List Pair) → HasComeFrom C.set starts image.now budget from pairs (thread_in C.machine self.old) → self.old.steps < budget
+            → MatchOption result (HasComeFrom C.set starts image.now budget from pairs (thread_in C.machine self.new)) (λ event. ComesToEvent C.set starts image.now budget from pairs event (thread_in C.machine self.new)) }
         ensures pending { IfSome result (λ event. (budget : ℕ) → self.old.steps < budget → IsPendingAfterEvent (length image.now.bytes) budget event (thread_in C.machine self.new)) }
         ensures output { self.new.output ≡ self.old.output }
         ensures at_most { self.new.steps ≤ self.old.steps + 1 }
@@ -300,7 +300,7 @@ impl<C: Core> Guest<C> {
         requires few { self.old.steps < most_budget }
         requires small { length image.now.bytes < 2 ^ 32 }
         ensures made { (call : CallAsk) → (C.machine self.old.cpu).phase ≡ phase.Calling call
-            → AfterCallOf C.set (length image.now.bytes) (effect_of_call_of C.set image.now call (length self.old.output)) (thread_in C.machine self.old) result (thread_in C.machine self.new) }
+            → AfterCall C.set (length image.now.bytes) (effect_of_call C.set image.now call (length self.old.output)) (thread_in C.machine self.old) result (thread_in C.machine self.new) }
         ensures goes_on { self.old.printing ≡ None → IfNone (turn_by result) (IsOneStepOn (thread_in C.machine self.old) (thread_in C.machine self.new)) }
         ensures pending { self.old.printing ≡ None
             → IfSome (turn_by result) (λ turn. (budget : ℕ) → self.old.steps < budget → IsPendingAfter (length image.now.bytes) budget turn (thread_in C.machine self.new)) }
@@ -317,7 +317,7 @@ impl<C: Core> Guest<C> {
         requires calling { IsCalling (C.machine self.old.cpu).phase }
         requires few { self.old.steps < most_budget }
         requires small { length image.now.bytes < 2 ^ 32 }
-        ensures made { AfterCallOf C.set (length image.now.bytes) (effect_of_call_of C.set image.now call.now (length self.old.output)) (thread_in C.machine self.old) result (thread_in C.machine self.new) }
+        ensures made { AfterCall C.set (length image.now.bytes) (effect_of_call C.set image.now call.now (length self.old.output)) (thread_in C.machine self.old) result (thread_in C.machine self.new) }
         ensures goes_on { self.old.printing ≡ None → IfNone (turn_by result) (IsOneStepOn (thread_in C.machine self.old) (thread_in C.machine self.new)) }
         ensures pending { self.old.printing ≡ None
             → IfSome (turn_by result) (λ turn. (budget : ℕ) → self.old.steps < budget → IsPendingAfter (length image.now.bytes) budget turn (thread_in C.machine self.new)) }
@@ -355,9 +355,9 @@ impl<C: Core> Guest<C> {
         requires { MayGive (thread_in C.machine self.old) reply }
         ensures ready { (mem budget : ℕ) → IsWaitingIn mem budget (thread_in C.machine self.old) → IsReadyIn mem budget (thread_in C.machine self.new) }
         ensures comes { (program : Program) (budget : ℕ) (start : MachineOf C.Instr C.State) (pairs : List Pair) (ask : Ask) →
-            AwaitsOf C.set program budget start pairs ask (thread_in C.machine self.old) → HasComeOf C.set program budget start (pairs ++ (ask, reply) ∷ []) (thread_in C.machine self.new) }
+            Awaits C.set program budget start pairs ask (thread_in C.machine self.old) → HasCome C.set program budget start (pairs ++ (ask, reply) ∷ []) (thread_in C.machine self.new) }
         ensures on { (stocked : Bool) (program : Program) (budget : ℕ) (from : PointOf C.Instr C.State) (pairs : List Pair) (ask : Ask) →
-            AwaitsFromOf C.set stocked program budget from pairs ask (thread_in C.machine self.old) → HasComeFromOf C.set stocked program budget from (pairs ++ (ask, reply) ∷ []) (thread_in C.machine self.new) }
+            AwaitsFrom C.set stocked program budget from pairs ask (thread_in C.machine self.old) → HasComeFrom C.set stocked program budget from (pairs ++ (ask, reply) ∷ []) (thread_in C.machine self.new) }
         ensures moved { IsBounded (thread_in C.machine self.old) → HasMoved (thread_in C.machine self.old) (thread_in C.machine self.new) }
     {
         match self.printing {
@@ -370,7 +370,7 @@ impl<C: Core> Guest<C> {
     fn print(&mut self, printing: Printing, byte: u8)
         requires left { HasLeft (thread_in C.machine self.old) printing }
         requires few { self.old.steps < 2 ^ 63 }
-        ensures byte { thread_in C.machine self.new ≡ after_byte_of C.set (thread_in C.machine self.old) printing byte }
+        ensures byte { thread_in C.machine self.new ≡ after_byte C.set (thread_in C.machine self.old) printing byte }
         ensures moved { IsBounded (thread_in C.machine self.old) → HasMoved (thread_in C.machine self.old) (thread_in C.machine self.new) }
     {
         self.output.push(byte);

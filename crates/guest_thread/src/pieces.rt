@@ -15,8 +15,7 @@ use crate::guests::Guest;
 use crate::in_pieces::InPieces;
 use crate::ports::Rest;
 use crate::running::Finished;
-use guest_core::Code;
-use a32_step::{Conditional, Cpu};
+use guest_core::{Code, Core};
 use llsc_base::Stop;
 use guest_calls::Output;
 use shared_memory::SharedMemory;
@@ -24,9 +23,9 @@ use std::sync::Wait;
 
 /// A thread that may go on: its core, its pass of the memory, and what it has done so far.
 #[derive(Drop)]
-pub struct Part<P> {
+pub struct Part<P, C> {
     /// Its core, between two instructions, or awaiting the answer to a call.
-    pub cpu: Cpu,
+    pub cpu: C,
     /// Its pass, which holds its number alone.
     pub pass: P,
     /// What it wrote.
@@ -41,9 +40,9 @@ pub struct Part<P> {
     pub fails: u64,
 }
 
-impl<P> Part<P> {
+impl<P, C: Core> Part<P, C> {
     /// A thread that has made no step and no access.
-    pub fn new(cpu: Cpu, pass: P, out: Output) -> Part<P>
+    pub fn new(cpu: C, pass: P, out: Output) -> Part<P, C>
         ensures { result ≡ record { cpu = cpu; pass = pass; out = out; steps = 0; reads = 0; writes = 0; fails = 0 } }
     {
         Part {
@@ -69,7 +68,7 @@ impl<P> Part<P> {
     }
 
     /// The thread itself, and its pass.
-    fn into_guest(self) -> (Guest<Cpu>, P)
+    fn into_guest(self) -> (Guest<C>, P)
         ensures guest { result.0 ≡ record { cpu = self.cpu; steps = self.steps; output = self.out; printing = None } }
         ensures pass { result.1 ≡ self.pass }
     {
@@ -87,18 +86,18 @@ impl<P> Part<P> {
 }
 
 /// Where a piece of a thread's run comes to.
-pub enum Paused<P> {
+pub enum Paused<P, C> {
     /// The thread has ended.
     Ended(Finished<P>),
     /// It calls for a thread to be started, at an address and with an argument. Whoever has started one, or hasn't, answers the
     /// call by the core's `answer`, and adds one to the steps.
-    Start { part: Part<P>, entry: u32, arg: u32 },
+    Start { part: Part<P, C>, entry: u32, arg: u32 },
     /// It has made all steps that it was to make, and may go on.
-    Pause(Part<P>),
+    Pause(Part<P, C>),
 }
 
 /// Goes on with a thread that may act on a memory that threads share, until it has made `upto` steps in all or has ended; and where
-/// `starts` holds, until it calls for a thread to be started: by SVC #0 with 0xF0001 in r7, an address in r0 and an argument in r1.
+/// `starts` holds, until it calls for a thread to be started, by the call 0xF0001 with an address and an argument.
 /// The pass holds its number alone, its core is between two instructions, and memory has as many bytes as the code's image. The
 /// steps so far are at most `upto`, which is at most the budget, and that is at most 1,000,000,000,000. The accesses so far are at most
 /// 17 for each step and one for each byte written, as they are at first and in each part that is given back. No memory is taken from
@@ -107,24 +106,24 @@ pub enum Paused<P> {
 /// The thread has ended where an instruction stops it, by its exit call, at a store for which memory has no write left, or with as
 /// many steps as the budget. With `upto` steps, where that is less, it pauses. Where `starts` doesn't hold, a call that would start a
 /// thread is answered as one that doesn't exist.
-pub fn go_on<M: SharedMemory, R: Wait>(
+pub fn go_on<M: SharedMemory, C: Core, R: Wait>(
     rt: &R,
     mem: &M,
-    code: &mut Code<Conditional>,
-    part: Part<M::Pass>,
+    code: &mut Code<C::Ready>,
+    part: Part<M::Pass, C>,
     upto: u64,
     budget: u64,
     starts: bool,
-) -> Paused<M::Pass>
+) -> Paused<M::Pass, C>
     requires memory { M.home part.pass ≡ M.id mem.now }
     requires single { (t : ℕ) × IsSingle t (M.numbers part.pass) × (MayAct (M.origin mem.now).first t (M.seen part.pass)) }
     requires whole { length code.old.program.bytes ≡ (M.origin mem.now).size.mem }
-    requires between { part.cpu ≡ between part.cpu.state }
+    requires between { C.machine part.cpu ≡ between (C.machine part.cpu).state }
     requires few { CountFew (counts_by part) part.steps part.out }
     requires upto { (part.steps ≤ upto) × (upto ≤ budget) }
     requires budget { budget ≤ most_budget }
     ensures program { code.new.program ≡ code.old.program }
-    ensures piece { (t : ℕ) → IsSingle t (M.numbers part.pass) → IsPiece M.home M.numbers M.seen (M.id mem.now) (M.origin mem.now) code.old.program starts upto budget t part result }
+    ensures piece { (t : ℕ) → IsSingle t (M.numbers part.pass) → IsPiece C.set C.machine M.home M.numbers M.seen (M.id mem.now) (M.origin mem.now) code.old.program starts upto budget t part result }
 {
     let most = mem.size().mem();
     prove!(most <= 16_777_216);
@@ -137,11 +136,12 @@ pub fn go_on<M: SharedMemory, R: Wait>(
     let rest = guest.run_on(code, upto, &mut sharing, starts);
     let counts = sharing.counts();
     let pass = sharing.into_pass();
+    C::is_sound();
     rested(rest, thread, guest, pass, counts, upto, budget)
 }
 
 /// A thread as it may go on.
-fn part_of<P>(guest: Guest<Cpu>, pass: P, counts: Counts) -> Part<P>
+fn part_of<P, C: Core>(guest: Guest<C>, pass: P, counts: Counts) -> Part<P, C>
     ensures { result ≡ part_at guest pass counts }
 {
     let (cpu, out, steps) = guest.into_parts();
@@ -158,18 +158,18 @@ fn part_of<P>(guest: Guest<Cpu>, pass: P, counts: Counts) -> Part<P>
 
 /// Where a thread has come to that was to make so many steps, by how it rests. With all of them made it may go on, where they
 /// aren't its budget.
-fn rested<P>(
+fn rested<P, C: Core>(
     rest: Rest,
     thread: u32,
-    guest: Guest<Cpu>,
+    guest: Guest<C>,
     pass: P,
     counts: Counts,
     upto: u64,
     budget: u64,
-) -> Paused<P>
-    requires { rest ≡ Rest.Starts → IsCalling guest.cpu.phase }
+) -> Paused<P, C>
+    requires calling { rest ≡ Rest.Starts → IsCalling (C.machine guest.cpu).phase }
     ensures stopped { (stop : Stop) → rest ≡ Rest.Stopped stop → result ≡ Paused.Ended (ended_at thread stop (part_at guest pass counts)) }
-    ensures called { rest ≡ Rest.Starts → (call : CallAsk) × (guest.cpu.phase ≡ Calling call) × (result ≡ Paused.Start (part_at guest pass counts) call.a call.b) }
+    ensures called { rest ≡ Rest.Starts → (call : CallAsk) × ((C.machine guest.cpu).phase ≡ Calling call) × (result ≡ Paused.Start (part_at guest pass counts) (C.set.call_of call).a (C.set.call_of call).b) }
     ensures pauses { rest ≡ Rest.Spent → upto < budget → result ≡ Paused.Pause (part_at guest pass counts) }
     ensures spent { rest ≡ Rest.Spent → budget ≤ upto → result ≡ Paused.Ended (ended_at thread Stop.Budget (part_at guest pass counts)) }
 {
@@ -186,7 +186,7 @@ fn rested<P>(
 }
 
 /// A thread that has ended.
-fn ended<P>(thread: u32, stop: Stop, guest: Guest<Cpu>, pass: P, counts: Counts) -> Finished<P>
+fn ended<P, C: Core>(thread: u32, stop: Stop, guest: Guest<C>, pass: P, counts: Counts) -> Finished<P>
     ensures { result ≡ ended_at thread stop (part_at guest pass counts) }
 {
     Finished {
@@ -203,12 +203,12 @@ fn ended<P>(thread: u32, stop: Stop, guest: Guest<Cpu>, pass: P, counts: Counts)
     }
 }
 
-/// A thread that calls for another to be started: at the address in r0, with the argument in r1.
-fn called<P>(part: Part<P>) -> Paused<P>
-    requires { IsCalling part.cpu.phase }
-    ensures { (call : CallAsk) × (part.cpu.phase ≡ Calling call) × (result ≡ Paused.Start part call.a call.b) }
+/// A thread that calls for another to be started: at the address that is the call's first argument, with the second one.
+fn called<P, C: Core>(part: Part<P, C>) -> Paused<P, C>
+    requires { IsCalling (C.machine part.cpu).phase }
+    ensures { (call : CallAsk) × ((C.machine part.cpu).phase ≡ Calling call) × (result ≡ Paused.Start part (C.set.call_of call).a (C.set.call_of call).b) }
 {
-    let call = part.cpu.asked_call();
+    let call = C::numbered(&part.cpu.asked_call());
     Paused::Start {
         part,
         entry: call.a,

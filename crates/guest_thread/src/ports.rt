@@ -1,15 +1,14 @@
 //! The run of a thread over a port, which replies to its accesses.
-ghost use Rattle.std.specs.Prelude.{◌≡◌, ◌<◌, ◌≤◌, ◌+◌, ◌*◌, ◌^◌, ◌++◌, [], ℕ, Bool, List, Some, IfNone, IfSome, IsTrue, MatchOption, length, true};
-ghost use Rattle.llsc_base.specs.Images.{Program};
+ghost use Rattle.std.specs.Prelude.{◌≡◌, ◌<◌, ◌≤◌, ◌+◌, ◌*◌, ◌^◌, ◌++◌, [], Bool, List, Some, IfNone, IfSome, MatchOption, length, true};
 ghost use Rattle.llsc_base.specs.Limits.{most_budget};
 ghost use Rattle.guest_calls.specs.Calls.{most_output};
 ghost use Rattle.guest_core.specs.Machine.{MachineOf};
 ghost use Rattle.guest_core.specs.Ports.{Leads};
 ghost use Rattle.guest_calls.specs.Run.{Pair, PointOf};
-ghost use Rattle.guest_thread.specs.Ports.{EndsByOf, IsRunning, RestsByOf, RestsWithin};
+ghost use Rattle.guest_thread.specs.Ports.{EndsBy, IsRunning, RestsBy, RestsWithin};
 ghost use Rattle.guest_thread.specs.Progress.{IsBounded, progress_of};
 ghost use Rattle.guest_thread.specs.ThreadState.{thread_in};
-ghost use Rattle.guest_thread.specs.Under.{HasComeOf, HasComeFromOf};
+ghost use Rattle.guest_thread.specs.Under.{HasCome, HasComeFrom};
 
 use crate::guests::{Event, Guest, Turn};
 use llsc_base::{Ask, Image, Stop};
@@ -49,9 +48,9 @@ impl<C: Core> Guest<C> {
         ensures counted { P.counted port.new ≤ progress_of (thread_in C.machine self.new) }
         ensures no_more { IfSome result (λ _. P.counted port.new ≤ P.counted port.old) }
         ensures bounded { IsBounded (thread_in C.machine self.new) }
-        ensures comes { (from : PointOf C.Instr C.State) (before : List Pair) → HasComeFromOf C.set starts image.now budget from before (thread_in C.machine self.old)
-            → MatchOption result ((pairs : List Pair) × (Leads P.replies port.old pairs port.new × HasComeFromOf C.set starts image.now budget from (before ++ pairs) (thread_in C.machine self.new)))
-            (λ rest. Leads P.replies port.old [] port.new × RestsByOf C.set starts (P.refuses port.new) image.now budget from before rest (thread_in C.machine self.new)) }
+        ensures comes { (from : PointOf C.Instr C.State) (before : List Pair) → HasComeFrom C.set starts image.now budget from before (thread_in C.machine self.old)
+            → MatchOption result ((pairs : List Pair) × (Leads P.replies port.old pairs port.new × HasComeFrom C.set starts image.now budget from (before ++ pairs) (thread_in C.machine self.new)))
+            (λ rest. Leads P.replies port.old [] port.new × RestsBy C.set starts (P.refuses port.new) image.now budget from before rest (thread_in C.machine self.new)) }
         ensures within { IfSome result (λ rest. RestsWithin budget rest (thread_in C.machine self.new)) }
         ensures starts { result ≡ Some Rest.Starts → starts ≡ true }
     {
@@ -93,8 +92,8 @@ impl<C: Core> Guest<C> {
         ensures program { code.new.program ≡ code.old.program }
         ensures mem { P.mem port.new ≡ P.mem port.old }
         ensures counted { P.counted port.new ≤ progress_of (thread_in C.machine self.new) }
-        ensures comes { (stocked : Bool) (from : PointOf C.Instr C.State) (before : List Pair) → HasComeFromOf C.set stocked code.old.program budget from before (thread_in C.machine self.old)
-            → (pairs : List Pair) × (Leads P.replies port.old pairs port.new × HasComeFromOf C.set stocked code.old.program budget from (before ++ pairs) (thread_in C.machine self.new)) }
+        ensures comes { (stocked : Bool) (from : PointOf C.Instr C.State) (before : List Pair) → HasComeFrom C.set stocked code.old.program budget from before (thread_in C.machine self.old)
+            → (pairs : List Pair) × (Leads P.replies port.old pairs port.new × HasComeFrom C.set stocked code.old.program budget from (before ++ pairs) (thread_in C.machine self.new)) }
     {
         if !self.is_at_rest() {
             return;
@@ -128,8 +127,8 @@ impl<C: Core> Guest<C> {
         ensures program { code.new.program ≡ code.old.program }
         ensures mem { P.mem port.new ≡ P.mem port.old }
         ensures few { P.counted port.new ≤ 17 * budget + most_output + 16 }
-        ensures ends { (start : MachineOf C.Instr C.State) → HasComeOf C.set code.old.program budget start [] (thread_in C.machine self.old)
-            → (pairs : List Pair) × (Leads P.replies port.old pairs port.new × EndsByOf C.set (P.refuses port.new) code.old.program budget start pairs result self.new.steps self.new.output) }
+        ensures ends { (start : MachineOf C.Instr C.State) → HasCome C.set code.old.program budget start [] (thread_in C.machine self.old)
+            → (pairs : List Pair) × (Leads P.replies port.old pairs port.new × EndsBy C.set (P.refuses port.new) code.old.program budget start pairs result self.new.steps self.new.output) }
     {
         match self.run_on(code, budget, port, false) {
             Rest::Stopped(stop) => stop,
@@ -156,8 +155,8 @@ impl<C: Core> Guest<C> {
         ensures counted { P.counted port.new ≤ progress_of (thread_in C.machine self.new) }
         ensures few { P.counted port.new ≤ 17 * budget + most_output + 16 }
         ensures bounded { IsBounded (thread_in C.machine self.new) }
-        ensures comes { (from : PointOf C.Instr C.State) (before : List Pair) → HasComeFromOf C.set starts code.old.program budget from before (thread_in C.machine self.old)
-            → (pairs : List Pair) × (Leads P.replies port.old pairs port.new × RestsByOf C.set starts (P.refuses port.new) code.old.program budget from (before ++ pairs) result (thread_in C.machine self.new)) }
+        ensures comes { (from : PointOf C.Instr C.State) (before : List Pair) → HasComeFrom C.set starts code.old.program budget from before (thread_in C.machine self.old)
+            → (pairs : List Pair) × (Leads P.replies port.old pairs port.new × RestsBy C.set starts (P.refuses port.new) code.old.program budget from (before ++ pairs) result (thread_in C.machine self.new)) }
         ensures within { RestsWithin budget result (thread_in C.machine self.new) }
         ensures starts { result ≡ Rest.Starts → starts ≡ true }
     {

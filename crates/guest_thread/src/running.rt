@@ -6,7 +6,7 @@ ghost use Rattle.history.specs.Started.{MayAct};
 ghost use Rattle.shared_memory.specs.Seen.{IsFront, IsSingle};
 ghost use Rattle.guest_core.specs.Machine.{between};
 ghost use Rattle.guest_calls.specs.Bound.{most_accesses_in};
-ghost use Rattle.guest_thread.specs.Outcome.{IsEndOnOf};
+ghost use Rattle.guest_thread.specs.Outcome.{IsEndOn};
 
 use crate::ends::GuestEnd;
 use crate::guests::Guest;
@@ -45,7 +45,7 @@ pub fn run_thread<M: SharedMemory, C: Core, R: Wait>(
     requires between { C.machine cpu ≡ between (C.machine cpu).state }
     requires empty { out ≡ [] }
     requires budget { budget ≤ most_budget }
-    ensures end { IsEndOnOf C.set code.entry.program (M.origin mem.now).size budget (C.machine cpu) (M.seen result.pass) result.end }
+    ensures end { IsEndOn C.set code.entry.program (M.origin mem.now).size budget (C.machine cpu) (M.seen result.pass) result.end }
     ensures spends { (addr : ℕ) → result.end.stop ≡ Stop.TagLimit addr → (M.origin mem.now).spends ≡ true }
     ensures thread { IsSingle result.end.thread (M.numbers pass) }
     ensures single { IsSingle result.end.thread (M.numbers result.pass) }

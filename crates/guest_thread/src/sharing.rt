@@ -1,10 +1,9 @@
 //! A thread's part in a memory that threads share.
-ghost use Rattle.std.specs.Prelude.{◌≡◌, ◌≤◌, ◌^◌, ◌+◌, IfNone, IfSome};
+ghost use Rattle.std.specs.Prelude.{◌≡◌, ◌+◌};
 ghost use Rattle.history.specs.Started.{MayAct};
 ghost use Rattle.shared_memory.specs.Seen.{IsSingle};
 ghost use Rattle.guest_thread.specs.Counting.{accesses_counted};
 ghost use Rattle.guest_thread.specs.Sharing.{IsServedBy};
-ghost use Rattle.guest_core.specs.Ports.{IsAskIn, IsRefused, ReplyFits};
 ghost use Rattle.llsc_base.specs.declared.outside.Ask.{Ask};
 
 use crate::counts::Counts;

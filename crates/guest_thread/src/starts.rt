@@ -1,6 +1,6 @@
 //! Where a thread's core begins.
 ghost use Rattle.std.specs.Prelude.{◌≡◌, ◌<◌};
-ghost use Rattle.guest_thread.specs.Start.{thread_start_of};
+ghost use Rattle.guest_thread.specs.Start.{thread_start};
 
 use guest_core::Core;
 use llsc_base::{Image, MachineSize};
@@ -10,7 +10,7 @@ use llsc_base::{Image, MachineSize};
 /// `t` is below the machine's threads.
 pub fn start_cpu<C: Core>(image: &Image, size: &MachineSize, first: u32, t: u32) -> C
     requires { t < size.now.threads }
-    ensures { C.machine result ≡ thread_start_of C.set image.now size.now first t }
+    ensures { C.machine result ≡ thread_start C.set image.now size.now first t }
 {
     let stack = size.room() + 4096 * (t + 1);
     C::start(image.entry(), t, first, stack)

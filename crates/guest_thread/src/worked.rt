@@ -1,30 +1,14 @@
-//! Worked cases of where a thread begins, of what memory makes of what it asks, and of what is counted.
+//! Worked cases of what memory makes of what it asks, and of what is counted.
 ghost use Rattle.std.specs.Prelude.{◌≡◌, ◌∷◌, ◌++◌, [], false, true, None, Some, replicate};
 ghost use Rattle.llsc_base.specs.Images.{program_of};
-ghost use Rattle.history.specs.Monitor.{at_rest, marked_row, monitor_after};
-ghost use Rattle.guest_core.specs.Phase.{Between};
+ghost use Rattle.history.specs.Monitor.{at_rest, monitor_after};
 ghost use Rattle.guest_thread.specs.Accesses.{access_by, monitor_of, tried_by};
 ghost use Rattle.guest_thread.specs.Counting.{AreCounts};
 ghost use Rattle.guest_thread.specs.Counts.{fails_in, fails_of, reads_in, reads_of, writes_in, writes_of};
-ghost use Rattle.guest_thread.specs.Start.{first_state, thread_start};
-ghost use Rattle.guest_thread.specs.Worked.{access, leaving, machine_of, store_of, word};
+ghost use Rattle.guest_thread.specs.Worked.{access, machine_of, store_of, word};
 
 use llsc_base::Ask;
 use history::{Cause, Deed, Entry};
-
-/// A thread begins at the entry with its number in r0 and the number of those that begin by themselves in r1; its stack is
-/// the page of its number behind the room, and r13 has the end of it. All else is 0.
-pub fn threads_at_their_start()
-    ensures registers { (thread_start leaving (machine_of 2 1 1) 2 0).state.regs ≡ 0 ∷ 2 ∷ replicate 11 0 ++ 61440 ∷ 0 ∷ [] }
-    ensures next_thread { (thread_start leaving (machine_of 2 1 1) 2 1).state.regs ≡ 1 ∷ 2 ∷ replicate 11 0 ++ 65536 ∷ 0 ∷ [] }
-    ensures one_begins { (thread_start leaving (machine_of 2 1 1) 1 0).state.regs ≡ 0 ∷ 1 ∷ replicate 11 0 ++ 61440 ∷ 0 ∷ [] }
-    ensures flags { (thread_start leaving (machine_of 2 1 1) 2 0).state.flags ≡ record { n = false; z = false; c = false; v = false } }
-    ensures entry { (thread_start (program_of [] [] 4096) (machine_of 2 1 1) 2 0).state.pc ≡ 4096 }
-    ensures phase { (thread_start leaving (machine_of 2 1 1) 2 0).phase ≡ Between }
-    ensures replies { (thread_start leaving (machine_of 2 1 1) 2 0).replies ≡ [] }
-    ensures steps { (first_state leaving (machine_of 2 1 1) 2 0).steps ≡ 0 }
-    ensures output { (first_state leaving (machine_of 2 1 1) 2 0).output ≡ [] }
-{}
 
 /// What is tried by an ask: the same access, a load with no value yet.
 pub fn accesses_that_are_tried()
@@ -52,11 +36,11 @@ pub fn accesses_that_are_made()
 /// Memory and the marks begin as the program has them and no thread has any, and stand after accesses as these leave them.
 #[tactic(auto, unfolding(llsc_base::specs::Memory::row_of, llsc_base::specs::Memory::bytes_of))]
 pub fn memory_of_a_run()
-    ensures begins { (monitor_of leaving (machine_of 2 1 1) []).memory ≡ leaving.bytes }
-    ensures unmarked { (monitor_of leaving (machine_of 2 1 1) []).marks ≡ None ∷ None ∷ [] }
-    ensures marked { (monitor_of leaving (machine_of 2 1 1) (access 1 Deed.LoadEx 0 ∷ [])).marks ≡ None ∷ Some 1 ∷ [] }
+    ensures begins { (monitor_of (program_of (5 ∷ replicate 15 7) [] 0) (machine_of 2 1 1) []).memory ≡ 5 ∷ replicate 15 7 }
+    ensures unmarked { (monitor_of (program_of (replicate 16 0) [] 0) (machine_of 2 1 1) []).marks ≡ None ∷ None ∷ [] }
+    ensures marked { (monitor_of (program_of (replicate 16 0) [] 0) (machine_of 2 1 1) (access 1 Deed.LoadEx 0 ∷ [])).marks ≡ None ∷ Some 1 ∷ [] }
     ensures stored { (monitor_of (program_of (replicate 16 0) [] 0) (machine_of 2 1 1) (access 1 Deed.Store 5 ∷ [])).memory ≡ replicate 8 0 ++ 5 ∷ replicate 7 0 }
-    ensures granule { (monitor_of leaving (record { mem = 65536; threads = 2; classes = 1; limit = 1; granule = 3 }) []).granule ≡ 3 }
+    ensures granule { (monitor_of (program_of (replicate 16 0) [] 0) (record { mem = 65536; threads = 2; classes = 1; limit = 1; granule = 3 }) []).granule ≡ 3 }
 {}
 
 /// A load counts once, exclusive or not, so does a store that is made, and a store-exclusive that fails; nothing else does.

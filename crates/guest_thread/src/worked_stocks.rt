@@ -1,8 +1,8 @@
 //! Worked cases of threads that a thread starts: what the call answers, and runs with a stock of numbers.
-ghost use Rattle.std.specs.Prelude.{◌≡◌, ◌∷◌, [], Some, None};
+ghost use Rattle.std.specs.Prelude.{◌≡◌, ◌∷◌, []};
 ghost use Rattle.llsc_base.specs.declared.outside.Stop.{Stop};
-ghost use Rattle.guest_calls.specs.Worked.{call, calling, thread_at};
-ghost use Rattle.guest_thread.specs.StockRun.{Comes, IsStockRun, start_answer, starts_after};
+ghost use Rattle.guest_calls.specs.Worked.{call};
+ghost use Rattle.guest_thread.specs.StockRun.{start_answer, starts_after};
 
 use llsc_base::Stop;
 
@@ -24,16 +24,4 @@ pub fn threads_that_a_call_starts()
         ≡ record { child = 2; entry = 4096; arg = 7; place = 3 } ∷ record { child = 3; entry = 8192; arg = 9; place = 5 } ∷ [] }
     ensures none_left { starts_after (record { first = 2; count = 0 }) 3 [] (call 983041 4096 7 0) ≡ [] }
     ensures bad_entry { starts_after (record { first = 2; count = 2 }) 3 [] (call 983041 4098 7 0) ≡ [] }
-{}
-
-/// A thread with a stock starts another, has its number in r0 and goes on behind the call, which is a step; without one it starts
-/// none.
-pub fn runs_with_a_stock()
-    ensures starts { Comes (Some (record { first = 2; count = 1 })) calling 1 (thread_at 0 4096 7 0 983041) []
-        (record { child = 2; entry = 4096; arg = 7; place = 0 } ∷ []) (record { machine = thread_at 4 2 7 0 983041; steps = 1; output = [] }) }
-    ensures ends { IsStockRun (Some (record { first = 2; count = 1 })) calling 1 (thread_at 0 4096 7 0 983041) []
-        (record { child = 2; entry = 4096; arg = 7; place = 0 } ∷ []) Stop.Budget 1 [] }
-    ensures none_left { IsStockRun (Some (record { first = 2; count = 0 })) calling 1 (thread_at 0 4096 7 0 983041) [] [] Stop.Budget 1 [] }
-    ensures without { ¬ IsStockRun None calling 1 (thread_at 0 4096 7 0 983041) []
-        (record { child = 2; entry = 4096; arg = 7; place = 0 } ∷ []) Stop.Budget 1 [] }
 {}

@@ -11,7 +11,7 @@ use Rattle.guest_thread.specs.declared.pieces.Part.{Part}
 
 -- its pass is of this memory and holds the number alone of a thread that may act, it is between two instructions, it counts few accesses,
 -- and it has made no more steps
-pub record MayGoOn {P : Type 0} (home : P → TableId) (numbers : P → ℕ → Bool) (seen : P → List Entry) (mem : TableId) (origin : Origin) (upto : ℕ) (part : Part P) : Type 0 where
+pub record MayGoOn {P : Type 0} (home : P → TableId) (numbers : P → ℕ → Bool) (seen : P → List Entry) (mem : TableId) (origin : Origin) (upto : ℕ) (part : Part P Machine) : Type 0 where
   pub memory : home part.pass ≡ mem
   pub single : (t : ℕ) × IsSingle t (numbers part.pass) × (MayAct origin.first t (seen part.pass))
   pub between : part.cpu ≡ between part.cpu.state

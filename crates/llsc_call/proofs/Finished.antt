@@ -16,7 +16,7 @@ use Rattle.guest_core.specs.Machine.{InstructionSet}
 use Rattle.a32_step.specs.Machine.{a32}
 use Rattle.guest_thread.specs.BegunOutcome.{AreBegunEnds, IsOutcomeFrom}
 use Rattle.guest_thread.specs.Counting.{accesses_counted, counts_in}
-use Rattle.guest_thread.specs.Outcome.{AreEndsOnOf, IsOutcomeOf}
+use Rattle.guest_thread.specs.Outcome.{AreEndsOn, IsOutcome}
 use Rattle.guest_thread.specs.declared.ends.GuestEnd.{GuestEnd}
 use Rattle.guest_thread.proofs.Unstarted.{outcome_from}
 use Rattle.llsc_call.specs.Beside.{AreCells, Ran, RanFrom, left_by}
@@ -49,11 +49,11 @@ closed_cells program size bytes history seen cells same begins count each =
 
 -- the threads of a closed memory
 pub ran : {I S : Type 0} (set : InstructionSet I S) (program : Program) (size : Numbers) (budget first spare : ℕ) (bytes : List ℕ) (history seen : List Entry) (ends : List GuestEnd) (cells : List ℕ)
-    → history ≡ seen → bytes ≡ program.bytes → first ≡ size.threads → spare ≡ 0 → IsLegal size bytes seen → IsComplete seen → AreBorn first spare seen → AreEndsOnOf set program size budget seen ends → KeepsVersions size seen
+    → history ≡ seen → bytes ≡ program.bytes → first ≡ size.threads → spare ≡ 0 → IsLegal size bytes seen → IsComplete seen → AreBorn first spare seen → AreEndsOn set program size budget seen ends → KeepsVersions size seen
     → HasSums ends → AreCells size (left_by program size history) cells
     → Ran set program size budget history ends cells
 ran set program size budget first spare bytes history seen ends cells same begins all none legal complete born are versions sums cells_are = record {
-  outcome = subst (λ h. IsOutcomeOf set program size budget h ends) (sym same)
+  outcome = subst (λ h. IsOutcome set program size budget h ends) (sym same)
       (record { legal = subst (λ b. IsLegal size b seen) begins legal; complete = complete; born = subst (λ n. AreBorn size.threads n seen) none (subst (λ n. AreBorn n spare seen) all born); ends = are });
   versions = subst (λ h. KeepsVersions size h) (sym same) versions;
   sums = sums;
@@ -62,11 +62,11 @@ ran set program size budget first spare bytes history seen ends cells same begin
 
 -- and of one on which threads start others
 pub ran_from : (program : Program) (size : Numbers) (budget first spare : ℕ) (bytes : List ℕ) (history seen : List Entry) (ends : List GuestEnd) (cells : List ℕ)
-    → history ≡ seen → bytes ≡ program.bytes → IsLegal size bytes seen → IsComplete seen → AreBorn first spare seen → AreBegunEnds program size first spare budget seen ends
+    → history ≡ seen → bytes ≡ program.bytes → IsLegal size bytes seen → IsComplete seen → AreBorn first spare seen → AreBegunEnds a32 program size first spare budget seen ends
     → KeepsVersions size seen → HasSums ends → AreCells size (left_by program size history) cells
     → RanFrom program size first spare budget history ends cells
 ran_from program size budget first spare bytes history seen ends cells same begins legal complete born are versions sums cells_are = record {
-  outcome = subst (λ h. IsOutcomeFrom program size first spare budget h ends) (sym same)
+  outcome = subst (λ h. IsOutcomeFrom a32 program size first spare budget h ends) (sym same)
       (record { legal = subst (λ b. IsLegal size b seen) begins legal; complete = complete; born = born; ends = are });
   versions = subst (λ h. KeepsVersions size h) (sym same) versions;
   sums = sums;
@@ -79,8 +79,8 @@ pub unstarted : (program : Program) (size : Numbers) (budget first spare : ℕ) 
 unstarted program size budget first spare history ends cells none all ran =
     let threads : size.threads ≡ first = sym all ∙ (rw none (mul-one first)) in
     record {
-      outcome = subst (λ n. IsOutcomeFrom program size first n budget history ends) (sym none)
-          (subst (λ n. IsOutcomeFrom program size n 0 budget history ends) threads (outcome_from program size budget history ends ran.outcome));
+      outcome = subst (λ n. IsOutcomeFrom a32 program size first n budget history ends) (sym none)
+          (subst (λ n. IsOutcomeFrom a32 program size n 0 budget history ends) threads (outcome_from a32 program size budget history ends ran.outcome));
       versions = ran.versions;
       sums = ran.sums;
       left = ran.left;

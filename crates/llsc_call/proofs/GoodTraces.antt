@@ -18,6 +18,7 @@ use Rattle.guest_machine.proofs.Pushed.{made_by}
 use Rattle.run_checker.specs.Verdict.{fits, is_asked, is_load, is_place, AreRight, AsksNext, HasWrongValue, IsRight, Judges, LacksReservation, good}
 use Rattle.run_checker.specs.declared.verdicts.Verdict.TheVariants as verdict
 use Rattle.run_checker.proofs.Right.{right_none, right_push}
+use Rattle.a32_step.specs.Machine.{a32}
 
 -- ---- the access that memory makes of what is asked
 
@@ -77,29 +78,29 @@ reserved_by monitor t Clear lacks = let stores : deed.Clear ≡ deed.StoreEx = l
 
 module _ (program : Program) (size : Numbers) (budget : ℕ) where
   -- what memory makes of a thread's next ask is right
-  made_right : (accesses : List Access) (t : ℕ) (ask : Ask) → AsksNext program size budget accesses t ask
-      → IsRight program size budget accesses (access_by (monitor_of program size accesses) t ask)
+  made_right : (accesses : List Access) (t : ℕ) (ask : Ask) → AsksNext a32 program size budget accesses t ask
+      → IsRight a32 program size budget accesses (access_by (monitor_of program size accesses) t ask)
   made_right accesses t ask next =
       let monitor : Monitor = monitor_of program size accesses in
       record {
         ask = ask;
-        next = subst (λ u. AsksNext program size budget accesses u ask) (sym (made_by monitor t ask)) next;
+        next = subst (λ u. AsksNext a32 program size budget accesses u ask) (sym (made_by monitor t ask)) next;
         asked = asked_by monitor t ask;
         value = value_by monitor t ask;
         reserved = reserved_by monitor t ask;
       }
 
   -- the accesses of turns are right
-  turns_right : (seed x : ℕ) (live : List ℕ) (accesses : List Access) → Takes program size seed budget x live accesses → AreRight program size budget accesses
-  turns_right seed _ _ _ begins = right_none program size budget
+  turns_right : (seed x : ℕ) (live : List ℕ) (accesses : List Access) → Takes a32 program size seed budget x live accesses → AreRight a32 program size budget accesses
+  turns_right seed _ _ _ begins = right_none a32 program size budget
   turns_right seed _ _ _ (makes x live accesses t ask before turn asks) =
-      right_push program size budget accesses (access_by (monitor_of program size accesses) t ask)
+      right_push a32 program size budget accesses (access_by (monitor_of program size accesses) t ask)
       (turns_right seed x live accesses before) (made_right accesses t ask asks)
   turns_right seed _ _ _ (stops x live accesses t stop steps output before turn ends) = turns_right seed x live accesses before
 
 -- a trace's record is good
-pub trace_good : (program : Program) (size : Numbers) (seed budget : ℕ) (accesses : List Access) → IsTrace program size seed budget accesses
-    → Judges program size budget accesses verdict.Good
+pub trace_good : (program : Program) (size : Numbers) (seed budget : ℕ) (accesses : List Access) → IsTrace a32 program size seed budget accesses
+    → Judges a32 program size budget accesses verdict.Good
 trace_good program size seed budget accesses trace =
     good (turns_right program size budget seed trace.0 [] accesses trace.1)
-    (λ t known. all_ended program size seed budget accesses t known trace)
+    (λ t known. all_ended a32 program size seed budget accesses t known trace)

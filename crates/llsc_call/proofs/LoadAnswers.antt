@@ -8,7 +8,7 @@ use Rattle.llsc_base.proofs.Values.{length-values_below}
 use Rattle.elf32.specs.Units.{unit_byte, unit_image}
 use Rattle.elf32.specs.declared.units.Unit.{Unit}
 use Rattle.guest_gen.specs.Counters.{AreInRange, fault_of, is_rounds}
-use Rattle.guest_gen.proofs.Counted.{counters_hold, most}
+use Rattle.counter_runs.proofs.Counted.{counters_hold, most}
 use Rattle.llsc_base.specs.declared.outside.Stop.{Stop}
 use Rattle.llsc_base.specs.declared.outside.Stop.TheVariants as stop
 use Rattle.guest_gen.specs.declared.faults.GenFault.{GenFault}
@@ -123,7 +123,7 @@ guest_unmade threads rounds fault r is alone named = by_range (is_threads thread
 outcome_by : (against : Option (List ℕ)) (story : Option (List Entry)) (seed threads rounds budget status : ℕ) (text : List ℕ)
     → UnlessRun against story (TellsLoad story seed threads rounds budget) status text → (status ≡ 0) ⊎ (status ≡ 1)
     → (history : List Entry) × (ends : List GuestEnd) × ((story ≡ Some history)
-    × (IsOutcome (load_program seed threads rounds) (load_size threads) budget history ends × (KeepsVersions (load_size threads) history
+    × (IsOutcome a32 (load_program seed threads rounds) (load_size threads) budget history ends × (KeepsVersions (load_size threads) history
     × (text ≡ load_text seed threads rounds budget ends))))
 outcome_by (Some name) story seed threads rounds budget status text stands (inl is) = cc (stands.1.0, is)
 outcome_by (Some name) story seed threads rounds budget status text stands (inr is) = cc (stands.1.0, is)
@@ -133,7 +133,7 @@ outcome_by None (Some history) seed threads rounds budget status text tells ran 
 pub load_outcome : (seed threads rounds budget : ℕ) (story : Option (List Entry)) (status : ℕ) (text : List ℕ)
     → AnswersLoad seed threads rounds budget story status text → (status ≡ 0) ⊎ (status ≡ 1)
     → (history : List Entry) × (ends : List GuestEnd) × ((story ≡ Some history)
-    × (IsOutcome (load_program seed threads rounds) (load_size threads) budget history ends × (KeepsVersions (load_size threads) history
+    × (IsOutcome a32 (load_program seed threads rounds) (load_size threads) budget history ends × (KeepsVersions (load_size threads) history
     × (text ≡ load_text seed threads rounds budget ends))))
 load_outcome seed threads rounds budget story status text answers ran =
     outcome_by (load_refusal threads rounds) story seed threads rounds budget status text answers ran

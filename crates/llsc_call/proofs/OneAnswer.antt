@@ -50,7 +50,7 @@ is_one answer status other text more a b = (a.0 ∙ sym b.0, a.1 ∙ sym b.1)
 -- a run alone
 report_one : (program : Program) (size : Numbers) (budget : ℕ) → AreOne (IsReported program size budget)
 report_one program size budget status other text more a b =
-    let same : a.0 ≡ b.0 = one_end_alone program budget (thread_start program size size.threads 0) size.granule program.bytes a.0 b.0 a.1.1 b.1.1 in
+    let same : a.0 ≡ b.0 = one_end_alone a32 program budget (thread_start a32 program size size.threads 0) size.granule program.bytes a.0 b.0 a.1.1 b.1.1 in
     (a.2 ∙ ap (λ end. status_of end.stop) same ∙ sym b.2, a.3 ∙ ap (λ end. report_of budget (end ∷ [])) same ∙ sym b.3)
 
 -- Traces.
@@ -64,31 +64,31 @@ same_run one two threads budget granule accesses =
     ∙ ap (λ l. record two { accesses = l }) accesses
 
 one_run : (program : Program) (size : Numbers) (seed budget : ℕ) (run other : RunRecord)
-    → IsTraceRecord program size seed budget run → IsTraceRecord program size seed budget other → run ≡ other
+    → IsTraceRecord a32 program size seed budget run → IsTraceRecord a32 program size seed budget other → run ≡ other
 one_run program size seed budget run other a b =
     same_run run other (a.threads ∙ sym b.threads) (a.budget_is ∙ sym b.budget_is) (a.granule_is ∙ sym b.granule_is)
-    (one_trace program size seed budget run.accesses other.accesses a.trace b.trace)
+    (one_trace a32 program size seed budget run.accesses other.accesses a.trace b.trace)
 
 record_one : (program : Program) (size : Numbers) (seed budget : ℕ) → AreOne (IsRecorded program size seed budget)
 record_one program size seed budget status other text more a b =
     let run : a.0 ≡ b.0 = one_run program size seed budget a.0 b.0 a.2.0 b.2.0 in
     let ends : a.1 ≡ b.1 =
-    one_list program size budget (history_of b.0.accesses) a.1 b.1 (subst (λ r. AreEnds program size budget (history_of r.accesses) a.1) run a.2.1.0) b.2.1.0 in
+    one_list program size budget (history_of b.0.accesses) a.1 b.1 (subst (λ r. AreEnds a32 program size budget (history_of r.accesses) a.1) run a.2.1.0) b.2.1.0 in
     (a.2.1.1.0 ∙ ap status_of_all ends ∙ sym b.2.1.1.0, a.2.1.1.1 ∙ ap record_text run ∙ sym b.2.1.1.1)
 
 trace_one : (program : Program) (size : Numbers) (seed budget : ℕ) → AreOne (Traces program size seed budget)
 trace_one program size seed budget status other text more (inl a) (inl b) = record_one program size seed budget status other text more a b
 trace_one program size seed budget status other text more (inr a) (inr b) = (a.1.0 ∙ sym b.1.0, a.1.1 ∙ sym b.1.1)
 trace_one program size seed budget status other text more (inl a) (inr b) =
-    absurd (not_too_long program size seed budget a.0.accesses a.2.0.trace a.2.0.sound.count b.0)
+    absurd (not_too_long a32 program size seed budget a.0.accesses a.2.0.trace a.2.0.sound.count b.0)
 trace_one program size seed budget status other text more (inr a) (inl b) =
-    absurd (not_too_long program size seed budget b.0.accesses b.2.0.trace b.2.0.sound.count a.0)
+    absurd (not_too_long a32 program size seed budget b.0.accesses b.2.0.trace b.2.0.sound.count a.0)
 
 -- Verdicts.
 
 judged_one : (program : Program) (size : Numbers) (run : RunRecord) → AreOne (IsJudged program size run)
 judged_one program size run status other text more a b =
-    let same : a.0 ≡ b.0 = one_verdict program size run.budget run.accesses a.0 b.0 a.1.0 b.1.0 in
+    let same : a.0 ≡ b.0 = one_verdict a32 program size run.budget run.accesses a.0 b.0 a.1.0 b.1.0 in
     (a.1.1.0 ∙ ap verdict_status same ∙ sym b.1.1.0, a.1.1.1 ∙ ap verdict_text same ∙ sym b.1.1.1)
 
 read_one : (format : Format) (mem : ℕ) (file : List ℕ) (read : Result RunRecord RecordFault) → AreOne (JudgesRead format mem file read)

@@ -20,11 +20,12 @@ use Rattle.llsc_call.specs.Load.{AnswersLoad}
 use Rattle.llsc_host.specs.Said.{words_text, read_text}
 use Rattle.llsc_files.specs.Refusals.{machine_of, most_program, solo_size, size_refusal, too_long, Unless}
 use Rattle.llsc_files.specs.Programs.{image_of, program_refusal}
+use Rattle.a32_step.specs.Machine.{a32}
 
 -- a run of a program's one thread, with the report and the status by its stop
 abbrev pub IsReported : Program → Numbers → ℕ → ℕ → List ℕ → Type 0
 IsReported program size budget status text =
-    (end : GuestEnd) × IsSoloEnd program size budget end × (status ≡ status_of end.stop) × (text ≡ report_of budget (end ∷ []))
+    (end : GuestEnd) × IsSoloEnd a32 program size budget end × (status ≡ status_of end.stop) × (text ≡ report_of budget (end ∷ []))
 
 -- the status and the text for a format, so much memory, a budget and the bytes of the file
 abbrev pub AnswersSolo : Format → ℕ → ℕ → List ℕ → ℕ → List ℕ → Type 0

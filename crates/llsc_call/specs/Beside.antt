@@ -8,10 +8,11 @@ use Rattle.history.specs.Parts.{accesses_of}
 use Rattle.history.specs.declared.entry.Entry.{Entry}
 use Rattle.guest_core.specs.Machine.{InstructionSet}
 use Rattle.guest_thread.specs.BegunOutcome.{IsOutcomeFrom}
-use Rattle.guest_thread.specs.Outcome.{IsOutcomeOf}
+use Rattle.guest_thread.specs.Outcome.{IsOutcome}
 use Rattle.guest_thread.specs.declared.ends.GuestEnd.{GuestEnd}
 use Rattle.llsc_report.specs.Report.{HasSums}
 use Rattle.llsc_call.specs.Versions.{KeepsVersions}
+use Rattle.a32_step.specs.Machine.{a32}
 
 -- the memory that a history leaves, from a program's bytes on
 abbrev pub left_by : Program → Numbers → List Entry → List ℕ
@@ -24,7 +25,7 @@ pub record AreCells (size : Numbers) (memory cells : List ℕ) : Type 0 where
 
 -- the threads, of instructions of this set, ended so by a history of memory that is kept by versions, and it left these cells
 pub record Ran {I S : Type 0} (set : InstructionSet I S) (program : Program) (size : Numbers) (budget : ℕ) (history : List Entry) (ends : List GuestEnd) (cells : List ℕ) : Type 0 where
-  pub outcome : IsOutcomeOf set program size budget history ends
+  pub outcome : IsOutcome set program size budget history ends
   pub versions : KeepsVersions size history
   pub sums : HasSums ends
   pub left : AreCells size (left_by program size history) cells
@@ -32,7 +33,7 @@ pub record Ran {I S : Type 0} (set : InstructionSet I S) (program : Program) (si
 -- so many threads began by themselves, each of which could start so many more; all that have begun ended so, by a history of memory
 -- that is kept by versions, and it left these cells
 pub record RanFrom (program : Program) (size : Numbers) (first spare budget : ℕ) (history : List Entry) (ends : List GuestEnd) (cells : List ℕ) : Type 0 where
-  pub outcome : IsOutcomeFrom program size first spare budget history ends
+  pub outcome : IsOutcomeFrom a32 program size first spare budget history ends
   pub versions : KeepsVersions size history
   pub sums : HasSums ends
   pub left : AreCells size (left_by program size history) cells

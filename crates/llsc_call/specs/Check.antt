@@ -16,6 +16,7 @@ use Rattle.llsc_words.specs.declared.formats.Format.{Format}
 use Rattle.llsc_files.specs.Programs.{image_of, program_refusal}
 use Rattle.llsc_host.specs.Said.{refusal_text}
 use Rattle.llsc_files.specs.Refusals.{machine_of, most_program, too_long, Unless}
+use Rattle.a32_step.specs.Machine.{a32}
 
 -- the most bytes of a record's file
 abbrev pub most_record : ℕ
@@ -43,7 +44,7 @@ verdict_status (verdict.Bad index reason) = 7
 -- a verdict on a record of a program's run
 abbrev pub IsJudged : Program → Numbers → RunRecord → ℕ → List ℕ → Type 0
 IsJudged program size run status text =
-    (verdict : Verdict) × (Judges program size run.budget run.accesses verdict × ((status ≡ verdict_status verdict) × (text ≡ verdict_text verdict)))
+    (verdict : Verdict) × (Judges a32 program size run.budget run.accesses verdict × ((status ≡ verdict_status verdict) × (text ≡ verdict_text verdict)))
 
 -- a record is judged on a machine of its threads and its granule, unless there is no such machine or the program has a
 -- fault there

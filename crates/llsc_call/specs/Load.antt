@@ -17,6 +17,7 @@ use Rattle.llsc_call.specs.Run.{UnlessRun}
 use Rattle.llsc_call.specs.Versions.{KeepsVersions}
 use Rattle.llsc_report.specs.Summary.{load_summary}
 use Rattle.llsc_report.specs.Status.{have_left, status_of_all}
+use Rattle.a32_step.specs.Machine.{a32}
 
 -- the machine of so many threads on which a load runs
 abbrev pub load_size : ℕ → Numbers
@@ -52,7 +53,7 @@ abbrev pub IsLoadOf : List Entry → (seed threads rounds budget : ℕ) → ℕ 
 IsLoadOf history seed threads rounds budget status text =
     let program = load_program seed threads rounds in
     let size = load_size threads in
-    (ends : List GuestEnd) × (IsOutcome program size budget history ends × (KeepsVersions size history
+    (ends : List GuestEnd) × (IsOutcome a32 program size budget history ends × (KeepsVersions size history
     × ((status ≡ status_of_all ends) × (text ≡ load_text seed threads rounds budget ends))))
 
 -- threads that ran have a history, and what is printed is by it

@@ -7,7 +7,7 @@ use Rattle.history.specs.declared.entry.Entry.{Entry}
 use Rattle.version_memory.specs.declared.passes.VersionStory.{VersionStory}
 use Rattle.version_memory.specs.Memory.{story_history}
 use Rattle.guest_thread.specs.BegunOutcome.{IsOutcomeFrom}
-use Rattle.guest_thread.specs.Outcome.{IsOutcomeOf}
+use Rattle.guest_thread.specs.Outcome.{IsOutcome}
 use Rattle.guest_thread.specs.declared.ends.GuestEnd.{GuestEnd}
 use Rattle.rv32_guest.specs.Machine.{rv32}
 use Rattle.llsc_words.specs.declared.formats.Format.{Format}
@@ -18,6 +18,7 @@ use Rattle.llsc_host.specs.Said.{refusal_text}
 use Rattle.llsc_report.specs.Report.{report_of}
 use Rattle.llsc_report.specs.Status.{status_of_all}
 use Rattle.llsc_call.specs.Versions.{KeepsVersions}
+use Rattle.a32_step.specs.Machine.{a32}
 
 -- the history that a story has, where there is one
 abbrev pub told : Option VersionStory → Option (List Entry)
@@ -27,8 +28,8 @@ told story = option_map story_history story
 -- so many begin by themselves, and each of these may start so many more. Threads of RISC-V instructions start no others, so that all
 -- begin by themselves.
 abbrev pub IsOutcomeBy : SetName → Program → Numbers → (first spare budget : ℕ) → List Entry → List GuestEnd → Type 0
-IsOutcomeBy A32 program size first spare budget history ends = IsOutcomeFrom program size first spare budget history ends
-IsOutcomeBy Rv32 program size first spare budget history ends = IsOutcomeOf rv32 program size budget history ends
+IsOutcomeBy A32 program size first spare budget history ends = IsOutcomeFrom a32 program size first spare budget history ends
+IsOutcomeBy Rv32 program size first spare budget history ends = IsOutcome rv32 program size budget history ends
 
 -- the report of those ends, where memory was kept by versions, and the status by their stops
 abbrev pub IsReportOf : SetName → List Entry → Program → Numbers → (first spare budget : ℕ) → ℕ → List ℕ → Type 0

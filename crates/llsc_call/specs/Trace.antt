@@ -14,17 +14,18 @@ use Rattle.llsc_report.specs.Status.{status_of_all}
 use Rattle.llsc_files.specs.Programs.{image_of, program_refusal}
 use Rattle.llsc_host.specs.Said.{refusal_text}
 use Rattle.llsc_files.specs.Refusals.{machine_of, Unless}
+use Rattle.a32_step.specs.Machine.{a32}
 
 -- the record of a program's trace with its status, which is by the ends of the threads; or that the trace has too many accesses
 abbrev pub IsRecorded : Program → Numbers → ℕ → ℕ → ℕ → List ℕ → Type 0
 IsRecorded program size seed budget status text =
     (run : RunRecord) × (ends : List GuestEnd)
-    × (IsTraceRecord program size seed budget run × (AreEnds program size budget (history_of run.accesses) ends × ((status ≡ status_of_all ends) × (text ≡ record_text run))))
+    × (IsTraceRecord a32 program size seed budget run × (AreEnds a32 program size budget (history_of run.accesses) ends × ((status ≡ status_of_all ends) × (text ≡ record_text run))))
 
 abbrev pub Traces : Program → Numbers → ℕ → ℕ → ℕ → List ℕ → Type 0
 Traces program size seed budget status text =
     IsRecorded program size seed budget status text
-    ⊎ (IsTooLong program size seed budget × ((status ≡ 4) × (text ≡ refusal_text (codes "TooLong"))))
+    ⊎ (IsTooLong a32 program size seed budget × ((status ≡ 4) × (text ≡ refusal_text (codes "TooLong"))))
 
 -- the status and the text for a format, so many threads, so much memory, a granule, a seed, a budget and the bytes of the
 -- file

@@ -7,7 +7,7 @@ ghost use Rattle.history.specs.declared.entry.Access.{Access};
 ghost use Rattle.history.specs.declared.entry.Entry.{Entry};
 ghost use Rattle.guest_thread.specs.End.{IsEndIn};
 ghost use Rattle.guest_thread.specs.BegunOutcome.{IsOutcomeFrom};
-ghost use Rattle.guest_thread.specs.Outcome.{IsOutcome, IsOutcomeOf};
+ghost use Rattle.guest_thread.specs.Outcome.{IsOutcome};
 ghost use Rattle.rv32_guest.specs.Machine.{rv32};
 ghost use Rattle.guest_thread.specs.Start.{thread_start};
 ghost use Rattle.guest_thread.specs.declared.ends.GuestEnd.{GuestEnd};
@@ -27,6 +27,7 @@ ghost use Rattle.llsc_call.specs.Versions.{KeepsVersions};
 ghost use Rattle.llsc_words.specs.declared.formats.Format.{Format};
 ghost use Rattle.llsc_words.specs.declared.sets.SetName.{SetName};
 ghost use Rattle.llsc_words.specs.Request.{Request};
+ghost use Rattle.a32_step.specs.Machine.{a32};
 
 use run_checker::Verdict;
 
@@ -60,7 +61,7 @@ pub fn loads_have_one_history()
         let program = load_program seed threads rounds in
         let size = load_size threads in
         (history : List Entry) × (ends : List GuestEnd)
-        × ((story ≡ Some history) × (IsOutcome program size budget history ends × (KeepsVersions size history
+        × ((story ≡ Some history) × (IsOutcome a32 program size budget history ends × (KeepsVersions size history
         × (text ≡ load_text seed threads rounds budget ends)))) }
 {}
 
@@ -79,23 +80,23 @@ pub fn loads_count_every_round()
 /// RISC-V instructions these are SC.W and LR.W.
 pub fn store_exclusives_are_exact()
     ensures of_all { (program : Program) (size : Numbers) (budget : ℕ) (history : List Entry) (ends : List GuestEnd) →
-        IsOutcome program size budget history ends → AreStoresExact size program.bytes history }
+        IsOutcome a32 program size budget history ends → AreStoresExact size program.bytes history }
     ensures of_begun { (program : Program) (size : Numbers) (first spare budget : ℕ) (history : List Entry) (ends : List GuestEnd) →
-        IsOutcomeFrom program size first spare budget history ends → AreStoresExact size program.bytes history }
+        IsOutcomeFrom a32 program size first spare budget history ends → AreStoresExact size program.bytes history }
     ensures of_risc_v { (program : Program) (size : Numbers) (budget : ℕ) (history : List Entry) (ends : List GuestEnd) →
-        IsOutcomeOf rv32 program size budget history ends → AreStoresExact size program.bytes history }
+        IsOutcome rv32 program size budget history ends → AreStoresExact size program.bytes history }
 {}
 
 /// The record of a trace is good.
 pub fn traces_are_good()
     ensures { (program : Program) (size : Numbers) (seed budget : ℕ) (accesses : List Access) →
-        IsTrace program size seed budget accesses → Judges program size budget accesses Verdict.Good }
+        IsTrace a32 program size seed budget accesses → Judges a32 program size budget accesses Verdict.Good }
 {}
 
 /// A trace of one thread that a record may have ends as the thread does alone.
 pub fn one_threads_trace_ends_as_alone()
     ensures { (program : Program) (size : Numbers) (seed : ℕ) (run : RunRecord) (end : GuestEnd) →
-        size.threads ≡ 1 → IsTraceRecord program size seed run.budget run → end.thread ≡ 0 →
-        IsEndIn program run.budget (thread_start program size size.threads 0) (history_of run.accesses) end →
-        IsSoloEnd program size run.budget end }
+        size.threads ≡ 1 → IsTraceRecord a32 program size seed run.budget run → end.thread ≡ 0 →
+        IsEndIn a32 program run.budget (thread_start a32 program size size.threads 0) (history_of run.accesses) end →
+        IsSoloEnd a32 program size run.budget end }
 {}

@@ -7,12 +7,13 @@ use Rattle.llsc_base.specs.Images.{Program}
 use Rattle.llsc_base.specs.Sizes.{Numbers}
 use Rattle.history.specs.Monitor.{Monitor}
 use Rattle.history.specs.declared.entry.Access.{Access}
-use Rattle.guest_thread.specs.ThreadState.{ThreadState}
+use Rattle.guest_thread.specs.ThreadState.{ThreadStateOf, thread_in}
 use Rattle.guest_thread.specs.Start.{thread_start}
 use Rattle.guest_thread.specs.Under.{HasCome}
 use Rattle.run_checker.specs.Positions.{AreBrought, BringsOn, IsBrought}
 use Rattle.run_checker.specs.declared.checker.Checker.{Checker}
 use Rattle.guest_thread.proofs.Pushed.{other_push}
+use Rattle.guest_core.specs.Machine.{MachineOf, InstructionSet}
 
 -- a fact of each element, by its index
 abbrev pub EachAt : {X : Type 0} → (ℕ → X → Type 0) → List X → Type 0
@@ -41,25 +42,6 @@ at_set P Q xs i y each others own k d less =
       | inr apart ↦ subst (λ v. Q k v) (sym (get_or-set_other xs i k y d apart)) (others k (get_or xs k d) apart (each k d inside))
     ]
 
--- a thread that was taken out of the others
-pub taken : (program : Program) (size : Numbers) (budget : ℕ) (early : List Access) (checker : Checker) (t : ℕ) (guest : ThreadState)
-    → AreBrought program size budget early checker → t < length checker.guests.items → guest ≡ get_or checker.guests.items t guest
-    → IsBrought program size budget early t guest
-taken program size budget early checker t guest brought known is =
-    subst (IsBrought program size budget early t) (sym is) (brought.guests t guest known)
-
--- an access that brings its thread and memory on brings all of them on
-pub all_brought : (program : Program) (size : Numbers) (budget : ℕ) (early : List Access) (access : Access) (checker : Checker) (guest : ThreadState) (memory : Monitor)
-    → AreBrought program size budget early checker → BringsOn program size budget early access guest memory
-    → AreBrought program size budget (early ++ access ∷ []) (record { guests = with_item checker.guests access.thread guest; memory = memory })
-all_brought program size budget early access checker guest memory brought step = record {
-  guests =
-      at_set (IsBrought program size budget early) (IsBrought program size budget (early ++ access ∷ [])) checker.guests.items access.thread guest brought.guests
-      (λ k other apart come. subst (λ pairs. HasCome program budget (thread_start program size size.threads k) pairs other) (sym (other_push k early access (λ same. apart (sym same)))) come)
-      step.brought;
-  memory = step.left;
-}
-
 -- what follows for what an option has, and for none
 pub weaker_some : {X : Type 0} (o : Option X) (P Q : X → Type 0) → ((x : X) → P x → Q x) → IfSome o P → IfSome o Q
 weaker_some None P Q more known = tt
@@ -68,3 +50,23 @@ weaker_some (Some x) P Q more known = more x known
 pub weaker_none : {X : Type 0} (o : Option X) (P Q : Type 0) → (P → Q) → IfNone o P → IfNone o Q
 weaker_none None P Q more known = more known
 weaker_none (Some x) P Q more known = tt
+
+module _ {I S : Type 0} (set : InstructionSet I S) {C R : Type 0} (machine : C → MachineOf I S) where
+  -- a thread that was taken out of the others
+  pub taken : (program : Program) (size : Numbers) (budget : ℕ) (early : List Access) (checker : Checker C R) (t : ℕ) (guest : ThreadStateOf C)
+      → AreBrought set machine program size budget early checker → t < length checker.guests.items → guest ≡ get_or checker.guests.items t guest
+      → IsBrought set machine program size budget early t guest
+  taken program size budget early checker t guest brought known is =
+      subst (IsBrought set machine program size budget early t) (sym is) (brought.guests t guest known)
+
+  -- an access that brings its thread and memory on brings all of them on
+  pub all_brought : (program : Program) (size : Numbers) (budget : ℕ) (early : List Access) (access : Access) (checker : Checker C R) (guest : ThreadStateOf C) (memory : Monitor)
+      → AreBrought set machine program size budget early checker → BringsOn set machine program size budget early access guest memory
+      → AreBrought set machine {R = R} program size budget (early ++ access ∷ []) (record { guests = with_item checker.guests access.thread guest; memory = memory })
+  all_brought program size budget early access checker guest memory brought step = record {
+    guests =
+        at_set (IsBrought set machine program size budget early) (IsBrought set machine program size budget (early ++ access ∷ [])) checker.guests.items access.thread guest brought.guests
+        (λ k other apart come. subst (λ pairs. HasCome set program budget (thread_start set program size size.threads k) pairs (thread_in machine other)) (sym (other_push k early access (λ same. apart (sym same)))) come)
+        step.brought;
+    memory = step.left;
+  }

@@ -25,6 +25,8 @@ use Rattle.run_checker.specs.declared.verdicts.Verdict.TheVariants as verdict
 use Rattle.run_checker.proofs.AskedPairs.{asked_inside}
 use Rattle.guest_thread.proofs.Placed.{asks_placed}
 use Rattle.guest_thread.proofs.Pushed.{monitor_push}
+use Rattle.guest_core.specs.Machine.{InstructionSet}
+use Rattle.guest_core.specs.Sound.{AsksPass, StopsAreOwn}
 
 -- a mark on a row is that row
 on_row : (row : ℕ) (mark : Option ℕ) → is_on row mark ≡ true → mark ≡ Some row
@@ -59,52 +61,53 @@ record IsLarge (program : Program) (size : Numbers) (monitor : Monitor) : Type 0
   bytes : length monitor.memory ≡ length program.bytes
   threads : length monitor.marks ≡ size.threads
 
-module _ (program : Program) (size : Numbers) (budget : ℕ) where
-  -- an access that is right may come next
-  may : (early : List Access) (access : Access) → IsLarge program size (monitor_of program size early) → IsAccess size.threads access
-      → IsRight program size budget early access → MayAccess (monitor_of program size early) (entry_of access)
-  may early access large access_is right =
-      let monitor = monitor_of program size early in
-      let known : access.thread < length monitor.marks = subst (λ n. access.thread < n) (sym large.threads) access_is.thread in
-      may_by monitor access.deed access.thread access.place access.value known
-      (λ other. record {
-        known = known;
-        aligned = access_is.formed.aligned;
-        inside = subst (λ n. access.place.addr + size_bytes access.place.size ≤ n) (sym large.bytes)
-            (asked_inside (length program.bytes) right.ask access right.asked
-            (asks_placed program budget (thread_start program size size.threads access.thread) tt (pairs_in access.thread early) right.ask right.next) other);
-        fits = access_is.formed.fits;
-      })
-      right.value
-      right.reserved
+module _ {I S : Type 0} (set : InstructionSet I S) (passes : AsksPass set) (own : StopsAreOwn set) where
+  module _ (program : Program) (size : Numbers) (budget : ℕ) where
+    -- an access that is right may come next
+    may : (early : List Access) (access : Access) → IsLarge program size (monitor_of program size early) → IsAccess size.threads access
+        → IsRight set program size budget early access → MayAccess (monitor_of program size early) (entry_of access)
+    may early access large access_is right =
+        let monitor = monitor_of program size early in
+        let known : access.thread < length monitor.marks = subst (λ n. access.thread < n) (sym large.threads) access_is.thread in
+        may_by monitor access.deed access.thread access.place access.value known
+        (λ other. record {
+          known = known;
+          aligned = access_is.formed.aligned;
+          inside = subst (λ n. access.place.addr + size_bytes access.place.size ≤ n) (sym large.bytes)
+              (asked_inside (length program.bytes) right.ask access right.asked
+              (asks_placed set passes own program budget (thread_start set program size size.threads access.thread) tt (pairs_in access.thread early) right.ask right.next) other);
+          fits = access_is.formed.fits;
+        })
+        right.value
+        right.reserved
 
-  -- the later of some right accesses are allowed
-  legal_from : (early later : List Access) → IsLarge program size (monitor_of program size early) → AreRight program size budget (early ++ later)
-      → All (IsAccess size.threads) later → IsArmLegal (monitor_of program size early) (history_of later)
-  legal_from early [] large right are = tt
-  legal_from early (access ∷ later) large right are =
-      let next : MayAccess (monitor_of program size early) (entry_of access) =
-      may early access large (All-head (IsAccess size.threads) access later are) (right early later access refl) in
-      let grown = IsAsLarge-accessed (monitor_of program size early) (entry_of access) next in
-      let moved = monitor_push program size early access in (
-        next,
-        subst (λ (m : Monitor). IsArmLegal m (history_of later)) moved
-            (legal_from (early ++ access ∷ []) later
-            (subst (IsLarge program size) (sym moved) (record { bytes = grown.bytes ∙ large.bytes; threads = grown.threads ∙ large.threads }))
-            (subst (AreRight program size budget) (sym (append_assoc early (access ∷ []) later)) right)
-            (All-tail (IsAccess size.threads) access later are)),
-      )
+    -- the later of some right accesses are allowed
+    legal_from : (early later : List Access) → IsLarge program size (monitor_of program size early) → AreRight set program size budget (early ++ later)
+        → All (IsAccess size.threads) later → IsArmLegal (monitor_of program size early) (history_of later)
+    legal_from early [] large right are = tt
+    legal_from early (access ∷ later) large right are =
+        let next : MayAccess (monitor_of program size early) (entry_of access) =
+        may early access large (All-head (IsAccess size.threads) access later are) (right early later access refl) in
+        let grown = IsAsLarge-accessed (monitor_of program size early) (entry_of access) next in
+        let moved = monitor_push program size early access in (
+          next,
+          subst (λ (m : Monitor). IsArmLegal m (history_of later)) moved
+              (legal_from (early ++ access ∷ []) later
+              (subst (IsLarge program size) (sym moved) (record { bytes = grown.bytes ∙ large.bytes; threads = grown.threads ∙ large.threads }))
+              (subst (AreRight set program size budget) (sym (append_assoc early (access ∷ []) later)) right)
+              (All-tail (IsAccess size.threads) access later are)),
+        )
 
-  -- right accesses are allowed
-  pub right_legal : (accesses : List Access) → AreRight program size budget accesses → All (IsAccess size.threads) accesses
-      → IsArmLegal (at_rest_by size.granule program.bytes size.threads) (history_of accesses)
-  right_legal accesses right are =
-      legal_from [] accesses (record { bytes = refl; threads = length-replicate size.threads None }) right are
+    -- right accesses are allowed
+    pub right_legal : (accesses : List Access) → AreRight set program size budget accesses → All (IsAccess size.threads) accesses
+        → IsArmLegal (at_rest_by size.granule program.bytes size.threads) (history_of accesses)
+    right_legal accesses right are =
+        legal_from [] accesses (record { bytes = refl; threads = length-replicate size.threads None }) right are
 
-  -- those of a good record are right
-  pub good_right : (accesses : List Access) → Judges program size budget accesses verdict.Good → AreRight program size budget accesses
-  good_right accesses (good right stopped) = right
+    -- those of a good record are right
+    pub good_right : (accesses : List Access) → Judges set program size budget accesses verdict.Good → AreRight set program size budget accesses
+    good_right accesses (good right stopped) = right
 
-  -- and each thread has stopped
-  pub good_stopped : (accesses : List Access) (t : ℕ) → Judges program size budget accesses verdict.Good → t < size.threads → HasEnded program size budget accesses t
-  good_stopped accesses t (good right stopped) known = stopped t known
+    -- and each thread has stopped
+    pub good_stopped : (accesses : List Access) (t : ℕ) → Judges set program size budget accesses verdict.Good → t < size.threads → HasEnded set program size budget accesses t
+    good_stopped accesses t (good right stopped) known = stopped t known

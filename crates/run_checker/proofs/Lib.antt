@@ -5,7 +5,3 @@ pub mod LegalRecords
 pub mod Makes
 pub mod EachThread
 pub mod Judging
-pub mod SmallRuns
-pub mod SmallVerdicts
-pub mod SmallJudgements
-pub mod SmallTaking

@@ -5,11 +5,11 @@ use Rattle.llsc_base.specs.Sizes.{Numbers}
 use Rattle.history.specs.Monitor.{Monitor, accessed}
 use Rattle.history.specs.declared.entry.Access.{Access}
 use Rattle.llsc_base.specs.declared.outside.Ask.{Ask}
-use Rattle.a32_step.specs.Machine.{Machine}
+use Rattle.guest_core.specs.Machine.{MachineOf, InstructionSet}
 use Rattle.guest_calls.specs.Run.{Pair}
 use Rattle.guest_calls.specs.Pairs.{pair_of, pairs_in}
 use Rattle.history.specs.Accesses.{entry_of}
-use Rattle.guest_thread.specs.ThreadState.{ThreadState}
+use Rattle.guest_thread.specs.ThreadState.{ThreadStateOf, thread_in}
 use Rattle.guest_thread.specs.Start.{thread_start}
 use Rattle.guest_thread.specs.Under.{HasCome, Awaits}
 use Rattle.guest_thread.specs.Accesses.{monitor_of}
@@ -19,26 +19,27 @@ use Rattle.run_checker.specs.Positions.{BringsOn}
 use Rattle.run_checker.proofs.AskedPairs.{asked_pair}
 use Rattle.guest_thread.proofs.Pushed.{own_push, monitor_push}
 
-pub brings_on : (program : Program) (size : Numbers) (budget : ℕ) (early : List Access) (access : Access) (asked : Ask) (reply : ℕ) (waits goes : ThreadState) (memory after : Monitor)
-    → AsksNext program size budget early access.thread asked
-    → Awaits program budget (thread_start program size size.threads access.thread) (pairs_in access.thread early) asked waits
-    → is_asked asked access ≡ true
-    → memory ≡ monitor_of program size early → IsServed memory access after
-    → reply ≡ (pair_of (entry_of access)).1
-    → ((p : Program) (b : ℕ) (start : Machine) (pairs : List Pair) (ask : Ask) → Awaits p b start pairs ask waits → HasCome p b start (pairs ++ (ask, reply) ∷ []) goes)
-    → BringsOn program size budget early access goes after
-brings_on program size budget early access asked reply waits goes memory after next awaits as_asked was served replied given = record {
-  right = record {
-    ask = asked;
-    next = next;
-    asked = as_asked;
-    value = λ has. served.value (subst (λ m. HasWrongValue m access) (sym was) has);
-    reserved = λ lacks. served.reserved (subst (λ m. LacksReservation m access) (sym was) lacks);
-  };
-  brought =
-      let start = thread_start program size size.threads access.thread in
-      let pairs = pairs_in access.thread early in
-      let pair : (asked, reply) ≡ pair_of (entry_of access) = ap (λ r. (asked, r)) replied ∙ sym (asked_pair asked access as_asked) in
-      subst (λ ps. HasCome program budget start ps goes) (ap (λ p. pairs ++ p ∷ []) pair ∙ sym (own_push early access)) (given program budget start pairs asked awaits);
-  left = served.moved ∙ ap (λ m. accessed m (entry_of access)) was ∙ sym (monitor_push program size early access);
-}
+module _ {I S : Type 0} (set : InstructionSet I S) {C : Type 0} (machine : C → MachineOf I S) where
+  pub brings_on : (program : Program) (size : Numbers) (budget : ℕ) (early : List Access) (access : Access) (asked : Ask) (reply : ℕ) (waits goes : ThreadStateOf C) (memory after : Monitor)
+      → AsksNext set program size budget early access.thread asked
+      → Awaits set program budget (thread_start set program size size.threads access.thread) (pairs_in access.thread early) asked (thread_in machine waits)
+      → is_asked asked access ≡ true
+      → memory ≡ monitor_of program size early → IsServed memory access after
+      → reply ≡ (pair_of (entry_of access)).1
+      → ((p : Program) (b : ℕ) (start : MachineOf I S) (pairs : List Pair) (ask : Ask) → Awaits set p b start pairs ask (thread_in machine waits) → HasCome set p b start (pairs ++ (ask, reply) ∷ []) (thread_in machine goes))
+      → BringsOn set machine program size budget early access goes after
+  brings_on program size budget early access asked reply waits goes memory after next awaits as_asked was served replied given = record {
+    right = record {
+      ask = asked;
+      next = next;
+      asked = as_asked;
+      value = λ has. served.value (subst (λ m. HasWrongValue m access) (sym was) has);
+      reserved = λ lacks. served.reserved (subst (λ m. LacksReservation m access) (sym was) lacks);
+    };
+    brought =
+        let start = thread_start set program size size.threads access.thread in
+        let pairs = pairs_in access.thread early in
+        let pair : (asked, reply) ≡ pair_of (entry_of access) = ap (λ r. (asked, r)) replied ∙ sym (asked_pair asked access as_asked) in
+        subst (λ ps. HasCome set program budget start ps (thread_in machine goes)) (ap (λ p. pairs ++ p ∷ []) pair ∙ sym (own_push early access)) (given program budget start pairs asked awaits);
+    left = served.moved ∙ ap (λ m. accessed m (entry_of access)) was ∙ sym (monitor_push program size early access);
+  }

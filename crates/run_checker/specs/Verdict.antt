@@ -19,6 +19,7 @@ use Rattle.run_checker.specs.declared.verdicts.Reason.{Reason}
 use Rattle.run_checker.specs.declared.verdicts.Reason.TheVariants as reason
 use Rattle.run_checker.specs.declared.verdicts.Verdict.{Verdict}
 use Rattle.run_checker.specs.declared.verdicts.Verdict.TheVariants as verdict
+use Rattle.guest_core.specs.Machine.{InstructionSet}
 
 -- places are the same
 abbrev pub is_place : Place → Place → Bool
@@ -52,51 +53,52 @@ abbrev pub LacksReservation : Monitor → Access → Type 0
 LacksReservation monitor access =
     (access.deed ≡ deed.StoreEx) × (is_on (row_of monitor.granule access.place) (marked_row monitor access.thread) ≡ false)
 
--- A thread's next ask, after the accesses before.
-abbrev pub AsksNext : Program → Numbers → ℕ → List Access → ℕ → Ask → Type 0
-AsksNext program size budget before t ask = Asks program budget (thread_start program size size.threads t) (pairs_in t before) ask
+module _ {I S : Type 0} (set : InstructionSet I S) where
+  -- A thread's next ask, after the accesses before.
+  abbrev pub AsksNext : Program → Numbers → ℕ → List Access → ℕ → Ask → Type 0
+  AsksNext program size budget before t ask = Asks set program budget (thread_start set program size size.threads t) (pairs_in t before) ask
 
--- an access is what its thread asks next, and nothing stands against it
-pub record IsRight (program : Program) (size : Numbers) (budget : ℕ) (before : List Access) (access : Access) : Type 0 where
-  pub ask : Ask
-  pub next : AsksNext program size budget before access.thread ask
-  pub asked : is_asked ask access ≡ true
-  pub value : HasWrongValue (monitor_of program size before) access → ⊥
-  pub reserved : LacksReservation (monitor_of program size before) access → ⊥
+  -- an access is what its thread asks next, and nothing stands against it
+  pub record IsRight (program : Program) (size : Numbers) (budget : ℕ) (before : List Access) (access : Access) : Type 0 where
+    pub ask : Ask
+    pub next : AsksNext program size budget before access.thread ask
+    pub asked : is_asked ask access ≡ true
+    pub value : HasWrongValue (monitor_of program size before) access → ⊥
+    pub reserved : LacksReservation (monitor_of program size before) access → ⊥
 
--- Why an access is wrong, the reasons tried in this order: its thread has ended; its thread asks something else next; it
--- is what its thread asks next, but has a wrong value; or it is, but stores without a reservation.
-abbrev pub IsWrong : Program → Numbers → ℕ → List Access → Access → Reason → Type 0
-IsWrong program size budget before access reason.AfterStop = HasEnded program size budget before access.thread
-IsWrong program size budget before access reason.NotAsked =
-    (ask : Ask) × (AsksNext program size budget before access.thread ask × (is_asked ask access ≡ false))
-IsWrong program size budget before access reason.WrongValue =
-    (ask : Ask) × (AsksNext program size budget before access.thread ask × (is_asked ask access ≡ true) × HasWrongValue (monitor_of program size before) access)
-IsWrong program size budget before access reason.NoReservation =
-    (ask : Ask) × (AsksNext program size budget before access.thread ask × (is_asked ask access ≡ true) × LacksReservation (monitor_of program size before) access)
-IsWrong program size budget before access reason.Unfinished = ⊥
+  -- Why an access is wrong, the reasons tried in this order: its thread has ended; its thread asks something else next; it
+  -- is what its thread asks next, but has a wrong value; or it is, but stores without a reservation.
+  abbrev pub IsWrong : Program → Numbers → ℕ → List Access → Access → Reason → Type 0
+  IsWrong program size budget before access reason.AfterStop = HasEnded set program size budget before access.thread
+  IsWrong program size budget before access reason.NotAsked =
+      (ask : Ask) × (AsksNext program size budget before access.thread ask × (is_asked ask access ≡ false))
+  IsWrong program size budget before access reason.WrongValue =
+      (ask : Ask) × (AsksNext program size budget before access.thread ask × (is_asked ask access ≡ true) × HasWrongValue (monitor_of program size before) access)
+  IsWrong program size budget before access reason.NoReservation =
+      (ask : Ask) × (AsksNext program size budget before access.thread ask × (is_asked ask access ≡ true) × LacksReservation (monitor_of program size before) access)
+  IsWrong program size budget before access reason.Unfinished = ⊥
 
--- each access of a list is right where it stands
-abbrev pub AreRight : Program → Numbers → ℕ → List Access → Type 0
-AreRight program size budget accesses =
-    (before after : List Access) (access : Access) → accesses ≡ before ++ access ∷ after → IsRight program size budget before access
+  -- each access of a list is right where it stands
+  abbrev pub AreRight : Program → Numbers → ℕ → List Access → Type 0
+  AreRight program size budget accesses =
+      (before after : List Access) (access : Access) → accesses ≡ before ++ access ∷ after → IsRight program size budget before access
 
--- The verdict on accesses of a program's threads: good, where each access is right and each thread has ended; bad at the
--- first access that is wrong, for the first reason why; or bad behind them all, where each is right and a thread still asks.
-pub data Judges (program : Program) (size : Numbers) (budget : ℕ) (accesses : List Access) : Verdict → Type 0 where
-  good : AreRight program size budget accesses
-      → ((t : ℕ) → t < size.threads → HasEnded program size budget accesses t)
-      → Judges program size budget accesses verdict.Good
-  wrong : (before after : List Access) (access : Access) (why : Reason)
-      → accesses ≡ before ++ access ∷ after
-      → AreRight program size budget before
-      → IsWrong program size budget before access why
-      → Judges program size budget accesses (verdict.Bad (length before) why)
-  unfinished : (t : ℕ) (ask : Ask)
-      → AreRight program size budget accesses
-      → t < size.threads
-      → AsksNext program size budget accesses t ask
-      → Judges program size budget accesses (verdict.Bad (length accesses) reason.Unfinished)
+  -- The verdict on accesses of a program's threads: good, where each access is right and each thread has ended; bad at the
+  -- first access that is wrong, for the first reason why; or bad behind them all, where each is right and a thread still asks.
+  pub data Judges (program : Program) (size : Numbers) (budget : ℕ) (accesses : List Access) : Verdict → Type 0 where
+    good : AreRight program size budget accesses
+        → ((t : ℕ) → t < size.threads → HasEnded set program size budget accesses t)
+        → Judges program size budget accesses verdict.Good
+    wrong : (before after : List Access) (access : Access) (why : Reason)
+        → accesses ≡ before ++ access ∷ after
+        → AreRight program size budget before
+        → IsWrong program size budget before access why
+        → Judges program size budget accesses (verdict.Bad (length before) why)
+    unfinished : (t : ℕ) (ask : Ask)
+        → AreRight program size budget accesses
+        → t < size.threads
+        → AsksNext program size budget accesses t ask
+        → Judges program size budget accesses (verdict.Bad (length accesses) reason.Unfinished)
 
 -- a reason's name
 abbrev pub reason_name : Reason → List ℕ

@@ -4,7 +4,7 @@ ghost use Rattle.std.specs.Bool.{OnFalse, OnTrue};
 ghost use Rattle.llsc_base.specs.Limits.{most_budget};
 ghost use Rattle.llsc_base.specs.Sizes.{Numbers};
 ghost use Rattle.history.specs.Monitor.{IsAsLarge};
-ghost use Rattle.guest_thread.specs.ThreadState.{IsReadyIn};
+ghost use Rattle.guest_thread.specs.ThreadState.{IsReadyIn, thread_in};
 ghost use Rattle.run_record.specs.Limits.{IsAccess};
 ghost use Rattle.guest_thread.specs.Accesses.{monitor_of};
 ghost use Rattle.run_checker.specs.Verdict.{IsRight, IsWrong};
@@ -13,8 +13,8 @@ ghost use Rattle.run_checker.specs.Positions.{AreBrought, BringsOn, HaveEnded, I
 use crate::asked::is_asked;
 use crate::serving::serve;
 use crate::verdicts::Reason;
-use a32_step::Remembering;
 use guest_calls::reply_of;
+use guest_core::Core;
 use guest_thread::{Guest, Turn};
 use history::{Access, PlainMemory};
 use llsc_base::{Image, MachineSize};
@@ -22,17 +22,17 @@ use std::alloc::{AllocError, Global};
 
 /// The threads of a run, in order of number, and their memory, where the accesses so far have brought them.
 #[derive(Drop)]
-pub struct Checker {
-    guests: Vec<Guest<Remembering>>,
+pub struct Checker<C: Core> {
+    guests: Vec<Guest<C>>,
     memory: PlainMemory,
 }
 
-impl Checker {
+impl<C: Core> Checker<C> {
     /// The threads of an image at their start, and memory as it begins.
-    pub fn new(alloc: Global, image: &Image, size: &MachineSize) -> Result<Checker, AllocError>
+    pub fn new(alloc: Global, image: &Image, size: &MachineSize) -> Result<Checker<C>, AllocError>
         requires whole { length image.now.bytes ≡ size.now.mem }
-        ensures ready { IfOk result (λ checker. (budget : ℕ) → MayGoOn (length image.now.bytes) budget checker) }
-        ensures brought { IfOk result (λ checker. (budget : ℕ) → AreBrought image.now size.now budget [] checker) }
+        ensures ready { IfOk result (λ checker. (budget : ℕ) → MayGoOn C.machine (length image.now.bytes) budget checker) }
+        ensures brought { IfOk result (λ checker. (budget : ℕ) → AreBrought C.set C.machine image.now size.now budget [] checker) }
         ensures threads { IfOk result (λ checker. length checker.guests.items ≡ size.now.threads) }
     {
         let (threads, mem) = (size.threads(), size.mem());
@@ -47,14 +47,14 @@ impl Checker {
 
     /// Makes an access as it is recorded, or says why it is wrong.
     pub fn step(&mut self, image: &Image, budget: u64, access: Access) -> Option<Reason>
-        requires ready { MayGoOn (length image.now.bytes) budget self.old }
+        requires ready { MayGoOn C.machine (length image.now.bytes) budget self.old }
         requires budget { budget ≤ most_budget }
         requires access { IsAccess (length self.old.memory.marks) access }
-        ensures wrong { IfSome result (λ why. (size : Numbers) (early : List Access) → AreBrought image.now size budget early self.old
-            → IsWrong image.now size budget early access why) }
-        ensures right { IfNone result ((size : Numbers) (early : List Access) → AreBrought image.now size budget early self.old
-            → IsRight image.now size budget early access × AreBrought image.now size budget (early ++ access ∷ []) self.new) }
-        ensures ready { IfNone result (MayGoOn (length image.now.bytes) budget self.new) }
+        ensures wrong { IfSome result (λ why. (size : Numbers) (early : List Access) → AreBrought C.set C.machine image.now size budget early self.old
+            → IsWrong C.set image.now size budget early access why) }
+        ensures right { IfNone result ((size : Numbers) (early : List Access) → AreBrought C.set C.machine image.now size budget early self.old
+            → IsRight C.set image.now size budget early access × AreBrought C.set C.machine image.now size budget (early ++ access ∷ []) self.new) }
+        ensures ready { IfNone result (MayGoOn C.machine (length image.now.bytes) budget self.new) }
         ensures size { IsAsLarge self.old.memory self.new.memory }
     {
         let guest = &mut self.guests[access.thread as usize];
@@ -63,12 +63,12 @@ impl Checker {
 
     /// Whether some thread still asks for an access.
     pub fn asks(&mut self, image: &Image, budget: u64) -> bool
-        requires ready { MayGoOn (length image.now.bytes) budget self.old }
+        requires ready { MayGoOn C.machine (length image.now.bytes) budget self.old }
         requires budget { budget ≤ most_budget }
-        ensures asks { OnTrue result ((size : Numbers) (early : List Access) → AreBrought image.now size budget early self.old
-            → SomeAsks image.now size budget early (length self.old.guests.items)) }
-        ensures stopped { OnFalse result ((size : Numbers) (early : List Access) → AreBrought image.now size budget early self.old
-            → HaveEnded image.now size budget early (length self.old.guests.items)) }
+        ensures asks { OnTrue result ((size : Numbers) (early : List Access) → AreBrought C.set C.machine image.now size budget early self.old
+            → SomeAsks C.set image.now size budget early (length self.old.guests.items)) }
+        ensures stopped { OnFalse result ((size : Numbers) (early : List Access) → AreBrought C.set C.machine image.now size budget early self.old
+            → HaveEnded C.set image.now size budget early (length self.old.guests.items)) }
     {
         for guest in self.guests.iter_mut() {
             if let Turn::Asks(_) = guest.next(image, budget) {
@@ -80,23 +80,23 @@ impl Checker {
 }
 
 /// Makes an access of a thread as it is recorded, or says why it is wrong.
-fn make(
-    guest: &mut Guest<Remembering>,
+fn make<C: Core>(
+    guest: &mut Guest<C>,
     memory: &mut PlainMemory,
     image: &Image,
     budget: u64,
     access: Access,
 ) -> Option<Reason>
-    requires ready { IsReadyIn (length image.now.bytes) budget guest.old }
+    requires ready { IsReadyIn (length image.now.bytes) budget (thread_in C.machine guest.old) }
     requires small { length image.now.bytes ≤ 16777216 }
     requires budget { budget ≤ most_budget }
     requires bytes { length memory.old.memory ≡ length image.now.bytes }
     requires access { IsAccess (length memory.old.marks) access }
-    ensures wrong { IfSome result (λ why. (size : Numbers) (early : List Access) → IsBrought image.now size budget early access.thread guest.old
-        → memory.old ≡ monitor_of image.now size early → IsWrong image.now size budget early access why) }
-    ensures right { IfNone result ((size : Numbers) (early : List Access) → IsBrought image.now size budget early access.thread guest.old
-        → memory.old ≡ monitor_of image.now size early → BringsOn image.now size budget early access guest.new memory.new) }
-    ensures ready { IfNone result (IsReadyIn (length image.now.bytes) budget guest.new) }
+    ensures wrong { IfSome result (λ why. (size : Numbers) (early : List Access) → IsBrought C.set C.machine image.now size budget early access.thread guest.old
+        → memory.old ≡ monitor_of image.now size early → IsWrong C.set image.now size budget early access why) }
+    ensures right { IfNone result ((size : Numbers) (early : List Access) → IsBrought C.set C.machine image.now size budget early access.thread guest.old
+        → memory.old ≡ monitor_of image.now size early → BringsOn C.set C.machine image.now size budget early access guest.new memory.new) }
+    ensures ready { IfNone result (IsReadyIn (length image.now.bytes) budget (thread_in C.machine guest.new)) }
     ensures size { IsAsLarge memory.old memory.new }
 {
     let Turn::Asks(ask) = guest.next(image, budget) else {

@@ -2,7 +2,7 @@
 //!
 //! [`check_record`] runs the threads again, and compares what they ask with the record and memory with its values;
 //! `specs/Verdict.antt` says which access is wrong, and why. [`laws`] has that accesses have one verdict at most, and that a
-//! good record is what Arm allows; [`worked`] and [`worked_verdicts`] have small cases.
+//! good record is what Arm allows; [`worked`] has small cases.
 #![tactic(auto)]
 
 mod asked;
@@ -12,7 +12,6 @@ mod records;
 mod serving;
 mod verdicts;
 pub mod worked;
-pub mod worked_verdicts;
 
 pub use records::check_record;
 pub use verdicts::{Reason, Verdict};

@@ -1,5 +1,5 @@
 //! The verdict on a record.
-ghost use Rattle.std.specs.Prelude.{◌≡◌, ◌≤◌, [], All, IfOk, ℕ, length};
+ghost use Rattle.std.specs.Prelude.{◌≡◌, ◌≤◌, [], All, IfOk, length};
 ghost use Rattle.llsc_base.specs.Limits.{most_budget};
 ghost use Rattle.llsc_base.specs.Sizes.{Numbers};
 ghost use Rattle.run_record.specs.Limits.{IsAccess, IsRecord, most_accesses};
@@ -8,6 +8,7 @@ ghost use Rattle.run_checker.specs.Positions.{AreBrought, MayGoOn};
 
 use crate::checker::Checker;
 use crate::verdicts::{Reason, Verdict};
+use guest_core::Core;
 use history::Access;
 use llsc_base::{Image, MachineSize};
 use run_record::RunRecord;
@@ -22,7 +23,7 @@ use std::alloc::{AllocError, Global};
 /// # Errors
 ///
 /// `AllocError` is want of memory.
-pub fn check_record(
+pub fn check_record<C: Core>(
     alloc: Global,
     image: &Image,
     size: &MachineSize,
@@ -32,20 +33,20 @@ pub fn check_record(
     requires threads { run.now.threads ≡ size.now.threads }
     requires granule { run.now.granule ≡ size.now.granule }
     requires limits { IsRecord run.now }
-    ensures { IfOk result (λ verdict. Judges image.now size.now run.now.budget run.now.accesses verdict) }
+    ensures { IfOk result (λ verdict. Judges C.set image.now size.now run.now.budget run.now.accesses verdict) }
 {
-    let checker = Checker::new(alloc, image, size)?;
+    let checker = Checker::<C>::new(alloc, image, size)?;
     Ok(verdict_of(checker, image, run.budget, run.accesses.as_slice()))
 }
 
 /// The verdict on accesses, by threads and memory at their start.
-fn verdict_of(mut checker: Checker, image: &Image, budget: u64, accesses: &[Access]) -> Verdict
-    requires ready { MayGoOn (length image.now.bytes) budget checker }
+fn verdict_of<C: Core>(mut checker: Checker<C>, image: &Image, budget: u64, accesses: &[Access]) -> Verdict
+    requires ready { MayGoOn C.machine (length image.now.bytes) budget checker }
     requires budget { budget ≤ most_budget }
     requires few { length accesses.now ≤ most_accesses }
     requires accesses { All (IsAccess (length checker.memory.marks)) accesses.now }
-    ensures { (size : Numbers) → size.threads ≡ length checker.guests.items → AreBrought image.now size budget [] checker
-        → Judges image.now size budget accesses.now result }
+    ensures { (size : Numbers) → size.threads ≡ length checker.guests.items → AreBrought C.set C.machine image.now size budget [] checker
+        → Judges C.set image.now size budget accesses.now result }
 {
     let mut rest = accesses;
     let mut index = 0;

@@ -1,8 +1,9 @@
-//! Worked cases of what an access is compared with: what its thread asks, and memory.
-ghost use Rattle.std.specs.Prelude.{◌≡◌, ◌∷◌, [], false, true};
-ghost use Rattle.run_checker.specs.Verdict.{HasWrongValue, LacksReservation, is_asked, is_load, is_place};
+//! Worked cases of what an access is compared with, what its thread asks and memory, and the names of reasons.
+ghost use Rattle.std.specs.Prelude.{◌≡◌, ◌∷◌, [], codes, false, true};
+ghost use Rattle.run_checker.specs.Verdict.{HasWrongValue, LacksReservation, is_asked, is_load, is_place, reason_name};
 ghost use Rattle.run_checker.specs.Worked.{access_as, beside, low_byte, next_row, word, zeros_after};
 
+use crate::verdicts::Reason;
 use llsc_base::Ask;
 use history::{Deed, Entry};
 
@@ -88,4 +89,13 @@ pub fn reservations_that_are_lacking()
     ensures wider_row { ¬ LacksReservation (zeros_after 1 (Entry.Read 0 next_row 0 true ∷ [])) (access_as Deed.StoreEx word 5) }
     ensures failed { ¬ LacksReservation (zeros_after 0 []) (access_as Deed.StoreFail word 5) }
     ensures plain { ¬ LacksReservation (zeros_after 0 []) (access_as Deed.Store word 5) }
+{}
+
+/// Each reason has its variant's name.
+pub fn names_of_reasons()
+    ensures after_stop { reason_name Reason.AfterStop ≡ codes "AfterStop" }
+    ensures not_asked { reason_name Reason.NotAsked ≡ codes "NotAsked" }
+    ensures wrong_value { reason_name Reason.WrongValue ≡ codes "WrongValue" }
+    ensures no_reservation { reason_name Reason.NoReservation ≡ codes "NoReservation" }
+    ensures unfinished { reason_name Reason.Unfinished ≡ codes "Unfinished" }
 {}

@@ -2,7 +2,7 @@
 ghost use Rattle.std.specs.Prelude.{◌≡◌, length};
 ghost use Rattle.guest_core.specs.Machine.{IsCalling};
 ghost use Rattle.guest_calls.specs.Calls.{call_effect};
-ghost use Rattle.guest_calls.specs.Steps.{step_of, after_call_of, HaveRoom};
+ghost use Rattle.guest_calls.specs.Steps.{step_of, after_call, HaveRoom};
 ghost use Rattle.rv32_guest.specs.Calls.{call_of, number_of};
 ghost use Rattle.rv32_guest.specs.Machine.{rv32};
 
@@ -52,7 +52,7 @@ pub fn call_of(ask: &CallAsk) -> CallAsk
 pub fn rv_call(cpu: &mut RvCpu, ask: &CallAsk, mem: u32, out: &mut Output) -> CallStep
     requires { IsCalling cpu.old.phase }
     ensures step { result ≡ step_of (call_effect (call_of ask.now) mem (length out.old)) }
-    ensures cpu { cpu.new ≡ after_call_of rv32 cpu.old (call_effect (call_of ask.now) mem (length out.old)) }
+    ensures cpu { cpu.new ≡ after_call rv32 cpu.old (call_effect (call_of ask.now) mem (length out.old)) }
     ensures out { out.new ≡ out.old }
     ensures room { HaveRoom mem (length out.old) result }
 {

@@ -5,14 +5,14 @@ ghost use Rattle.history.specs.Parts.{entries_of};
 ghost use Rattle.shared_memory.specs.Seen.{IsFront, IsOneOf};
 ghost use Rattle.guest_thread.specs.Counting.{accesses_counted, counts_in};
 ghost use Rattle.guest_thread.specs.Crews.{IsReady};
-ghost use Rattle.guest_thread.specs.Outcome.{AreEndsOnOf};
+ghost use Rattle.guest_thread.specs.Outcome.{AreEndsOn};
 ghost use Rattle.guest_thread.specs.declared.ends.GuestEnd.{GuestEnd};
 ghost use Rattle.rv32_guest.specs.Machine.{rv32};
 
 use crate::cpu::RvCpu;
 use crate::instructions::RvInstr;
 use llsc_base::{Image, Stop};
-use guest_machine::run_all;
+use guest_thread::run_all;
 use guest_thread::{Crew, Job, Ran, prepare};
 use shared_memory::SharedMemory;
 use std::alloc::{AllocError, Global};
@@ -62,7 +62,7 @@ pub fn run_rv_all<M: SharedMemory, R: Threads + Wait + Sync>(
     requires crew { IsReady rv32 (λ cpu. cpu) M.home M.numbers M.seen (M.id mem.now) (M.origin mem.now) image.now crew }
     requires whole { length image.now.bytes ≡ (M.origin mem.now).size.mem }
     requires budget { budget ≤ most_budget }
-    ensures ends { AreEndsOnOf rv32 image.now (M.origin mem.now).size budget (M.seen result.pass) result.ends.items }
+    ensures ends { AreEndsOn rv32 image.now (M.origin mem.now).size budget (M.seen result.pass) result.ends.items }
     ensures spends { All (λ (end : GuestEnd). (addr : ℕ) → end.stop ≡ Stop.TagLimit addr → (M.origin mem.now).spends ≡ true) result.ends.items }
     ensures few { All (λ (end : GuestEnd). accesses_counted (counts_in end) < 2 ^ 45) result.ends.items }
     ensures numbers { (t : ℕ) → t < (M.origin mem.now).size.threads → IsOneOf t (M.numbers result.pass) }

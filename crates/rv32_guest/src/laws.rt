@@ -8,8 +8,8 @@ ghost use Rattle.llsc_base.specs.declared.outside.Stop.{Stop};
 ghost use Rattle.llsc_base.specs.Effects.{asks, stops};
 ghost use Rattle.llsc_base.specs.Sizes.{Numbers};
 ghost use Rattle.history.specs.declared.entry.Entry.{Entry};
-ghost use Rattle.guest_calls.specs.Run.{Pair, EndsOf, AsksOf};
-ghost use Rattle.guest_thread.specs.Outcome.{IsOutcomeOf};
+ghost use Rattle.guest_calls.specs.Run.{Pair, Ends, Asks};
+ghost use Rattle.guest_thread.specs.Outcome.{IsOutcome};
 ghost use Rattle.guest_thread.specs.declared.ends.GuestEnd.{GuestEnd};
 ghost use Rattle.guest_core.specs.Machine.{next_of, GoesOn, GoesOnWith, PassesTests};
 ghost use Rattle.rv32_guest.specs.Machine.{Machine, rv32};
@@ -98,23 +98,23 @@ pub fn machines_are_sound()
 /// at a word whose effect is left open.
 pub fn runs_end_by_their_own_stops()
     ensures { (program : Program) (budget : ℕ) (start : Machine) (pairs : List Pair) (stop : Stop) (steps : ℕ) (output : List ℕ) → GoesOn start.phase →
-        EndsOf rv32 program budget start pairs stop steps output → IsStop stop }
+        Ends rv32 program budget start pairs stop steps output → IsStop stop }
 {}
 
 /// A history has one outcome at most.
 pub fn histories_have_one_outcome()
     ensures { (program : Program) (size : Numbers) (budget : ℕ) (history : List Entry) (ends others : List GuestEnd) →
-        IsOutcomeOf rv32 program size budget history ends → IsOutcomeOf rv32 program size budget history others → ends ≡ others }
+        IsOutcome rv32 program size budget history ends → IsOutcome rv32 program size budget history others → ends ≡ others }
 {}
 
 /// A guest thread that starts so, with this budget and these accesses and replies, has one end at most, asks one access next at
 /// most, and doesn't ask where it has ended.
 pub fn runs_are_one()
     ensures end { (program : Program) (budget : ℕ) (start : Machine) (pairs : List Pair) (stop other : Stop) (steps count : ℕ) (output text : List ℕ) →
-        EndsOf rv32 program budget start pairs stop steps output → EndsOf rv32 program budget start pairs other count text →
+        Ends rv32 program budget start pairs stop steps output → Ends rv32 program budget start pairs other count text →
         (stop ≡ other) × (steps ≡ count) × (output ≡ text) }
     ensures ask { (program : Program) (budget : ℕ) (start : Machine) (pairs : List Pair) (ask other : Ask) →
-        AsksOf rv32 program budget start pairs ask → AsksOf rv32 program budget start pairs other → ask ≡ other }
+        Asks rv32 program budget start pairs ask → Asks rv32 program budget start pairs other → ask ≡ other }
     ensures ends { (program : Program) (budget : ℕ) (start : Machine) (pairs : List Pair) (ask : Ask) (stop : Stop) (steps : ℕ) (output : List ℕ) →
-        AsksOf rv32 program budget start pairs ask → EndsOf rv32 program budget start pairs stop steps output → ⊥ }
+        Asks rv32 program budget start pairs ask → Ends rv32 program budget start pairs stop steps output → ⊥ }
 {}

@@ -6,7 +6,7 @@ ghost use Rattle.history.specs.Started.{MayAct};
 ghost use Rattle.shared_memory.specs.Seen.{IsFront, IsSingle};
 ghost use Rattle.guest_core.specs.Machine.{between};
 ghost use Rattle.guest_calls.specs.Bound.{most_accesses_in};
-ghost use Rattle.guest_thread.specs.Outcome.{IsEndOnOf};
+ghost use Rattle.guest_thread.specs.Outcome.{IsEndOn};
 ghost use Rattle.rv32_guest.specs.Machine.{rv32};
 
 use crate::cpu::RvCpu;
@@ -40,7 +40,7 @@ pub fn run_rv_thread<M: SharedMemory, R: Wait>(
     requires between { cpu ≡ between cpu.state }
     requires empty { out ≡ [] }
     requires budget { budget ≤ most_budget }
-    ensures end { IsEndOnOf rv32 code.entry.program (M.origin mem.now).size budget cpu (M.seen result.pass) result.end }
+    ensures end { IsEndOn rv32 code.entry.program (M.origin mem.now).size budget cpu (M.seen result.pass) result.end }
     ensures spends { (addr : ℕ) → result.end.stop ≡ Stop.TagLimit addr → (M.origin mem.now).spends ≡ true }
     ensures thread { IsSingle result.end.thread (M.numbers pass) }
     ensures single { IsSingle result.end.thread (M.numbers result.pass) }

@@ -6,10 +6,10 @@ use Rattle.llsc_base.specs.Images.{Program}
 use Rattle.history.specs.Parts.{accesses_of}
 use Rattle.history.specs.declared.entry.Entry.{Entry}
 use Rattle.shared_memory.specs.Origin.{Origin}
-use Rattle.a32_step.specs.Machine.{Machine}
+use Rattle.a32_step.specs.Machine.{Machine, a32}
 use Rattle.guest_core.specs.Machine.{between}
 use Rattle.guest_calls.specs.Pairs.{pair_of, pairs_of}
-use Rattle.guest_calls.specs.Run.{Pair, Reaches, begins}
+use Rattle.guest_calls.specs.Run.{Pair, begins, Reaches}
 use Rattle.guest_thread.specs.Counts.{reads_of, writes_of, fails_of}
 use Rattle.guest_thread.specs.Start.{thread_start}
 use Rattle.slice_pool.specs.Hands.{key_of}
@@ -19,12 +19,12 @@ use Rattle.slice_pool.specs.declared.queue.Waiting.{Waiting}
 
 -- no access, no step, nothing written: a run that has begun
 has_begun : (program : Program) (budget : ℕ) (start cpu : Machine) (pairs : List Pair) (steps : ℕ) (out : List ℕ) → pairs ≡ [] → cpu ≡ start → steps ≡ 0 → out ≡ []
-    → Reaches program budget start pairs cpu steps out
+    → Reaches a32 program budget start pairs cpu steps out
 has_begun program budget start cpu pairs steps out none at zeroth nothing =
-    subst (λ l. Reaches program budget start l cpu steps out) (sym none)
-    (subst (λ m. Reaches program budget start [] m steps out) (sym at)
-    (subst (λ n. Reaches program budget start [] start n out) (sym zeroth)
-    (subst (Reaches program budget start [] start 0) (sym nothing) begins)))
+    subst (λ l. Reaches a32 program budget start l cpu steps out) (sym none)
+    (subst (λ m. Reaches a32 program budget start [] m steps out) (sym at)
+    (subst (λ n. Reaches a32 program budget start [] start n out) (sym zeroth)
+    (subst (Reaches a32 program budget start [] start 0) (sym nothing) begins)))
 
 module _ {P : Type 0} (home : P → TableId) (numbers : P → ℕ → Bool) (seen : P → List Entry) (mem : TableId) (origin : Origin) (program : Program) (slice budget : ℕ) where
   under_way : (x : Waiting P) → IsFresh home numbers seen mem origin program x → IsUnderWay home numbers seen (key_of mem program origin.size slice budget) x
@@ -33,7 +33,7 @@ module _ {P : Type 0} (home : P → TableId) (numbers : P → ℕ → Bool) (see
     single = is.single;
     known = is.known;
     between = subst (λ m. m ≡ between m.state) (sym is.start) refl;
-    reached = has_begun program budget (thread_start program origin.size origin.size.threads x.thread) x.part.cpu (pairs_of x.thread (seen x.part.pass)) x.part.steps x.part.out
+    reached = has_begun program budget (thread_start a32 program origin.size origin.size.threads x.thread) x.part.cpu (pairs_of x.thread (seen x.part.pass)) x.part.steps x.part.out
         (ap (λ l. map pair_of (accesses_of l)) is.none) is.start is.steps is.empty;
     counts = record {
       reads = is.uncounted.0 ∙ sym (ap reads_of is.none);

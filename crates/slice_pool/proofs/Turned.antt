@@ -7,7 +7,7 @@ use Rattle.history.specs.declared.entry.Entry.{Entry}
 use Rattle.shared_memory.specs.Origin.{Origin}
 use Rattle.shared_memory.specs.Seen.{IsSingle}
 use Rattle.guest_calls.specs.Pairs.{pairs_of}
-use Rattle.guest_calls.specs.Run.{EndsOn, Reaches, first_point}
+use Rattle.guest_calls.specs.Run.{first_point, Reaches, EndsOn}
 use Rattle.guest_thread.specs.Counting.{AreCounts, counts_in}
 use Rattle.guest_thread.specs.Crews.{IsEndOf}
 use Rattle.guest_thread.specs.Outcome.{IsEndOn}
@@ -16,7 +16,7 @@ use Rattle.guest_thread.specs.Start.{thread_start}
 use Rattle.guest_thread.specs.declared.pieces.Part.{Part}
 use Rattle.guest_thread.specs.declared.pieces.Paused.TheVariants.{Ended, Pause}
 use Rattle.guest_thread.specs.declared.running.Finished.{Finished}
-use Rattle.a32_step.specs.Machine.{a32}
+use Rattle.a32_step.specs.Machine.{a32, Machine}
 use Rattle.a32_step.proofs.Tested.{next_room}
 use Rattle.guest_thread.proofs.FewAccesses.{few_counted, few_in_history}
 use Rattle.slice_pool.specs.Hands.{key_of}
@@ -45,12 +45,12 @@ module _ {P : Type 0} (home : P → TableId) (numbers : P → ℕ → Bool) (see
   key = key_of mem program origin.size slice budget
 
   -- it pauses
-  pub paused : (x : Waiting P) (upto : ℕ) (part : Part P) → IsUpto slice budget x.part.steps upto → IsUnderWay home numbers seen key x
-      → IsPiece home numbers seen mem origin program false upto budget x.thread x.part (Pause part)
+  pub paused : (x : Waiting P) (upto : ℕ) (part : Part P Machine) → IsUpto slice budget x.part.steps upto → IsUnderWay home numbers seen key x
+      → IsPiece a32 (λ m. m) home numbers seen mem origin program false upto budget x.thread x.part (Pause part)
       → IsUnderWay home numbers seen key (record { part = part; thread = x.thread; turns = x.turns + 1 })
   paused x upto part to was goes =
-      let start = thread_start program origin.size origin.size.threads x.thread in
-      let comes : Reaches program budget start (pairs_of x.thread (seen x.part.pass) ++ goes.pairs) part.cpu part.steps part.out =
+      let start = thread_start a32 program origin.size origin.size.threads x.thread in
+      let comes : Reaches a32 program budget start (pairs_of x.thread (seen x.part.pass) ++ goes.pairs) part.cpu part.steps part.out =
       goes.comes (first_point start) (pairs_of x.thread (seen x.part.pass)) was.reached in
       let steps : part.steps ≡ x.part.steps + slice = goes.stands.steps ∙ to.whole goes.stands.within in
       record {
@@ -58,7 +58,7 @@ module _ {P : Type 0} (home : P → TableId) (numbers : P → ℕ → Bool) (see
         single = goes.single;
         known = was.known;
         between = goes.stands.between;
-        reached = subst (λ pairs. Reaches program budget start pairs part.cpu part.steps part.out) (sym goes.added) comes;
+        reached = subst (λ pairs. Reaches a32 program budget start pairs part.cpu part.steps part.out) (sym goes.added) comes;
         counts = goes.counts was.counts;
         few = goes.stands.few;
         turns = steps ∙ ap (λ n. n + slice) was.turns ∙ sym (one_turn slice x.turns);
@@ -67,36 +67,36 @@ module _ {P : Type 0} (home : P → TableId) (numbers : P → ℕ → Bool) (see
 
   -- how it ended, by what its pass has seen
   ended_on : (x : Waiting P) (upto : ℕ) (done : Finished P) → IsUnderWay home numbers seen key x
-      → IsPiece home numbers seen mem origin program false upto budget x.thread x.part (Ended done)
-      → IsEndOn program origin.size budget (thread_start program origin.size origin.size.threads x.thread) (seen done.pass) done.end
+      → IsPiece a32 (λ m. m) home numbers seen mem origin program false upto budget x.thread x.part (Ended done)
+      → IsEndOn a32 program origin.size budget (thread_start a32 program origin.size origin.size.threads x.thread) (seen done.pass) done.end
   ended_on x upto done was goes =
-      let start = thread_start program origin.size origin.size.threads x.thread in
-      let comes : EndsOn program budget start (pairs_of x.thread (seen x.part.pass) ++ goes.pairs) done.end.stop done.end.steps done.end.out =
+      let start = thread_start a32 program origin.size origin.size.threads x.thread in
+      let comes : EndsOn a32 program budget start (pairs_of x.thread (seen x.part.pass) ++ goes.pairs) done.end.stop done.end.steps done.end.out =
       goes.comes (first_point start) (pairs_of x.thread (seen x.part.pass)) was.reached in
       let thread : x.thread ≡ done.end.thread = sym goes.stands.thread in
       record {
-        ends = subst (λ u. EndsOn program budget start (pairs_of u (seen done.pass)) done.end.stop done.end.steps done.end.out) thread
-            (subst (λ pairs. EndsOn program budget start pairs done.end.stop done.end.steps done.end.out) (sym goes.added) comes);
+        ends = subst (λ u. EndsOn a32 program budget start (pairs_of u (seen done.pass)) done.end.stop done.end.steps done.end.out) thread
+            (subst (λ pairs. EndsOn a32 program budget start pairs done.end.stop done.end.steps done.end.out) (sym goes.added) comes);
         spent = goes.stands.spent;
         counts = subst (λ u. AreCounts u (seen done.pass) (counts_in done.end)) thread (goes.counts was.counts);
       }
 
   ended_as : (x : Waiting P) (upto : ℕ) (done : Finished P) → origin.first ≡ origin.size.threads → budget ≤ most_budget → IsUnderWay home numbers seen key x
-      → IsPiece home numbers seen mem origin program false upto budget x.thread x.part (Ended done)
+      → IsPiece a32 (λ m. m) home numbers seen mem origin program false upto budget x.thread x.part (Ended done)
       → IsEndOf a32 program origin budget (seen done.pass) x.thread done.end
   ended_as x upto done begin small was goes =
-      let start = thread_start program origin.size origin.size.threads x.thread in
+      let start = thread_start a32 program origin.size origin.size.threads x.thread in
       let on = ended_on x upto done was goes in
       record {
         thread = goes.stands.thread;
-        end_on = subst (λ n. IsEndOn program origin.size budget (thread_start program origin.size n x.thread) (seen done.pass) done.end) (sym begin) on;
+        end_on = subst (λ n. IsEndOn a32 program origin.size budget (thread_start a32 program origin.size n x.thread) (seen done.pass) done.end) (sym begin) on;
         spends = goes.stands.spends;
         few = few_counted a32 program origin.size budget start (seen done.pass) done.end small on (few_in_history a32 next_room program origin.size budget start (seen done.pass) done.end refl on);
       }
 
   -- it ends
   pub ended : (x : Waiting P) (upto : ℕ) (done : Finished P) → origin.first ≡ origin.size.threads → budget ≤ most_budget → IsUpto slice budget x.part.steps upto
-      → IsUnderWay home numbers seen key x → IsPiece home numbers seen mem origin program false upto budget x.thread x.part (Ended done)
+      → IsUnderWay home numbers seen key x → IsPiece a32 (λ m. m) home numbers seen mem origin program false upto budget x.thread x.part (Ended done)
       → IsGoneFrom home numbers seen origin key x.thread (record { pass = done.pass; end = done.end; turns = x.turns + 1 })
   ended x upto done begin small to was goes =
       let t : x.thread ≡ done.end.thread = sym goes.stands.thread in (

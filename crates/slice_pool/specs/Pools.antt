@@ -13,6 +13,7 @@ use Rattle.slice_pool.specs.Hands.{downto, hand, no_key}
 use Rattle.slice_pool.specs.Rule.{last_first}
 use Rattle.slice_pool.specs.declared.pool.Pool.{Pool}
 use Rattle.slice_pool.specs.declared.queue.Waiting.{Waiting}
+use Rattle.a32_step.specs.Machine.{a32}
 
 module _ {P : Type 0} (home : P → TableId) (numbers : P → ℕ → Bool) (seen : P → List Entry) where
   -- a guest is at its start, and has a pass that holds its number alone, with no access
@@ -21,7 +22,7 @@ module _ {P : Type 0} (home : P → TableId) (numbers : P → ℕ → Bool) (see
     pub single : IsSingle x.thread (numbers x.part.pass)
     pub known : x.thread < origin.size.threads
     pub none : entries_of x.thread (seen x.part.pass) ≡ []
-    pub start : x.part.cpu ≡ thread_start program origin.size origin.size.threads x.thread
+    pub start : x.part.cpu ≡ thread_start a32 program origin.size origin.size.threads x.thread
     pub empty : x.part.out ≡ []
     pub steps : x.part.steps ≡ 0
     pub uncounted : (x.part.reads ≡ 0) × (x.part.writes ≡ 0) × (x.part.fails ≡ 0)

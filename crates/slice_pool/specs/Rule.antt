@@ -15,6 +15,7 @@ use Rattle.slice_pool.specs.Hands.{AreFew, downto, hand, parts_of, share}
 use Rattle.slice_pool.specs.declared.views.Hand.{Hand}
 use Rattle.slice_pool.specs.declared.views.Key.{Key}
 use Rattle.slice_pool.specs.declared.queue.Waiting.{Waiting}
+use Rattle.a32_step.specs.Machine.{a32}
 
 -- the weights of the numbers of guests that wait
 abbrev pub waits : {P : Type 0} → (ℕ → ℕ) → Waiting P → ℕ
@@ -47,7 +48,7 @@ module _ {P : Type 0} (home : P → TableId) (numbers : P → ℕ → Bool) (see
     pub single : IsSingle x.thread (numbers x.part.pass)
     pub known : x.thread < key.size.threads
     pub between : x.part.cpu ≡ between x.part.cpu.state
-    pub reached : Reaches key.program key.budget (thread_start key.program key.size key.size.threads x.thread) (pairs_of x.thread (seen x.part.pass)) x.part.cpu x.part.steps x.part.out
+    pub reached : Reaches a32 key.program key.budget (thread_start a32 key.program key.size key.size.threads x.thread) (pairs_of x.thread (seen x.part.pass)) x.part.cpu x.part.steps x.part.out
     pub counts : AreCounts x.thread (seen x.part.pass) (counts_by x.part)
     pub few : CountFew (counts_by x.part) x.part.steps x.part.out
     pub turns : x.part.steps ≡ x.turns * key.slice

@@ -12,6 +12,7 @@ ghost use Rattle.guest_thread.specs.Counting.{accesses_counted, counts_in};
 ghost use Rattle.guest_thread.specs.Outcome.{AreEndsOn};
 ghost use Rattle.guest_thread.specs.declared.ends.GuestEnd.{GuestEnd};
 ghost use Rattle.slice_pool.specs.Ends.{AreTurnsOfEach};
+ghost use Rattle.a32_step.specs.Machine.{a32};
 
 use crate::crews::{Desk, gather_all, put_all, run_workers, sit_down};
 use crate::ends::{Pooled, in_order};
@@ -103,7 +104,7 @@ pub fn run_pool<M: SharedMemory, R: Threads + Wait + Sync>(
     requires whole { length image.now.bytes ≡ (M.origin mem.now).size.mem }
     requires slice { 1 ≤ slice }
     requires budget { budget ≤ most_budget }
-    ensures ends { AreEndsOn image.now (M.origin mem.now).size budget (M.seen result.pass) result.ends.items }
+    ensures ends { AreEndsOn a32 image.now (M.origin mem.now).size budget (M.seen result.pass) result.ends.items }
     ensures turns { AreTurnsOfEach slice result.ends.items result.turns.items }
     ensures spends { All (λ (end : GuestEnd). (addr : ℕ) → end.stop ≡ Stop.TagLimit addr → (M.origin mem.now).spends ≡ true) result.ends.items }
     ensures few { All (λ (end : GuestEnd). accesses_counted (counts_in end) < 2 ^ 45) result.ends.items }

@@ -1,6 +1,7 @@
 //! The queue of the guests that wait, and what each call on it does by its rule.
 ghost use Rattle.std.specs.Prelude.{◌≡◌};
 
+use a32_step::Cpu;
 use crate::views::{Hand, Key};
 use crossbeam_queue::protocol::{Join, Lesson, Outcome, Protocol, Split};
 use crossbeam_queue::{Pass, RuledArrayQueue};
@@ -11,7 +12,7 @@ use std::marker::{Brand, PhantomData};
 /// A guest between two of its slices: its number, and how many slices it has run.
 #[derive(Drop)]
 pub struct Waiting<P> {
-    pub part: Part<P>,
+    pub part: Part<P, Cpu>,
     pub thread: u32,
     pub turns: u64,
 }

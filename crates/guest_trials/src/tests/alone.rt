@@ -1,6 +1,7 @@
 //! Runs of small programs.
 ghost use Rattle.std.specs.Prelude.{◌≤◌};
 
+use a32_step::Cpu;
 use super::programs::image_of;
 use llsc_base::{MachineSize, Stop};
 use guest_machine::solo;
@@ -31,7 +32,7 @@ fn ends_so(alloc: Global, budget: u64, wanted: (Stop, u64, u64, &[u8])) -> Resul
 {
     let size = MachineSize::new(65_536, 1, 1, 1)?;
     let image = image_of(alloc, COUNTS, &size)?;
-    let end = solo(alloc, &image, &size, budget)?;
+    let end = solo::<Cpu>(alloc, &image, &size, budget)?;
     let counts = (end.thread, end.writes, end.fails);
     Ok(counts == (0, 1, 1) && (end.stop, end.steps, end.reads, end.out.bytes()) == wanted)
 }

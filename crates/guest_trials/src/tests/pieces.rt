@@ -36,10 +36,10 @@ fn next_piece<M: SharedMemory, R: Wait>(
     rt: &R,
     mem: &M,
     code: &mut Code<Conditional>,
-    part: Part<M::Pass>,
+    part: Part<M::Pass, Cpu>,
     upto: u64,
     starts: bool,
-) -> Result<Part<M::Pass>, Finished<M::Pass>>
+) -> Result<Part<M::Pass, Cpu>, Finished<M::Pass>>
     requires part { MayGoOn M.home M.numbers M.seen (M.id mem.now) (M.origin mem.now) upto part }
     requires whole { length code.old.program.bytes ≡ (M.origin mem.now).size.mem }
     requires upto { upto ≤ 1000 }
@@ -64,7 +64,7 @@ fn ended<M: SharedMemory, R: Wait>(
     rt: &R,
     mem: &M,
     code: &mut Code<Conditional>,
-    part: Part<M::Pass>,
+    part: Part<M::Pass, Cpu>,
     slice: u64,
     starts: bool,
 ) -> Result<(Finished<M::Pass>, u64), Fail>

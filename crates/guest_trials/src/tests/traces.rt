@@ -1,4 +1,5 @@
 //! Traces of small programs by the number 0.
+use a32_step::Remembering;
 use super::programs::{ADDS, SHARES, image_of};
 use llsc_base::{MachineSize, Place, Size, Stop};
 use guest_machine::{Traced, trace};
@@ -93,7 +94,7 @@ fn holds(alloc: Global, (words, threads, made, end): Case) -> Result<bool, Fail>
     let accesses = accesses_of(alloc, made)?;
     let size = MachineSize::new(1_048_576, threads, 1, 1)?;
     let image = image_of(alloc, words, &size)?;
-    let traced = trace(alloc, &image, &size, 0, 10_000)?;
+    let traced = trace::<Remembering>(alloc, &image, &size, 0, 10_000)?;
     Ok(has(&traced, accesses.as_slice(), end))
 }
 

@@ -2,6 +2,7 @@
 ghost use Rattle.std.specs.Prelude.{◌≡◌, IfOk};
 ghost use Rattle.run_record.specs.Limits.{IsRecord};
 
+use a32_step::Remembering;
 use super::programs::{ADDS, SHARES, WRITES, image_of};
 use super::same;
 use llsc_base::MachineSize;
@@ -98,7 +99,7 @@ fn verdict(alloc: Global, words: &[u32], lines: &[&str]) -> Result<Verdict, Fail
     let run = record_of(alloc, lines)?;
     let size = machine_of(&run)?;
     let image = image_of(alloc, words, &size)?;
-    Ok(check_record(alloc, &image, &size, &run)?)
+    Ok(check_record::<Remembering>(alloc, &image, &size, &run)?)
 }
 
 /// The verdict that names this access and reason, or none.

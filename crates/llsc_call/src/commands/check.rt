@@ -6,6 +6,7 @@ ghost use Rattle.llsc_files.specs.Refusals.{most_program, too_long, IsRefusal};
 ghost use Rattle.llsc_call.specs.Check.{most_record, record_fault_text, verdict_text, AnswersCheck, IsJudged, JudgesRun};
 ghost use Rattle.llsc_call.specs.Outcome.{Gives};
 
+use a32_step::Remembering;
 use crate::outcome::Outcome;
 use llsc_base::{Image, MachineSize};
 use llsc_files::{Refusal, load, numbers_of, refuse};
@@ -32,7 +33,7 @@ fn judge(alloc: Global, size: &MachineSize, image: &Image, run: &RunRecord) -> O
     requires record_ { IsRecord run.now }
     ensures { Gives (IsJudged image.now size.now run.now) result }
 {
-    let Ok(verdict) = check_record(alloc, image, size, run) else {
+    let Ok(verdict) = check_record::<Remembering>(alloc, image, size, run) else {
         return Outcome::NoMemory;
     };
     match text_of(alloc, verdict) {

@@ -5,6 +5,7 @@ ghost use Rattle.llsc_files.specs.Refusals.{most_program, too_long};
 ghost use Rattle.llsc_call.specs.Answer.{AnswersSolo, IsReported};
 ghost use Rattle.llsc_call.specs.Outcome.{Gives};
 
+use a32_step::Cpu;
 use crate::outcome::Outcome;
 use guest_machine::solo;
 use llsc_base::{Image, MachineSize};
@@ -20,7 +21,7 @@ fn run(alloc: Global, size: &MachineSize, image: &Image, budget: u64) -> Outcome
     requires whole { length image.now.bytes ≡ size.now.mem }
     ensures { Gives (IsReported image.now size.now budget) result }
 {
-    match solo(alloc, image, size, budget) {
+    match solo::<Cpu>(alloc, image, size, budget) {
         Ok(end) => Outcome::Alone { budget, end },
         Err(_) => Outcome::NoMemory,
     }

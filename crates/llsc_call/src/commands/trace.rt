@@ -5,6 +5,7 @@ ghost use Rattle.llsc_files.specs.Refusals.{most_program, too_long, IsRefusal};
 ghost use Rattle.llsc_call.specs.Trace.{AnswersTrace, Traces};
 ghost use Rattle.llsc_call.specs.Outcome.{Gives};
 
+use a32_step::Remembering;
 use crate::outcome::Outcome;
 use guest_machine::{TraceFault, Traced, trace};
 use llsc_base::{Image, MachineSize};
@@ -31,7 +32,7 @@ fn run(alloc: Global, size: &MachineSize, image: &Image, seed: u64, budget: u64)
     requires budget { budget ≤ most_budget }
     ensures { Gives (Traces image.now size.now seed budget) result }
 {
-    let Traced { run, ends } = match trace(alloc, image, size, seed, budget) {
+    let Traced { run, ends } = match trace::<Remembering>(alloc, image, size, seed, budget) {
         Ok(traced) => traced,
         Err(fault) => return Outcome::from(refuse_trace(alloc, fault)),
     };

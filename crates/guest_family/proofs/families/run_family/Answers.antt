@@ -7,6 +7,7 @@ use Rattle.guest_family.specs.Kin.{heads_of}
 use Rattle.guest_family.proofs.AllNumbers.{all_numbers}
 use Rattle.guest_family.proofs.Outcome.{all_hold, are_begun}
 use Rattle.guest_family.proofs.families.run_family.Goals as goal
+use Rattle.a32_step.specs.Machine.{a32}
 
 pub run_starters-pass-requires-clause-kin : goal.run_starters-pass-requires-clause-kin
 run_starters-pass-requires-clause-kin g c κs outlives =
@@ -31,7 +32,7 @@ returns-clause-ends g c =
     let origin = g.M.SharedMemory.origin c.args.mem.now in
     let history = g.M.SharedMemory.seen c.run_starters-pass.result.pass in
     let ended = c.run_starters-pass.ensures.ended in
-    subst (AreBegunEnds c.args.image.now origin.size origin.first origin.spare c.args.budget history) (sym c.all_ends.ensures.items)
+    subst (AreBegunEnds a32 c.args.image.now origin.size origin.first origin.spare c.args.budget history) (sym c.all_ends.ensures.items)
     (are_begun c.args.image.now origin c.args.budget history (heads_of (c.args.kin.first ∷ c.args.kin.others.items)) c.run_starters-pass.result.ends.items c.run_starters-pass.result.children.items
     c.requires.kin.threads ended.heads ended.children)
 

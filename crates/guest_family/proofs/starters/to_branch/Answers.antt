@@ -17,6 +17,7 @@ use Rattle.guest_family.proofs.GoingOn.{front_on}
 use Rattle.guest_family.proofs.JoinUnstarted.{later_none}
 use Rattle.guest_family.proofs.StarterParts.{branched, called_few, head_has_none, ended_alone, next_spare}
 use Rattle.guest_family.proofs.starters.to_branch.Goals as goal
+use Rattle.a32_step.specs.Machine.{a32}
 
 pub run_out-done-requires-clause-none : goal.run_out-done-requires-clause-none
 run_out-done-requires-clause-none g c κs outlives u single =
@@ -45,7 +46,7 @@ returns-in_default-clause-branches g c t is =
     let origin = g.M.SharedMemory.origin c.args.mem.now in
     let program = c.args.image.now in
     let starter = c.args.starter in
-    let start = thread_start program origin.size origin.first t in
+    let start = thread_start a32 program origin.size origin.first t in
     let done = subst (λ (p : Program). HasEnded home numbers seen mem origin p c.args.budget t start starter.part.pass c.run_out-done.result) is.code
     (c.run_out-done.ensures.ended t start (subst (λ (p : Program). IsUnderWay home numbers seen mem origin p c.args.budget t start starter.part) (sym is.code) is.goes)) in
     let ended = c.with_ends.result in
@@ -65,7 +66,7 @@ returns-in-Ended-clause-branches g c t is =
     let origin = g.M.SharedMemory.origin c.args.mem.now in
     let program = c.args.image.now in
     let starter = c.args.starter in
-    let start = thread_start program origin.size origin.first t in
+    let start = thread_start a32 program origin.size origin.first t in
     let done = subst (λ (p : Program). HasEnded home numbers seen mem origin p c.args.budget t start starter.part.pass c.in-Ended.field-0) is.code
     (c.in-Ended.ensures.next t start (subst (λ (p : Program). IsUnderWay home numbers seen mem origin p c.args.budget t start starter.part) (sym is.code) is.goes)) in
     let ended = c.with_ends-in-Ended.result in
@@ -88,7 +89,7 @@ started-part-requires-clause-single g c κs outlives =
     let starter = c.args.starter in
     let t = c.requires.starter.0 in
     let is = c.requires.starter.1 in
-    let start = thread_start program origin.size origin.first t in
+    let start = thread_start a32 program origin.size origin.first t in
     let called = subst (λ (p : Program). HasCalled home numbers seen mem origin p c.args.budget t start starter.part.pass c.in-Calls.part c.in-Calls.entry c.in-Calls.arg) is.code
     (c.in-Calls.ensures.next t start (subst (λ (p : Program). IsUnderWay home numbers seen mem origin p c.args.budget t start starter.part) (sym is.code) is.goes)).0 in
     let next = next_spare home numbers seen mem origin program c.args.budget t starter c.in-Some.spare c.take_next.new.spares.items (vec_len c.take_next.new.spares) is c.in-Some.ensures.items c.in-Some.ensures.len in (
@@ -108,7 +109,7 @@ returns-clause-branches g c t is =
     let origin = g.M.SharedMemory.origin c.args.mem.now in
     let program = c.args.image.now in
     let starter = c.args.starter in
-    let start = thread_start program origin.size origin.first t in
+    let start = thread_start a32 program origin.size origin.first t in
     let called = subst (λ (p : Program). HasCalled home numbers seen mem origin p c.args.budget t start starter.part.pass c.in-Calls.part c.in-Calls.entry c.in-Calls.arg) is.code
     (c.in-Calls.ensures.next t start (subst (λ (p : Program). IsUnderWay home numbers seen mem origin p c.args.budget t start starter.part) (sym is.code) is.goes)).0 in
     let next = next_spare home numbers seen mem origin program c.args.budget t starter c.in-Some.spare c.take_next.new.spares.items (vec_len c.take_next.new.spares) is c.in-Some.ensures.items c.in-Some.ensures.len in
@@ -130,7 +131,7 @@ returns-clause-goes g c =
     let starter = c.args.starter in
     let t = c.requires.starter.0 in
     let is = c.requires.starter.1 in
-    let start = thread_start program origin.size origin.first t in
+    let start = thread_start a32 program origin.size origin.first t in
     let called = subst (λ (p : Program). HasCalled home numbers seen mem origin p c.args.budget t start starter.part.pass c.in-Calls.part c.in-Calls.entry c.in-Calls.arg) is.code
     (c.in-Calls.ensures.next t start (subst (λ (p : Program). IsUnderWay home numbers seen mem origin p c.args.budget t start starter.part) (sym is.code) is.goes)).0 in
     let next = next_spare home numbers seen mem origin program c.args.budget t starter c.in-Some.spare c.take_next.new.spares.items (vec_len c.take_next.new.spares) is c.in-Some.ensures.items c.in-Some.ensures.len in

@@ -4,11 +4,11 @@ use Rattle.guest_machine.specs.Seats.{AreEndsOfSeats}
 use Rattle.guest_machine.proofs.ends.ends_of.Given as goal
 
 abbrev pub invariant-loop-seat : goal.invariant-loop-seat
-invariant-loop-seat l = record {
+invariant-loop-seat g l = record {
   front : l.seats.items ≡ take (length l.seats.items) l.fn.seats.items;
   inside : length l.seats.items ≤ length l.fn.seats.items;
   ends : AreEndsOfSeats l.accesses (length l.seats.items) (drop (length l.seats.items) l.fn.seats.items) l.ends.items;
 }
 
 abbrev pub decreases-loop-seat : goal.decreases-loop-seat
-decreases-loop-seat l = length l.seats.items
+decreases-loop-seat g l = length l.seats.items

@@ -2,4 +2,4 @@ use Rattle.guest_machine.proofs.OneThread.{any_seed}
 use Rattle.guest_machine.proofs.laws.one_thread_needs_no_seed.Goals as goal
 
 pub returns : goal.returns
-returns c = any_seed
+returns g c = any_seed g.C.Core.set

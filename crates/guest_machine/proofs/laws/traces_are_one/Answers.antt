@@ -2,4 +2,4 @@ use Rattle.guest_machine.proofs.OneTrace.{one_trace}
 use Rattle.guest_machine.proofs.laws.traces_are_one.Goals as goal
 
 pub returns : goal.returns
-returns c = one_trace
+returns g c = one_trace g.C.Core.set

@@ -1,13 +1,21 @@
-use Rattle.std.proofs.Common.{sym, subst}
+use Rattle.std.proofs.Common.{map, sym, subst}
 use Rattle.history.specs.Accesses.{history_of}
-use Rattle.guest_machine.specs.Seats.{AreEndsOfSeats}
+use Rattle.guest_machine.specs.Seats.{AreEndsOfSeats, HaveTurned, seat_in}
 use Rattle.guest_thread.specs.Ends.{AreEnds}
 use Rattle.guest_machine.proofs.Ending.{are_ends}
+use Rattle.guest_machine.proofs.Seen.{all_stopped}
 use Rattle.guest_machine.proofs.traces.trace.Goals as goal
 
+pub ends_of-requires-clause-stopped : goal.ends_of-requires-clause-stopped
+ends_of-requires-clause-stopped g c κs within =
+    let turns = c.run.new.self in
+    let over = c.in_ok-run.ensures.over in
+    all_stopped g.C.Core.set g.C.Core.machine c.args.image.now c.args.size.now c.args.seed c.args.budget turns.number turns.seats.items turns.memory turns.accesses.items
+    (subst (λ l. HaveTurned g.C.Core.set c.args.image.now c.args.size.now c.args.seed c.args.budget turns.number l (map (seat_in g.C.Core.machine) turns.seats.items) turns.memory turns.accesses.items) over.1 over.0)
+
 pub returns-clause-ends : goal.returns-clause-ends
-returns-clause-ends c =
+returns-clause-ends g c =
     let ends = c.in-Ok-ends_of.ends.items in
-    subst (λ a. AreEnds c.args.image.now c.args.size.now c.args.budget (history_of a) ends) (sym c.new-2.ensures)
-    (are_ends c.args.image.now c.args.size.now c.args.seed c.args.budget _ _ _ _ _ ends c.in_ok-run.ensures.over.0
+    subst (λ a. AreEnds g.C.Core.set c.args.image.now c.args.size.now c.args.budget (history_of a) ends) (sym c.new-2.ensures)
+    (are_ends g.C.Core.set g.C.Core.machine c.args.image.now c.args.size.now c.args.seed c.args.budget _ _ _ _ _ ends c.in_ok-run.ensures.over.0
     (subst (λ a. AreEndsOfSeats a 0 c.run.new.self.seats.items ends) c.deref.ensures.value c.in-Ok-ends_of.ensures))

@@ -1,7 +1,7 @@
 use Rattle.std.proofs.Common.{◌∙◌, refl, sym, subst}
 use Rattle.history.specs.Started.{MayAct}
 use Rattle.shared_memory.specs.Seen.{IsFront, IsSingle}
-use Rattle.guest_thread.specs.Outcome.{IsEndOnOf}
+use Rattle.guest_thread.specs.Outcome.{IsEndOn}
 use Rattle.guest_thread.specs.declared.ends.GuestEnd.{GuestEnd}
 use Rattle.guest_thread.specs.Sharing.{RefusesAt}
 use Rattle.guest_thread.specs.ThreadState.{thread_in}
@@ -36,7 +36,7 @@ returns-clause-end g c =
     } in
     let ends = ends_as g.C.Core.set (RefusesAt last) c.args.code.program c.args.budget (g.C.Core.machine c.args.cpu) ran.0 c.run-stop.result c.steps.result c.into_output.result (thread_in g.C.Core.machine c.run-stop.new.self)
     c.steps.ensures c.into_output.ensures ran.1.1 in
-    subst (λ s. IsEndOnOf g.C.Core.set c.args.code.program origin.size c.args.budget (g.C.Core.machine c.args.cpu) s end) (sym c.into_pass.ensures.seen)
+    subst (λ s. IsEndOn g.C.Core.set c.args.code.program origin.size c.args.budget (g.C.Core.machine c.args.cpu) s end) (sym c.into_pass.ensures.seen)
     (end_on g.C.Core.set c.is_sound.ensures.passes c.is_sound.ensures.own c.args.code.program c.args.budget (g.C.Core.machine c.args.cpu) c.requires.between (at_start (g.M.SharedMemory.id mem) origin t seen) last ran.0 end shared none refl refl c.counts-counts.ensures ends)
 
 pub returns-clause-spends : goal.returns-clause-spends

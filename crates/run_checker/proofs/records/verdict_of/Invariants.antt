@@ -7,13 +7,13 @@ use Rattle.run_checker.proofs.records.verdict_of.Given as goal
 
 -- the threads may go on, and have made the accesses so far
 abbrev pub invariant-loop-access : goal.invariant-loop-access
-invariant-loop-access l = record {
-  ready : MayGoOn (length l.image.bytes) l.budget l.checker;
+invariant-loop-access g l = record {
+  ready : MayGoOn g.C.Core.machine (length l.image.bytes) l.budget l.checker;
   marks : length l.checker.memory.marks ≡ length l.fn.checker.memory.marks;
   few : l.index + length l.rest ≤ 1000000;
   known : All (IsAccess (length l.fn.checker.memory.marks)) l.rest;
-  under : (size : Numbers) → AreBrought l.image size l.budget [] l.fn.checker → IsUnder l.image size l.budget l.accesses l.checker l.index l.rest;
+  under : (size : Numbers) → AreBrought g.C.Core.set g.C.Core.machine l.image size l.budget [] l.fn.checker → IsUnder g.C.Core.set g.C.Core.machine l.image size l.budget l.accesses l.checker l.index l.rest;
 }
 
 abbrev pub decreases-loop-access : goal.decreases-loop-access
-decreases-loop-access l = length l.rest
+decreases-loop-access g l = length l.rest

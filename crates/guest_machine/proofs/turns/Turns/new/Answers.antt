@@ -5,8 +5,8 @@ use Rattle.guest_machine.proofs.Turning.{at_start}
 use Rattle.guest_machine.proofs.turns.Turns.new.Goals as goal
 
 pub returns-clause-under_way : goal.returns-clause-under_way
-returns-clause-under_way c =
-    at_start c.args.plan.now.image.now c.args.plan.now.size.now c.args.plan.now.seed c.args.plan.now.budget _ _ _ _
+returns-clause-under_way g c =
+    at_start g.C.Core.set c.args.plan.now.image.now c.args.plan.now.size.now c.args.plan.now.seed c.args.plan.now.budget _ _ _ _
     (c.in_ok-numbers.ensures ∙ ap (range_with_len 0) c.threads-threads.ensures.number)
     c.in_ok-seats.ensures
     (c.in_ok-sized.ensures ∙ ap (λ b. at_rest_by c.args.plan.now.size.now.granule b c.args.plan.now.size.now.threads) c.bytes.ensures.items)

@@ -2,14 +2,14 @@ use Rattle.std.proofs.Common.{sym, ap, ◌∙◌, subst, false, rules}
 use Rattle.guest_calls.specs.Run.{first_point}
 use Rattle.guest_thread.specs.declared.guests.Turn.TheVariants as turn
 use Rattle.guest_thread.specs.ThreadState.{ThreadStateOf, thread_in}
-use Rattle.guest_thread.specs.Under.{ComesToOf}
+use Rattle.guest_thread.specs.Under.{ComesTo}
 use Rattle.guest_thread.proofs.Reached.{at_budget}
 use Rattle.guest_thread.proofs.Printed.{asking_byte}
 use Rattle.guest_thread.proofs.guests.Guest.next.Goals as goal
 
 pub returns-in-Some-clause-comes : goal.returns-in-Some-clause-comes
 returns-in-Some-clause-comes g c = λ start pairs come.
-    subst (λ ask. ComesToOf g.C.Core.set c.args.image.now c.args.budget start pairs (turn.Asks ask) (thread_in g.C.Core.machine c.args.self.now)) (sym c.byte_ask.ensures)
+    subst (λ ask. ComesTo g.C.Core.set c.args.image.now c.args.budget start pairs (turn.Asks ask) (thread_in g.C.Core.machine c.args.self.now)) (sym c.byte_ask.ensures)
     (asking_byte g.C.Core.set false c.args.image.now c.args.budget (first_point start) pairs (thread_in g.C.Core.machine c.args.self.now) c.in-Some.printing come (sym (ap (λ (s : ThreadStateOf g.row.C.Denot). s.printing) c.self.view_is) ∙ c.in-Some.is))
 
 pub returns-in-Some-turn-clause-comes : goal.returns-in-Some-turn-clause-comes

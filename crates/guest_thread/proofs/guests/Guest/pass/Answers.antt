@@ -3,7 +3,7 @@ use Rattle.std.proofs.Common.{◌∷◌, [], ◌∙◌, ap, length, refl, sym, s
 use Rattle.guest_core.specs.Ports.{IsRefused, goes, refused, stays}
 use Rattle.guest_thread.specs.declared.guests.Event.TheVariants as event
 use Rattle.guest_thread.specs.ThreadState.{IsPendingAfterEvent, thread_in}
-use Rattle.guest_thread.specs.Under.{ComesToEventOf, HasComeFromOf}
+use Rattle.guest_thread.specs.Under.{ComesToEvent, HasComeFrom}
 use Rattle.guest_thread.proofs.Ways.{further}
 use Rattle.guest_thread.proofs.Refusing.{ended_on}
 use Rattle.guest_thread.proofs.guests.Guest.pass.Goals as goal
@@ -21,7 +21,7 @@ returns-in-Some-reply-clause-comes g c = λ point before come. (
   (
     goes [] c.args.port.now c.reply.new.self c.in-Asks.ask c.in-Some-reply.reply stays
         (subst (λ r. g.P.Port.replies c.args.port.now c.in-Asks.ask r c.reply.new.self) c.in-Some-reply.is c.reply.ensures.replied),
-    c.give.ensures.on _ _ _ _ _ _ (subst (λ e. ComesToEventOf g.C.Core.set c.args.starts c.args.image.now c.args.budget point before e (thread_in g.C.Core.machine c.one_turn.new.self)) (c.in-Turns.is ∙ ap event.Turns c.in-Asks.is)
+    c.give.ensures.on _ _ _ _ _ _ (subst (λ e. ComesToEvent g.C.Core.set c.args.starts c.args.image.now c.args.budget point before e (thread_in g.C.Core.machine c.one_turn.new.self)) (c.in-Turns.is ∙ ap event.Turns c.in-Asks.is)
         (c.in-Some.ensures.comes point before come)).1,
   ),
 )
@@ -36,21 +36,21 @@ returns-in_default-clause-comes g c = λ point before come. (
   [],
   (
     stays,
-    subst (λ all. HasComeFromOf g.C.Core.set c.args.starts c.args.image.now c.args.budget point all (thread_in g.C.Core.machine c.one_turn.new.self)) (sym (append-nil before)) (c.in_default.ensures.comes point before come),
+    subst (λ all. HasComeFrom g.C.Core.set c.args.starts c.args.image.now c.args.budget point all (thread_in g.C.Core.machine c.one_turn.new.self)) (sym (append-nil before)) (c.in_default.ensures.comes point before come),
   ),
 )
 
 pub returns-in-Starts-clause-comes : goal.returns-in-Starts-clause-comes
 returns-in-Starts-clause-comes g c = λ point before come.
-    (stays, subst (λ e. ComesToEventOf g.C.Core.set c.args.starts c.args.image.now c.args.budget point before e (thread_in g.C.Core.machine c.one_turn.new.self)) c.in-Starts.is (c.in-Some.ensures.comes point before come))
+    (stays, subst (λ e. ComesToEvent g.C.Core.set c.args.starts c.args.image.now c.args.budget point before e (thread_in g.C.Core.machine c.one_turn.new.self)) c.in-Starts.is (c.in-Some.ensures.comes point before come))
 
 pub returns-in-Spent-clause-comes : goal.returns-in-Spent-clause-comes
 returns-in-Spent-clause-comes g c = λ point before come.
-    (stays, subst (λ e. ComesToEventOf g.C.Core.set c.args.starts c.args.image.now c.args.budget point before e (thread_in g.C.Core.machine c.one_turn.new.self)) c.in-Spent.is (c.in-Some.ensures.comes point before come))
+    (stays, subst (λ e. ComesToEvent g.C.Core.set c.args.starts c.args.image.now c.args.budget point before e (thread_in g.C.Core.machine c.one_turn.new.self)) c.in-Spent.is (c.in-Some.ensures.comes point before come))
 
 pub returns-in-Ended-clause-comes : goal.returns-in-Ended-clause-comes
 returns-in-Ended-clause-comes g c = λ point before come.
-    (stays, inl (subst (λ e. ComesToEventOf g.C.Core.set c.args.starts c.args.image.now c.args.budget point before e (thread_in g.C.Core.machine c.one_turn.new.self)) (c.in-Turns.is ∙ ap event.Turns c.in-Ended.is) (c.in-Some.ensures.comes point before come)))
+    (stays, inl (subst (λ e. ComesToEvent g.C.Core.set c.args.starts c.args.image.now c.args.budget point before e (thread_in g.C.Core.machine c.one_turn.new.self)) (c.in-Turns.is ∙ ap event.Turns c.in-Ended.is) (c.in-Some.ensures.comes point before come)))
 
 pub returns-clause-comes : goal.returns-clause-comes
 returns-clause-comes g c = λ point before come. (
@@ -62,7 +62,7 @@ returns-clause-comes g c = λ point before come. (
       subst (IsRefused (g.P.Port.refuses c.reply.new.self)) c.in-Store.is c.in_default-reply.ensures.refused,
       refl,
       ended_on g.C.Core.set c.args.starts c.args.image.now c.args.budget point before c.in-Store.place c.in-Store.field-1 c.in-Asks.ask (thread_in g.C.Core.machine c.one_turn.new.self)
-          (subst (λ e. ComesToEventOf g.C.Core.set c.args.starts c.args.image.now c.args.budget point before e (thread_in g.C.Core.machine c.one_turn.new.self)) (c.in-Turns.is ∙ ap event.Turns c.in-Asks.is)
+          (subst (λ e. ComesToEvent g.C.Core.set c.args.starts c.args.image.now c.args.budget point before e (thread_in g.C.Core.machine c.one_turn.new.self)) (c.in-Turns.is ∙ ap event.Turns c.in-Asks.is)
           (c.in-Some.ensures.comes point before come)).1 c.in-Store.is,
     ),
   ),

@@ -2,8 +2,8 @@
 use Rattle.std.proofs.Common.{◌∙◌, ◌++◌, [], length, refl, sym, subst, append-nil}
 use Rattle.llsc_base.specs.Images.{Program}
 use Rattle.guest_core.specs.Ports.{Leads}
-use Rattle.guest_thread.specs.Ports.{IsRunning, RestsByOf}
-use Rattle.guest_thread.specs.Under.{HasComeFromOf}
+use Rattle.guest_thread.specs.Ports.{IsRunning, RestsBy}
+use Rattle.guest_thread.specs.Under.{HasComeFrom}
 use Rattle.guest_thread.specs.ThreadState.{thread_in}
 use Rattle.guest_thread.proofs.Ways.{no_way, Ways, way_on}
 use Rattle.guest_thread.proofs.Leading.{leads_on}
@@ -26,12 +26,12 @@ returns-in-Some-clause-comes g c = λ point before come.
     subst (λ p. Ways g.C.Core.set g.P.Port.replies starts p c.args.budget (thread_in g.C.Core.machine c.loop-rest.self) c.loop-rest.port (thread_in g.C.Core.machine c.carry_on.new.self) c.carry_on.new.port) c.loop-rest.invariant.program (c.carry_on.ensures.comes starts) in
     let way = way_on g.C.Core.set g.P.Port.replies starts program c.args.budget (thread_in g.C.Core.machine c.args.self.now) (thread_in g.C.Core.machine c.loop-rest.self) (thread_in g.C.Core.machine c.carry_on.new.self) c.args.port.now c.loop-rest.port c.carry_on.new.port
     c.loop-rest.invariant.way further point before come in
-    let ended = c.in-Some.ensures.comes point (before ++ way.0) (subst (λ p. HasComeFromOf g.C.Core.set starts p c.args.budget point (before ++ way.0) (thread_in g.C.Core.machine c.carry_on.new.self)) (sym c.image-image.ensures) way.1.1) in (
+    let ended = c.in-Some.ensures.comes point (before ++ way.0) (subst (λ p. HasComeFrom g.C.Core.set starts p c.args.budget point (before ++ way.0) (thread_in g.C.Core.machine c.carry_on.new.self)) (sym c.image-image.ensures) way.1.1) in (
       way.0,
       (
         subst (λ all. Leads g.P.Port.replies c.args.port.now all c.pass.new.port) (append-nil way.0)
             (leads_on g.P.Port.replies c.args.port.now c.carry_on.new.port c.pass.new.port way.0 [] way.1.0 ended.0),
-        subst (λ p. RestsByOf g.C.Core.set starts (g.P.Port.refuses c.pass.new.port) p c.args.budget point (before ++ way.0) c.in-Some.rest (thread_in g.C.Core.machine c.pass.new.self)) c.image-image.ensures ended.1,
+        subst (λ p. RestsBy g.C.Core.set starts (g.P.Port.refuses c.pass.new.port) p c.args.budget point (before ++ way.0) c.in-Some.rest (thread_in g.C.Core.machine c.pass.new.self)) c.image-image.ensures ended.1,
       ),
     )
 

@@ -2,7 +2,7 @@ use Rattle.std.proofs.Common.{rules, ◌+◌, length, sym, ap, subst, ◌∙◌,
 use Rattle.guest_core.specs.Machine.{next_of, after_of, wanted_of}
 use Rattle.guest_thread.specs.declared.guests.Turn.{Turn}
 use Rattle.guest_thread.specs.ThreadState.{ThreadStateOf, thread_in}
-use Rattle.guest_thread.specs.Under.{HasComeFromOf, ComesToFromOf}
+use Rattle.guest_thread.specs.Under.{HasComeFrom, ComesToFrom}
 use Rattle.guest_thread.proofs.Reached.{after_asking, after_step, after_stop}
 use Rattle.guest_thread.proofs.Calling.{after_call, after_start}
 use Rattle.guest_thread.proofs.guests.Guest.turn_or_start.Goals as goal
@@ -23,8 +23,8 @@ returns-in_default-clause-comes g c = λ budget point pairs come less.
     let seen = c.self.view_is in
     let none = c.requires.at_turn.printing in
     let moved : ThreadStateOf _ = record { cpu = g.C.Core.machine c.next.new.self; steps = c.self.inside.steps; output = c.self.inside.output; printing = c.self.inside.printing } in
-    let come_to : Option Turn → Type 0 = λ r. MatchOption r (HasComeFromOf g.C.Core.set c.args.starts c.args.image.now budget point pairs (thread_in g.C.Core.machine c.call-called.new.self))
-    (λ turn. ComesToFromOf g.C.Core.set c.args.starts c.args.image.now budget point pairs turn (thread_in g.C.Core.machine c.call-called.new.self)) in
+    let come_to : Option Turn → Type 0 = λ r. MatchOption r (HasComeFrom g.C.Core.set c.args.starts c.args.image.now budget point pairs (thread_in g.C.Core.machine c.call-called.new.self))
+    (λ turn. ComesToFrom g.C.Core.set c.args.starts c.args.image.now budget point pairs turn (thread_in g.C.Core.machine c.call-called.new.self)) in
     subst come_to (sym c.turn.ensures ∙ c.in_default.is)
     (after_call g.C.Core.set c.args.starts c.args.image.now budget point pairs c.in-Call.call (length c.args.image.now.bytes) (thread_in g.C.Core.machine c.args.self.now) moved
     (thread_in g.C.Core.machine c.call-called.new.self) c.call-called.result come less none
@@ -38,8 +38,8 @@ returns-in-Some-clause-comes g c = λ budget point pairs come less.
     let seen = c.self.view_is in
     let none = c.requires.at_turn.printing in
     let moved : ThreadStateOf _ = record { cpu = g.C.Core.machine c.next.new.self; steps = c.self.inside.steps; output = c.self.inside.output; printing = c.self.inside.printing } in
-    let come_to : Option Turn → Type 0 = λ r. MatchOption r (HasComeFromOf g.C.Core.set c.args.starts c.args.image.now budget point pairs (thread_in g.C.Core.machine c.call-called.new.self))
-    (λ turn. ComesToFromOf g.C.Core.set c.args.starts c.args.image.now budget point pairs turn (thread_in g.C.Core.machine c.call-called.new.self)) in
+    let come_to : Option Turn → Type 0 = λ r. MatchOption r (HasComeFrom g.C.Core.set c.args.starts c.args.image.now budget point pairs (thread_in g.C.Core.machine c.call-called.new.self))
+    (λ turn. ComesToFrom g.C.Core.set c.args.starts c.args.image.now budget point pairs turn (thread_in g.C.Core.machine c.call-called.new.self)) in
     subst come_to (sym c.turn.ensures ∙ c.in-Some.is)
     (after_call g.C.Core.set c.args.starts c.args.image.now budget point pairs c.in-Call.call (length c.args.image.now.bytes) (thread_in g.C.Core.machine c.args.self.now) moved
     (thread_in g.C.Core.machine c.call-called.new.self) c.call-called.result come less none

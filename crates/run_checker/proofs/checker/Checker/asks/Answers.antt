@@ -5,7 +5,7 @@ use Rattle.run_checker.specs.Positions.{IsBrought}
 use Rattle.run_checker.proofs.checker.Checker.asks.Goals as goal
 
 pub loop-guest-preserved : goal.loop-guest-preserved
-loop-guest-preserved c =
+loop-guest-preserved g c =
     let guests = c.loop-guest.guest-items in
     let index = c.loop-guest.guest-index in
     let was = c.loop-guest.invariant in
@@ -19,13 +19,13 @@ loop-guest-preserved c =
           get_or-set_other guests index k c.next.new.self d apart ∙ was.same k d (omega (arith, less));
       stopped = λ size early brought.
           let come =
-          subst (IsBrought c.args.image.now size c.args.budget early index) (sym (was.same index c.guest-item.result (omega arith)))
+          subst (IsBrought g.C.Core.set g.C.Core.machine c.args.image.now size c.args.budget early index) (sym (was.same index c.guest-item.result (omega arith)))
           (brought.guests index c.guest-item.result known) in
-          below_more (HasEnded c.args.image.now size c.args.budget early) index (was.stopped size early brought)
+          below_more (HasEnded g.C.Core.set c.args.image.now size c.args.budget early) index (was.stopped size early brought)
           (record { stop = c.in_default.field-0; steps = c.next.new.self.steps; output = c.next.new.self.output; ends = c.in_default.ensures.comes _ _ come });
     }
 
 pub returns-clause-stopped : goal.returns-clause-stopped
-returns-clause-stopped c size early brought t less =
+returns-clause-stopped g c size early brought t less =
     let long = c.loop-guest.invariant.long in
     c.loop-guest.invariant.stopped size early brought t (omega (arith, long, less))

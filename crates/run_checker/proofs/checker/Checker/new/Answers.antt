@@ -2,14 +2,14 @@ use Rattle.std.proofs.Common.{◌≡◌, ℕ, ◌+◌, None, [], ◌∷◌, ◌+
 use Rattle.std.proofs.lemmas.List.{length-replicate}
 use Rattle.std.proofs.lemmas.List.Elements.{All-push}
 use Rattle.history.specs.Monitor.{at_rest_by}
-use Rattle.guest_thread.specs.ThreadState.{ThreadState, IsReadyIn}
+use Rattle.guest_thread.specs.ThreadState.{ThreadStateOf, IsReadyIn, thread_in}
 use Rattle.guest_thread.specs.Start.{thread_start}
 use Rattle.guest_thread.specs.Under.{HasCome}
 use Rattle.run_checker.proofs.EachThread.{EachAt, at_push}
 use Rattle.run_checker.proofs.checker.Checker.new.Goals as goal
 
 pub loop-t-preserved : goal.loop-t-preserved
-loop-t-preserved c =
+loop-t-preserved g c =
     let was = c.loop-t.invariant in
     let guests = c.loop-t.guests.items in
     let guest = c.in_ok-start.field-0 in
@@ -18,16 +18,17 @@ loop-t-preserved c =
     record {
       count = ap length is ∙ more ∙ ap (λ n. n + 1) was.count;
       ready = λ mem budget.
-          subst (All (IsReadyIn mem budget)) (sym is) (All-push (IsReadyIn mem budget) guests guest (was.ready mem budget) (c.in_ok-start.ensures.ready mem budget));
+          let P : ThreadStateOf g.row.C.Denot → Type 0 = λ guest. IsReadyIn mem budget (thread_in g.C.Core.machine guest) in
+          subst (All P) (sym is) (All-push P guests guest (was.ready mem budget) (c.in_ok-start.ensures.ready mem budget));
       start = λ budget.
-          let P : ℕ → ThreadState → Type 0 = λ t guest. HasCome c.args.image.now budget (thread_start c.args.image.now c.args.size.now c.args.size.now.threads t) [] guest in
+          let P : ℕ → ThreadStateOf g.row.C.Denot → Type 0 = λ t guest. HasCome g.C.Core.set c.args.image.now budget (thread_start g.C.Core.set c.args.image.now c.args.size.now c.args.size.now.threads t) [] (thread_in g.C.Core.machine guest) in
           subst (EachAt P) (sym is)
           (at_push P guests guest (was.start budget)
           (subst (λ t. P t guest) (sym was.count) (c.in_ok-start.ensures.comes budget)));
     }
 
 pub returns-clause-ready : goal.returns-clause-ready
-returns-clause-ready c budget =
+returns-clause-ready g c budget =
     let memory : c.in_ok-memory.memory ≡ at_rest_by c.args.size.now.granule c.bytes.result.now c.args.size.now.threads = c.in_ok-memory.ensures in
     let count = c.loop-t.invariant.count in
     let all : c.threads-threads.result ≡ length c.loop-t.guests.items = omega (arith, count) in
@@ -39,7 +40,7 @@ returns-clause-ready c budget =
     }
 
 pub returns-clause-brought : goal.returns-clause-brought
-returns-clause-brought c budget =
+returns-clause-brought g c budget =
     record {
       guests = c.loop-t.invariant.start budget;
       memory = c.in_ok-memory.ensures ∙ ap (λ b. at_rest_by c.args.size.now.granule b c.args.size.now.threads) c.bytes.ensures.items;

@@ -3,18 +3,18 @@ use Rattle.run_checker.proofs.EachThread.{all_brought, taken, weaker_none, weake
 use Rattle.run_checker.proofs.checker.Checker.step.Goals as goal
 
 pub returns-clause-wrong : goal.returns-clause-wrong
-returns-clause-wrong c =
+returns-clause-wrong g c =
     let known : c.args.access.thread < length c.args.self.now.guests.items = omega arith in
     weaker_some c.make.result _ _
     (λ why wrong size early brought.
-    wrong size early (taken c.args.image.now size c.args.budget early c.args.self.now c.args.access.thread c.index_mut-guest.result.now brought known c.index_mut-guest.ensures.value) brought.memory)
+    wrong size early (taken g.C.Core.set g.C.Core.machine c.args.image.now size c.args.budget early c.args.self.now c.args.access.thread c.index_mut-guest.result.now brought known c.index_mut-guest.ensures.value) brought.memory)
     c.make.ensures.wrong
 
 pub returns-clause-right : goal.returns-clause-right
-returns-clause-right c =
+returns-clause-right g c =
     let known : c.args.access.thread < length c.args.self.now.guests.items = omega arith in
     weaker_none c.make.result _ _
     (λ right size early brought.
-    let step = right size early (taken c.args.image.now size c.args.budget early c.args.self.now c.args.access.thread c.index_mut-guest.result.now brought known c.index_mut-guest.ensures.value) brought.memory in
-    (step.right, all_brought c.args.image.now size c.args.budget early c.args.access c.args.self.now c.make.new.guest c.make.new.memory brought step))
+    let step = right size early (taken g.C.Core.set g.C.Core.machine c.args.image.now size c.args.budget early c.args.self.now c.args.access.thread c.index_mut-guest.result.now brought known c.index_mut-guest.ensures.value) brought.memory in
+    (step.right, all_brought g.C.Core.set g.C.Core.machine c.args.image.now size c.args.budget early c.args.access c.args.self.now c.make.new.guest c.make.new.memory brought step))
     c.make.ensures.right

@@ -1,0 +1,11 @@
+pub mod SmallRuns
+pub mod Staying
+pub mod LeavingRuns
+pub mod SmallEnds
+pub mod LoopingRuns
+pub mod TracedRuns
+pub mod SmallTraces
+pub mod CheckedRuns
+pub mod SmallJudgements
+pub mod SmallTaking
+pub mod SmallVerdicts

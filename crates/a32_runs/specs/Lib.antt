@@ -1,0 +1,4 @@
+pub mod OneWord
+pub mod Leaving
+pub mod Turns
+pub mod Verdicts

@@ -1,0 +1,11 @@
+pub mod Listing
+pub mod Words
+pub mod Onward
+pub mod Branching
+pub mod LeftRuns
+pub mod States
+pub mod Blocks
+pub mod Rounds
+pub mod Stores
+pub mod Holding
+pub mod Counted

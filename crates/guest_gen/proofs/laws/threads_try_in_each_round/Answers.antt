@@ -1,5 +1,0 @@
-use Rattle.guest_gen.proofs.Counted.{tries_of_run}
-use Rattle.guest_gen.proofs.laws.threads_try_in_each_round.Goals as goal
-
-pub returns : goal.returns
-returns c = tries_of_run
