@@ -2,6 +2,7 @@
 
 use crate::conditional::Conditional;
 use crate::cpu::Cpu;
+use crate::phases::Progress;
 use guest_core::{Code, Core, Passage, Port, Wanted};
 use llsc_base::{CallAsk, Image};
 
@@ -29,9 +30,25 @@ impl Core for Cpu {
         Cpu::next(self, image)
     }
 
+    /// It is at its start where it calls, stops, or stores and memory has no write left. It is under way where memory has no write
+    /// left for a later store of its block, or where it loads a PC that may not be.
     #[inline(always)]
     fn carry<P: Port>(&mut self, code: &mut Code<Conditional>, port: &mut P) -> Passage {
-        Cpu::carry(self, code, port)
+        let pc = self.execution.pc();
+        let found = code.find(pc);
+        if !found {
+            return Passage::AtStart;
+        }
+        let known = code.at(pc);
+        if !self.execution.meets(known.cond) {
+            self.execution.advance();
+            return Passage::Complete;
+        }
+        let image = code.image();
+        match self.execution.act(&known.instr, image, port) {
+            Progress::Complete => Passage::Complete,
+            Progress::Held => self.put_back(code),
+        }
     }
 
     #[inline(always)]

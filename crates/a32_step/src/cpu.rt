@@ -3,27 +3,26 @@ ghost use Rattle.std.specs.Prelude.{◌≡◌, ◌≤◌, ◌%◌, ◌+◌, ◌^
 ghost use Rattle.a32_instr.specs.declared.instructions.Instr.{Instr};
 ghost use Rattle.a32_instr.specs.State.{answered};
 ghost use Rattle.llsc_base.specs.Words.{AreWords};
-ghost use Rattle.a32_step.specs.Passages.{IsCarriedOn};
 ghost use Rattle.guest_core.specs.Passages.{in_hand, passage_of};
 ghost use Rattle.guest_core.specs.Phase as phase;
 ghost use Rattle.a32_step.specs.Machine.{start_of, next_effect, after_next, after_instr, begins, instr_at, HasBegun};
 ghost use Rattle.guest_core.specs.Machine.{given, wanted_of, between, Follows, IsReady, IsTested, IsAwaiting, IsCalling};
 
-use guest_core::{Code, Passage, Port, Wanted};
-use crate::execution::Execution;
-use crate::phases::{Point, Progress};
 use crate::conditional::Conditional;
+use crate::execution::Execution;
+use crate::phases::Point;
 use crate::slot::Slot;
 use crate::sources::Nobody;
-use llsc_base::{CallAsk, Image};
 use a32_instr::Flags;
+use guest_core::{Passage, Wanted};
+use llsc_base::{CallAsk, Image};
 use std::marker::Model;
 
 /// The core of one guest thread: r0 to r14, the flags, the PC, and where it stands in its
 /// instruction. Registers, flags and PC keep their values until an instruction is complete.
 #[derive(Drop)]
 pub struct Cpu {
-    execution: Execution,
+    pub(crate) execution: Execution,
     /// The instruction in hand, and the word that it was decoded from.
     held: Slot,
     /// The span that served the last fetch.
@@ -217,55 +216,21 @@ impl Cpu {
 }
 
 impl Cpu {
-    /// Carries the next instruction through, over a port that replies to its accesses at once. The core is between two
-    /// instructions, and the port's memory has as many bytes as the program.
-    ///
-    /// The instruction is complete; or the core is between two instructions as it was, and [`Cpu::next`] says what holds it: a
-    /// call, a stop, or a store for which memory has no write left. Or it is under way with the replies that it had, where
-    /// memory has no write left for a later store of its block, or where it loads a PC that may not be; [`Cpu::next`] goes on from there.
-    #[inline(always)]
-    pub fn carry<P: Port>(&mut self, code: &mut Code<Conditional>, port: &mut P) -> Passage
-        requires rest { self.old ≡ between self.old.state }
-        requires mem { P.mem port.old ≡ length code.old.program.bytes }
-        requires few { P.counted port.old + 16 ≤ 2 ^ 63 }
-        ensures carried { IsCarriedOn P.replies code.old.program self.old port.old result self.new port.new }
-        ensures program { code.new.program ≡ code.old.program }
-        ensures room { length self.new.replies ≤ 16 }
-        ensures mem { P.mem port.new ≡ P.mem port.old }
-        ensures counted { P.counted port.new ≤ P.counted port.old + 16 }
-    {
-        let pc = self.execution.pc();
-        let found = code.find(pc);
-        if !found {
-            return Passage::AtStart;
-        }
-        let known = code.at(pc);
-        if !self.execution.meets(known.cond) {
-            self.execution.advance();
-            return Passage::Complete;
-        }
-        let image = code.image();
-        match self.execution.act(&known.instr, image, port) {
-            Progress::Complete => Passage::Complete,
-            Progress::Held => self.put_back(image),
-        }
-    }
-
     /// The instruction at the PC, which is held, goes on after the replies that it had, or is at its start again where it had
     /// none.
     #[cold]
     #[inline(never)]
-    fn put_back(&mut self, image: &Image) -> Passage
-        requires { (instr : Instr) × (instr_at image.now self.old.state.pc ≡ Ok instr) }
+    pub(crate) fn put_back(&mut self, code: &Code<Conditional>) -> Passage
+        requires { (instr : Instr) × (instr_at code.now.program self.old.state.pc ≡ Ok instr) }
         ensures passage { result ≡ passage_of self.old.replies }
-        ensures machine { (instr : Instr) → instr_at image.now self.old.state.pc ≡ Ok instr → self.new ≡ in_hand instr self.old.state self.old.replies }
+        ensures machine { (instr : Instr) → instr_at code.now.program self.old.state.pc ≡ Ok instr → self.new ≡ in_hand instr self.old.state self.old.replies }
         ensures room { length self.new.replies ≤ 16 }
     {
         if self.execution.count_replies() == 0 {
             self.execution.finish();
             return Passage::AtStart;
         }
-        self.held.keep(image, self.execution.pc());
+        self.held.keep(code.image(), self.execution.pc());
         self.execution.begin();
         Passage::UnderWay
     }

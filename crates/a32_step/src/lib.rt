@@ -5,7 +5,7 @@
 //! answers an access by [`Cpu::give`] and a call by [`Cpu::answer`]. Each of them is proved to be
 //! what the effect of the instruction says (`a32_instr`, `specs/Effect`); `specs/Machine` here says
 //! it of a machine that is in the middle of an instruction, and [`laws`] that the two agree over all
-//! replies. [`Cpu::carry`] takes a whole instruction at once, over a [`Port`], which replies to its
+//! replies. [`Core::carry`] takes a whole instruction at once, over a [`Port`], which replies to its
 //! accesses, and over [`Code`], which knows the instructions of one image that were met. A [`Remembering`] is a core that goes
 //! access by access, and decodes the words of a loop once.
 #![tactic(auto)]

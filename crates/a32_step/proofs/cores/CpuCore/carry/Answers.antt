@@ -1,6 +1,7 @@
-use Rattle.std.proofs.Common.{rules, ◌≤◌, List, ℕ, length, sym, subst, ◌∙◌}
+use Rattle.std.proofs.Common.{rules, ◌≤◌, List, ℕ, length, sym, ap, subst, ◌∙◌}
+use Rattle.a32_step.specs.Machine.{instr_at}
 use Rattle.a32_step.proofs.CarriedOn.{carried_on, carried_through, found, known_still, none_left, not_on, passed_over}
-use Rattle.a32_step.proofs.cpu.Cpu.carry.Goals as goal
+use Rattle.a32_step.proofs.cores.CpuCore.carry.Goals as goal
 
 pub returns-then-not-found-clause-carried : goal.returns-then-not-found-clause-carried
 returns-then-not-found-clause-carried g c = not_on c.requires.rest
@@ -13,7 +14,7 @@ returns-then-not-meets-clause-carried g c =
 pub put_back-requires : goal.put_back-requires
 put_back-requires g c =
     let it = found _ _ _ c.self.view_is c.requires.rest c.pc-pc.ensures.pc c.find-found.ensures.program c.at-known.ensures.instr c.at-known.ensures.right c.meets.ensures in
-    (c.at-known.result.now.instr, known_still it c.if-not-meets.false (c.image-image.ensures ∙ c.find-found.ensures.program) c.act.ensures.acted c.in-Held.is)
+    (c.at-known.result.now.instr, ap (λ p. instr_at p c.act.new.self.state.pc) (sym c.image-image.ensures) ∙ known_still it c.if-not-meets.false (c.image-image.ensures ∙ c.find-found.ensures.program) c.act.ensures.acted c.in-Held.is)
 
 pub returns-in-Complete-clause-carried : goal.returns-in-Complete-clause-carried
 returns-in-Complete-clause-carried g c =
@@ -29,4 +30,5 @@ returns-in-Complete-clause-room g c =
 pub returns-in-Held-clause-carried : goal.returns-in-Held-clause-carried
 returns-in-Held-clause-carried g c =
     let it = found _ _ _ c.self.view_is c.requires.rest c.pc-pc.ensures.pc c.find-found.ensures.program c.at-known.ensures.instr c.at-known.ensures.right c.meets.ensures in
-    carried_on it c.if-not-meets.false (c.image-image.ensures ∙ c.find-found.ensures.program) c.act.ensures.acted c.in-Held.is c.put_back.ensures.passage c.put_back.ensures.machine
+    carried_on it c.if-not-meets.false (c.image-image.ensures ∙ c.find-found.ensures.program) c.act.ensures.acted c.in-Held.is c.put_back.ensures.passage
+    (λ instr at. c.put_back.ensures.machine instr (ap (λ p. instr_at p c.act.new.self.state.pc) (sym c.image-image.ensures) ∙ at))
