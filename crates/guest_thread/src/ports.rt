@@ -1,5 +1,6 @@
 //! The run of a thread over a port, which replies to its accesses.
-ghost use Rattle.std.specs.Prelude.{◌≡◌, ◌<◌, ◌≤◌, ◌+◌, ◌*◌, ◌^◌, ◌++◌, [], Bool, List, Some, IfNone, IfSome, MatchOption, length, true};
+ghost use Rattle.std.specs.Prelude.{◌≡◌, ◌<◌, ◌≤◌, ◌+◌, ◌*◌, ◌^◌, ◌++◌, [], ℕ, Bool, List, Some, IfNone, IfSome, IsTrue, MatchOption, length, true};
+ghost use Rattle.llsc_base.specs.Images.{Program};
 ghost use Rattle.llsc_base.specs.Limits.{most_budget};
 ghost use Rattle.guest_calls.specs.Calls.{most_output};
 ghost use Rattle.guest_core.specs.Machine.{MachineOf};
@@ -11,7 +12,7 @@ ghost use Rattle.guest_thread.specs.ThreadState.{thread_in};
 ghost use Rattle.guest_thread.specs.Under.{HasCome, HasComeFrom};
 
 use crate::guests::{Event, Guest, Turn};
-use llsc_base::{Ask, Image, Stop};
+use llsc_base::{Ask, Stop};
 use guest_core::{Code, Core, Passage, Port};
 
 /// How a thread that may start others comes to rest.
@@ -32,28 +33,29 @@ impl<C: Core> Guest<C> {
     #[inline(never)]
     fn pass<P: Port>(
         &mut self,
-        image: &Image,
+        code: &Code<C::Ready>,
         budget: u64,
         port: &mut P,
         starts: bool,
     ) -> Option<Rest>
-        requires running { IsRunning (length image.now.bytes) budget (thread_in C.machine self.old) }
-        requires mem { P.mem port.old ≡ length image.now.bytes }
+        requires running { IsRunning (length code.now.program.bytes) budget (thread_in C.machine self.old) }
+        requires mem { P.mem port.old ≡ length code.now.program.bytes }
         requires counted { P.counted port.old ≤ progress_of (thread_in C.machine self.old) }
-        requires small { length image.now.bytes < 2 ^ 32 }
+        requires small { length code.now.program.bytes < 2 ^ 32 }
         requires budget { budget ≤ most_budget }
-        ensures goes_on { IfNone result (IsRunning (length image.now.bytes) budget (thread_in C.machine self.new)) }
+        ensures goes_on { IfNone result (IsRunning (length code.now.program.bytes) budget (thread_in C.machine self.new)) }
         ensures later { IfNone result (progress_of (thread_in C.machine self.old) < progress_of (thread_in C.machine self.new)) }
         ensures mem { P.mem port.new ≡ P.mem port.old }
         ensures counted { P.counted port.new ≤ progress_of (thread_in C.machine self.new) }
         ensures no_more { IfSome result (λ _. P.counted port.new ≤ P.counted port.old) }
         ensures bounded { IsBounded (thread_in C.machine self.new) }
-        ensures comes { (from : PointOf C.Instr C.State) (before : List Pair) → HasComeFrom C.set starts image.now budget from before (thread_in C.machine self.old)
-            → MatchOption result ((pairs : List Pair) × (Leads P.replies port.old pairs port.new × HasComeFrom C.set starts image.now budget from (before ++ pairs) (thread_in C.machine self.new)))
-            (λ rest. Leads P.replies port.old [] port.new × RestsBy C.set starts (P.refuses port.new) image.now budget from before rest (thread_in C.machine self.new)) }
+        ensures comes { (from : PointOf C.Instr C.State) (before : List Pair) → HasComeFrom C.set starts code.now.program budget from before (thread_in C.machine self.old)
+            → MatchOption result ((pairs : List Pair) × (Leads P.replies port.old pairs port.new × HasComeFrom C.set starts code.now.program budget from (before ++ pairs) (thread_in C.machine self.new)))
+            (λ rest. Leads P.replies port.old [] port.new × RestsBy C.set starts (P.refuses port.new) code.now.program budget from before rest (thread_in C.machine self.new)) }
         ensures within { IfSome result (λ rest. RestsWithin budget rest (thread_in C.machine self.new)) }
         ensures starts { result ≡ Some Rest.Starts → starts ≡ true }
     {
+        let image = code.image();
         let Some(event) = self.one_turn(image, budget, starts) else {
             return None;
         };
@@ -160,10 +162,9 @@ impl<C: Core> Guest<C> {
         ensures within { RestsWithin budget result (thread_in C.machine self.new) }
         ensures starts { result ≡ Rest.Starts → starts ≡ true }
     {
-        let image = code.image();
         loop {
             self.carry_on(code, budget, port);
-            if let Some(rest) = self.pass(image, budget, port, starts) {
+            if let Some(rest) = self.pass(code, budget, port, starts) {
                 return rest;
             }
         }
