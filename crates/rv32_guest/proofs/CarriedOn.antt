@@ -3,8 +3,7 @@ use Rattle.std.proofs.Common.{◌≡◌, ℕ, Option, Some, None, List, [], ◌�
 use Rattle.llsc_base.specs.Images.{Program}
 use Rattle.llsc_base.specs.declared.outside.Ask.{Ask}
 use Rattle.llsc_base.specs.Effects.{asks, completes}
-use Rattle.guest_core.specs.declared.phases.Passage.{Passage}
-use Rattle.guest_core.specs.declared.phases.Passage.TheVariants.{Complete, AtStart, UnderWay}
+use Rattle.guest_core.specs.declared.phases.Passage.TheVariants.{Complete, AtStart}
 use Rattle.guest_core.specs.Phase as phase
 use Rattle.guest_core.specs.Machine.{after_found_of, after_of, begins_of, between, given, moved_on, next_of, IsReady}
 use Rattle.guest_core.specs.Passages.{ComesOf, EndsAtOf, IsCarriedOnOf, starts, replied}
@@ -15,8 +14,9 @@ use Rattle.rv32_guest.specs.declared.instructions.RvInstr.{RvInstr}
 use Rattle.rv32_guest.specs.Effect.{acts}
 use Rattle.rv32_guest.specs.Inside.{machine_of}
 use Rattle.rv32_guest.specs.Machine.{Machine, instr_at, rv32}
-use Rattle.rv32_guest.specs.Outcome.{replies_of}
-use Rattle.rv32_guest.specs.Passages.{GoesOnWith}
+use Rattle.rv32_guest.specs.Outcome.{replies_of, Keeps}
+use Rattle.rv32_guest.specs.declared.outcomes.Outcome.{Outcome}
+use Rattle.rv32_guest.specs.declared.outcomes.Outcome.TheVariants as comes
 use Rattle.rv32_guest.specs.State.{RvState, Effect}
 use Rattle.rv32_guest.proofs.Resting.{is_resting}
 
@@ -36,18 +36,16 @@ with_registers inside old state now is rest =
     ap (λ s. machine_of (record inside { registers = now; stage = s })) at
     ∙ ap (λ r. machine_of (record inside { registers = now; stage = stage.Between; reply = r })) none
 
--- a core's next instruction was found, in an image that is the program
-pub record IsFound (program image : Program) (old : Machine) (state : RvState) (instr : RvInstr) : Type 0 where
+-- a core's next instruction was found
+pub record IsFound (program : Program) (old : Machine) (state : RvState) (instr : RvInstr) : Type 0 where
   pub begins_at : old ≡ between state
   pub known : instr_at program state.pc ≡ Ok instr
-  pub same : image ≡ program
 
-pub found : {program before image : Program} {old : Machine} {instr : RvInstr} (inside : fields.Inside) (pc : ℕ) → machine_of inside ≡ old → old ≡ between old.state
-    → pc ≡ inside.registers.pc → before ≡ program → instr_at before pc ≡ Ok instr → image ≡ before → IsFound program image old inside.registers instr
-found {program} inside pc is rest at same known image_is = record {
+pub found : {program before : Program} {old : Machine} {instr : RvInstr} (inside : fields.Inside) (pc : ℕ) → machine_of inside ≡ old → old ≡ between old.state
+    → pc ≡ inside.registers.pc → before ≡ program → instr_at before pc ≡ Ok instr → IsFound program old inside.registers instr
+found {program} inside pc is rest at same known = record {
   begins_at = rest ∙ ap between (sym (ap (λ (m : Machine). m.state) is));
   known = ap (instr_at program) (sym at) ∙ ap (λ p. instr_at p pc) (sym same) ∙ known;
-  same = image_is ∙ same;
 }
 
 -- ---- how it was carried on
@@ -62,6 +60,19 @@ not_on {old = old} rest = record {
   ends = (refl, subst (λ (m : Machine). IsReady m.phase) (sym rest) tt);
 }
 
+held_keeps : (outcome : Outcome) (old now : RvState) → (outcome ≡ comes.Completes → ⊥) → Keeps outcome old now → now ≡ old
+held_keeps comes.Completes old now held kept = absurd (held refl)
+held_keeps (comes.Calls call) old now held kept = kept
+held_keeps (comes.Stops stop) old now held kept = kept
+
+-- it calls or stops
+pub held_on : {P : Type 0} {replies : P → Ask → Option ℕ → P → Type 0} {program : Program} {old : Machine} {from : P} (inside : fields.Inside) (outcome : Outcome) (now : RvState)
+    → machine_of inside ≡ old → old ≡ between old.state → (outcome ≡ comes.Completes → ⊥) → Keeps outcome inside.registers now
+    → IsCarriedOnOf rv32 replies program old from AtStart (machine_of (record inside { registers = now })) from
+held_on {P} {replies} {program} {old} {from} inside outcome now is rest held kept =
+    subst (λ r. IsCarriedOnOf rv32 replies program old from AtStart (machine_of (record inside { registers = r })) from) (sym (held_keeps outcome inside.registers now held kept))
+        (subst (λ m. IsCarriedOnOf rv32 replies program old from AtStart m from) (sym is) (not_on rest))
+
 -- the store that it asks for was refused
 pub refused_on : {P : Type 0} {replies : P → Ask → Option ℕ → P → Type 0} {program : Program} {old : Machine} {from to : P} (ask : Ask) → old ≡ between old.state
     → replies from ask None to → IsCarriedOnOf rv32 replies program old from AtStart old to
@@ -73,7 +84,7 @@ refused_on {old = old} {from = from} {to = to} ask rest served = record {
   ends = (refl, subst (λ (m : Machine). IsReady m.phase) (sym rest) tt);
 }
 
-module _ {program image : Program} {old : Machine} {state : RvState} {instr : RvInstr} (it : IsFound program image old state instr) where
+module _ {program : Program} {old : Machine} {state : RvState} {instr : RvInstr} (it : IsFound program old state instr) where
   does : List ℕ → Effect
   does had = acts instr program had state
 
@@ -93,20 +104,15 @@ module _ {program image : Program} {old : Machine} {state : RvState} {instr : Rv
   unfolding with_reply
   given_on ask reply asked = ap (λ m. given m reply) (first_after ∙ ap (moved_on instr (between state)) asked)
 
-  ends_with : (reply : ℕ) (passage : Passage) (new : Machine) → GoesOnWith instr reply (does (reply ∷ [])) old passage new → EndsAtOf rv32 program (with_reply reply) passage new
+  ends_with : (reply : ℕ) (done : RvState) (new : Machine) → does (reply ∷ []) ≡ completes done → new ≡ between done → EndsAtOf rv32 program (with_reply reply) Complete new
   unfolding with_reply does
-  ends_with reply Complete new goes_on = (goes_on.0, goes_on.1, goes_on.2 ∙ sym (ap (moved_on instr (with_reply reply)) goes_on.1), goes_on.2)
-  ends_with reply AtStart new goes_on = absurd goes_on
-  ends_with reply UnderWay new goes_on =
-      let now_is : new ≡ with_reply reply = goes_on ∙ ap (λ (m : Machine). record { state = m.state; phase = phase.Inside instr; replies = reply ∷ [] }) it.begins_at in
-      (now_is, tt)
+  ends_with reply done new is now_is = (done, is, now_is ∙ sym (ap (moved_on instr (with_reply reply)) is), now_is)
 
   module _ {P : Type 0} {replies : P → Ask → Option ℕ → P → Type 0} {from : P} where
     -- it was complete at once
-    pub carried_at_once : {new : Machine} (done : RvState) → completes done ≡ acts instr image [] state → new ≡ between done → IsCarriedOnOf rv32 replies program old from Complete new from
+    pub carried_at_once : {new : Machine} (done : RvState) → acts instr program [] state ≡ completes done → new ≡ between done → IsCarriedOnOf rv32 replies program old from Complete new from
     unfolding does
-    carried_at_once {new} done by_image now_is =
-        let is : does [] ≡ completes done = sym (by_image ∙ ap (λ p. acts instr p [] state) it.same) in
+    carried_at_once {new} done is now_is =
         subst (λ m. IsCarriedOnOf rv32 replies program m from Complete new from) (sym it.begins_at) (record {
           pairs = [];
           machine = between state;
@@ -115,17 +121,15 @@ module _ {program image : Program} {old : Machine} {state : RvState} {instr : Rv
           ends = (done, first_effect ∙ is, now_is ∙ sym (first_after ∙ ap (moved_on instr (between state)) is), now_is);
         })
 
-    -- it went on with the reply
-    pub carried_by_reply : {passage : Passage} {new : Machine} {to : P} (ask : Ask) (reply : ℕ) → asks ask ≡ acts instr image [] state → replies from ask (Some reply) to
-        → GoesOnWith instr reply (acts instr image (reply ∷ []) state) old passage new → IsCarriedOnOf rv32 replies program old from passage new to
+    -- it was complete with the reply
+    pub carried_by_reply : {new : Machine} {to : P} (ask : Ask) (reply : ℕ) (done : RvState) → acts instr program [] state ≡ asks ask → replies from ask (Some reply) to
+        → acts instr program (reply ∷ []) state ≡ completes done → new ≡ between done → IsCarriedOnOf rv32 replies program old from Complete new to
     unfolding does
-    carried_by_reply {passage} {new} {to} ask reply by_image served goes_on =
-        let asked : does [] ≡ asks ask = sym (by_image ∙ ap (λ p. acts instr p [] state) it.same) in
-        let ends = ends_with reply passage new (subst (λ p. GoesOnWith instr reply (acts instr p (reply ∷ []) state) old passage new) it.same goes_on) in
-        subst (λ m. IsCarriedOnOf rv32 replies program m from passage new to) (sym it.begins_at) (record {
+    carried_by_reply {new} {to} ask reply done asked served is now_is =
+        subst (λ m. IsCarriedOnOf rv32 replies program m from Complete new to) (sym it.begins_at) (record {
           pairs = (ask, reply) ∷ [];
           machine = with_reply reply;
           leads = goes [] from to ask reply stays served;
           comes = subst (λ m. ComesOf rv32 program (between state) ((ask, reply) ∷ []) m) (given_on ask reply asked) (replied [] (between state) ask reply starts (first_effect ∙ asked));
-          ends = ends;
+          ends = ends_with reply done new is now_is;
         })

@@ -3,9 +3,9 @@ pub mod Opcodes
 pub mod Apart
 pub mod Meanings
 pub mod Zero
-pub mod Quiet
 pub mod Sound
 pub mod OthersCompute
+pub mod OthersAskNothing
 pub mod CarriedOn
 pub mod Ending
 pub mod Resting

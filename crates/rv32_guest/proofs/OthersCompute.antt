@@ -2,9 +2,10 @@
 use Rattle.std.proofs.Common.{◌≡◌, ℕ, ℤ, refl}
 use Rattle.rv32_guest.specs.declared.instructions.RvInstr.{RvInstr}
 use Rattle.rv32_guest.specs.declared.instructions.RvInstr.TheVariants.{Lui, Auipc, Jal, Jalr, Beq, Bne, Blt, Bge, Bltu, Bgeu, Lb, Lh, Lw, Lbu, Lhu, Sb, Sh, Sw, Addi, Slti, Sltiu, Xori, Ori, Andi, Slli, Srli, Srai, Add, Sub, Sll, Slt, Sltu, Xor, Srl, Sra, Or, And, Fence, LrW, ScW, Ecall}
-use Rattle.rv32_guest.specs.Classes.{instr_class, IsComputing}
+use Rattle.rv32_guest.specs.Classes.{instr_class, IsComputing, MakesNoAccess}
 
 pub record IsNoneOfThem (instr : RvInstr) : Type 0 where
+  pub makes_none : MakesNoAccess (instr_class instr)
   pub not_lui : (rd : ℕ) (imm : ℕ) → instr ≡ Lui rd imm → ⊥
   pub not_auipc : (rd : ℕ) (imm : ℕ) → instr ≡ Auipc rd imm → ⊥
   pub not_jal : (rd : ℕ) (imm : ℤ) → instr ≡ Jal rd imm → ⊥
@@ -15,17 +16,7 @@ pub record IsNoneOfThem (instr : RvInstr) : Type 0 where
   pub not_bge : (rs1 : ℕ) (rs2 : ℕ) (imm : ℤ) → instr ≡ Bge rs1 rs2 imm → ⊥
   pub not_bltu : (rs1 : ℕ) (rs2 : ℕ) (imm : ℤ) → instr ≡ Bltu rs1 rs2 imm → ⊥
   pub not_bgeu : (rs1 : ℕ) (rs2 : ℕ) (imm : ℤ) → instr ≡ Bgeu rs1 rs2 imm → ⊥
-  pub not_lb : (rd : ℕ) (rs1 : ℕ) (imm : ℤ) → instr ≡ Lb rd rs1 imm → ⊥
-  pub not_lh : (rd : ℕ) (rs1 : ℕ) (imm : ℤ) → instr ≡ Lh rd rs1 imm → ⊥
-  pub not_lw : (rd : ℕ) (rs1 : ℕ) (imm : ℤ) → instr ≡ Lw rd rs1 imm → ⊥
-  pub not_lbu : (rd : ℕ) (rs1 : ℕ) (imm : ℤ) → instr ≡ Lbu rd rs1 imm → ⊥
-  pub not_lhu : (rd : ℕ) (rs1 : ℕ) (imm : ℤ) → instr ≡ Lhu rd rs1 imm → ⊥
-  pub not_sb : (rs1 : ℕ) (rs2 : ℕ) (imm : ℤ) → instr ≡ Sb rs1 rs2 imm → ⊥
-  pub not_sh : (rs1 : ℕ) (rs2 : ℕ) (imm : ℤ) → instr ≡ Sh rs1 rs2 imm → ⊥
-  pub not_sw : (rs1 : ℕ) (rs2 : ℕ) (imm : ℤ) → instr ≡ Sw rs1 rs2 imm → ⊥
   pub not_fence : instr ≡ Fence → ⊥
-  pub not_lr_w : (rd : ℕ) (rs1 : ℕ) → instr ≡ LrW rd rs1 → ⊥
-  pub not_sc_w : (rd : ℕ) (rs1 : ℕ) (rs2 : ℕ) → instr ≡ ScW rd rs1 rs2 → ⊥
   pub not_ecall : instr ≡ Ecall → ⊥
 
 pub others_compute : (instr : RvInstr) → IsNoneOfThem instr → IsComputing (instr_class instr)
@@ -39,14 +30,14 @@ others_compute (Blt rs1 rs2 imm) none = absurd (none.not_blt rs1 rs2 imm refl)
 others_compute (Bge rs1 rs2 imm) none = absurd (none.not_bge rs1 rs2 imm refl)
 others_compute (Bltu rs1 rs2 imm) none = absurd (none.not_bltu rs1 rs2 imm refl)
 others_compute (Bgeu rs1 rs2 imm) none = absurd (none.not_bgeu rs1 rs2 imm refl)
-others_compute (Lb rd rs1 imm) none = absurd (none.not_lb rd rs1 imm refl)
-others_compute (Lh rd rs1 imm) none = absurd (none.not_lh rd rs1 imm refl)
-others_compute (Lw rd rs1 imm) none = absurd (none.not_lw rd rs1 imm refl)
-others_compute (Lbu rd rs1 imm) none = absurd (none.not_lbu rd rs1 imm refl)
-others_compute (Lhu rd rs1 imm) none = absurd (none.not_lhu rd rs1 imm refl)
-others_compute (Sb rs1 rs2 imm) none = absurd (none.not_sb rs1 rs2 imm refl)
-others_compute (Sh rs1 rs2 imm) none = absurd (none.not_sh rs1 rs2 imm refl)
-others_compute (Sw rs1 rs2 imm) none = absurd (none.not_sw rs1 rs2 imm refl)
+others_compute (Lb rd rs1 imm) none = absurd none.makes_none
+others_compute (Lh rd rs1 imm) none = absurd none.makes_none
+others_compute (Lw rd rs1 imm) none = absurd none.makes_none
+others_compute (Lbu rd rs1 imm) none = absurd none.makes_none
+others_compute (Lhu rd rs1 imm) none = absurd none.makes_none
+others_compute (Sb rs1 rs2 imm) none = absurd none.makes_none
+others_compute (Sh rs1 rs2 imm) none = absurd none.makes_none
+others_compute (Sw rs1 rs2 imm) none = absurd none.makes_none
 others_compute (Addi rd rs1 imm) none = tt
 others_compute (Slti rd rs1 imm) none = tt
 others_compute (Sltiu rd rs1 imm) none = tt
@@ -67,6 +58,6 @@ others_compute (Sra rd rs1 rs2) none = tt
 others_compute (Or rd rs1 rs2) none = tt
 others_compute (And rd rs1 rs2) none = tt
 others_compute Fence none = absurd (none.not_fence refl)
-others_compute (LrW rd rs1) none = absurd (none.not_lr_w rd rs1 refl)
-others_compute (ScW rd rs1 rs2) none = absurd (none.not_sc_w rd rs1 rs2 refl)
+others_compute (LrW rd rs1) none = absurd none.makes_none
+others_compute (ScW rd rs1 rs2) none = absurd none.makes_none
 others_compute Ecall none = absurd (none.not_ecall refl)

@@ -67,3 +67,27 @@ IsComputing by_immediate = Unit {0}
 IsComputing by_registers = Unit {0}
 IsComputing reserving = ⊥
 IsComputing fence_or_call = ⊥
+
+-- classes whose instructions make an access
+abbrev pub MakesAccess : Class → Type 0
+MakesAccess upper_immediate = ⊥
+MakesAccess jumping = ⊥
+MakesAccess branching = ⊥
+MakesAccess loading = Unit {0}
+MakesAccess storing = Unit {0}
+MakesAccess by_immediate = ⊥
+MakesAccess by_registers = ⊥
+MakesAccess reserving = Unit {0}
+MakesAccess fence_or_call = ⊥
+
+-- classes whose instructions make none
+abbrev pub MakesNoAccess : Class → Type 0
+MakesNoAccess upper_immediate = Unit {0}
+MakesNoAccess jumping = Unit {0}
+MakesNoAccess branching = Unit {0}
+MakesNoAccess loading = ⊥
+MakesNoAccess storing = ⊥
+MakesNoAccess by_immediate = Unit {0}
+MakesNoAccess by_registers = Unit {0}
+MakesNoAccess reserving = ⊥
+MakesNoAccess fence_or_call = Unit {0}

@@ -11,5 +11,4 @@ pub mod Outcome
 pub mod Registers
 pub mod Inside
 pub mod Classes
-pub mod Passages
 pub mod Stops

@@ -1,7 +1,9 @@
 //! The core of a RISC-V guest as one of the cores that run guests.
 use crate::calls::call_of;
 use crate::cpu::RvCpu;
+use crate::execution::stop_at;
 use crate::instructions::RvInstr;
+use crate::outcomes::Outcome;
 use llsc_base::{CallAsk, Image};
 use guest_core::{Code, Core, Passage, Port, Wanted};
 
@@ -24,9 +26,29 @@ impl Core for RvCpu {
         RvCpu::start(entry, t, n, sp)
     }
 
+    /// It is at its start where it calls, stops, or stores and memory has no write left, and under way nowhere.
     #[inline(always)]
     fn carry<P: Port>(&mut self, code: &mut Code<RvInstr>, port: &mut P) -> Passage {
-        RvCpu::carry(self, code, port)
+        let pc = self.registers.pc();
+        let found = code.find(pc);
+        if !found {
+            return Passage::AtStart;
+        }
+        let instr = *code.at(pc);
+        let Some(ask) = self.registers.access(instr) else {
+            match self.registers.act(instr) {
+                Outcome::Completes => return Passage::Complete,
+                _ => return Passage::AtStart,
+            }
+        };
+        if stop_at(code.image(), ask).is_some() {
+            return Passage::AtStart;
+        }
+        let Some(reply) = port.reply(ask) else {
+            return Passage::AtStart;
+        };
+        self.registers.take(instr, reply);
+        Passage::Complete
     }
 
     #[inline(always)]

@@ -1,13 +1,16 @@
 //! One guest thread's core.
-ghost use Rattle.std.specs.Prelude.{◌≡◌, ◌%◌, ◌+◌, ◌<◌, ◌≤◌, [], length, IsTrue};
+ghost use Rattle.std.specs.Prelude.{◌≡◌, ◌%◌, ◌+◌, ◌<◌, ◌≤◌, ℕ, List, [], length, IsTrue};
+ghost use Rattle.llsc_base.specs.Images.{Program};
 ghost use Rattle.llsc_base.specs.Effects.{stops};
 ghost use Rattle.guest_core.specs.Phase as phase;
 ghost use Rattle.guest_core.specs.Machine.{after_found_of, after_of, begins_of, between, given, moved_on, next_of, wanted_of, Follows, IsAwaiting, IsCalling, IsReady, IsTested};
+ghost use Rattle.rv32_guest.specs.Classes.{instr_class, MakesNoAccess};
 ghost use Rattle.rv32_guest.specs.Effect.{acts};
 ghost use Rattle.rv32_guest.specs.Machine.{instr_at, rv32, start_of};
 ghost use Rattle.rv32_guest.specs.State.{RvState, answered, register};
 
 use crate::decoder::rv_decode;
+use crate::execution::stop_at;
 use crate::instructions::RvInstr;
 use crate::outcomes::Outcome;
 use crate::registers::Registers;
@@ -195,31 +198,51 @@ impl RvCpu {
     }
 
     /// An instruction does what it does with the replies so far.
-    #[inline]
     fn act(&mut self, instr: RvInstr, image: &Image) -> Wanted
         ensures wanted { result ≡ wanted_of (acts instr image.now self.old.replies self.old.state) }
         ensures state { self.new ≡ moved_on instr self.old (acts instr image.now self.old.replies self.old.state) }
         ensures tested { IsTested image.now self.old.replies result }
     {
-        let outcome = self.registers.outcome(instr, image, self.reply);
         self.instr = instr;
-        match outcome {
-            Outcome::Asks(ask) => {
-                self.stage = Stage::Awaiting(ask);
-                Wanted::Access(ask)
-            }
+        let Some(ask) = self.registers.access(instr) else {
+            return self.act_alone(instr);
+        };
+        if let Some(reply) = self.reply {
+            self.registers.take(instr, reply);
+            return self.finish();
+        }
+        if let Some(stop) = stop_at(image, ask) {
+            return self.stop(stop);
+        }
+        self.stage = Stage::Awaiting(ask);
+        Wanted::Access(ask)
+    }
+
+    /// An instruction that makes no access does what it does.
+    fn act_alone(&mut self, instr: RvInstr) -> Wanted
+        requires { MakesNoAccess (instr_class instr) }
+        ensures wanted { (program : Program) → result ≡ wanted_of (acts instr program self.old.replies self.old.state) }
+        ensures state { (program : Program) → self.new ≡ moved_on instr self.old (acts instr program self.old.replies self.old.state) }
+        ensures no_access { (program : Program) (replies : List ℕ) → IsTested program replies result }
+    {
+        match self.registers.act(instr) {
+            Outcome::Completes => self.finish(),
             Outcome::Calls(call) => {
                 self.stage = Stage::Calling(call);
                 Wanted::Call(call)
             }
-            Outcome::Completes { rd, value, pc } => {
-                self.registers.complete(rd, value, pc);
-                self.stage = Stage::Between;
-                self.reply = None;
-                Wanted::Done
-            }
             Outcome::Stops(stop) => self.stop(stop),
         }
+    }
+
+    /// The instruction is complete.
+    fn finish(&mut self) -> Wanted
+        ensures wanted { result ≡ Wanted.Done }
+        ensures state { self.new ≡ between self.old.state }
+    {
+        self.stage = Stage::Between;
+        self.reply = None;
+        Wanted::Done
     }
 
     /// The thread stops.

@@ -1,33 +1,41 @@
-//! What an instruction makes of the registers, and of the reply to its access.
-ghost use Rattle.std.specs.Prelude.{◌≡◌, ◌%◌};
-ghost use Rattle.rv32_guest.specs.Classes.{instr_class, IsComputing};
+//! What an instruction does with the registers.
+ghost use Rattle.std.specs.Prelude.{◌≡◌, ℕ, List};
+ghost use Rattle.llsc_base.specs.Images.{Program};
+ghost use Rattle.rv32_guest.specs.Classes.{instr_class, MakesNoAccess};
 ghost use Rattle.rv32_guest.specs.Computing.{moved};
-ghost use Rattle.rv32_guest.specs.State.{register, writes};
+ghost use Rattle.rv32_guest.specs.State.{advanced, register, with_register, writes};
 ghost use Rattle.rv32_guest.specs.Effect.{acts};
-ghost use Rattle.rv32_guest.specs.Outcome.{effect_by, replies_of, IsQuiet, IsSound};
+ghost use Rattle.rv32_guest.specs.Outcome.{effect_by, Keeps};
 
 use crate::arithmetic::{even, moved, sum};
 use crate::instructions::RvInstr;
 use crate::outcomes::Outcome;
 use crate::registers::Registers;
-use llsc_base::Image;
 
 mod accesses;
 mod computing;
 mod control;
 
+pub use accesses::stop_at;
+
 impl Registers {
-    /// The instruction is complete with a value in a register.
-    #[inline]
-    fn write(&self, rd: u8, value: u32) -> Outcome
-        ensures effect { effect_by self.now result ≡ writes self.now rd value }
-        ensures quiet { IsQuiet result }
+    /// A register gets a value, and the next instruction follows.
+    #[inline(always)]
+    fn advance_with(&mut self, rd: u8, value: u32)
+        ensures { self.new ≡ advanced (with_register self.old rd value) }
     {
-        Outcome::Completes {
-            rd,
-            value,
-            pc: self.next_pc(),
-        }
+        let next_pc = self.next_pc();
+        self.complete(rd, value, next_pc);
+    }
+
+    /// The instruction is complete with a value in a register.
+    #[inline(always)]
+    fn write(&mut self, rd: u8, value: u32) -> Outcome
+        ensures effect { effect_by self.new result ≡ writes self.old rd value }
+        ensures kept { Keeps result self.old self.new }
+    {
+        self.advance_with(rd, value);
+        Outcome::Completes
     }
 
     /// The address that a load, a store or a JALR has.
@@ -38,11 +46,12 @@ impl Registers {
         moved(self.x(rs1), imm)
     }
 
-    /// What an instruction does, with the reply to its access, if it has had one.
-    #[tactic(auto, using(crate::proofs::Quiet::quiet_is_sound))]
-    pub fn outcome(&self, instr: RvInstr, image: &Image, reply: Option<u64>) -> Outcome
-        ensures effect { effect_by self.now result ≡ acts instr image.now (replies_of reply) self.now }
-        ensures sound { IsSound image.now (replies_of reply) result }
+    /// What an instruction does that makes no access.
+    #[inline(always)]
+    pub fn act(&mut self, instr: RvInstr) -> Outcome
+        requires { MakesNoAccess (instr_class instr) }
+        ensures effect { (program : Program) (replies : List ℕ) → effect_by self.new result ≡ acts instr program replies self.old }
+        ensures kept { Keeps result self.old self.new }
     {
         match instr {
             RvInstr::Lui { rd, imm } => self.write(rd, imm),
@@ -55,18 +64,6 @@ impl Registers {
             | RvInstr::Bge { .. }
             | RvInstr::Bltu { .. }
             | RvInstr::Bgeu { .. } => self.branch_by(instr),
-            RvInstr::Lb { .. }
-            | RvInstr::Lh { .. }
-            | RvInstr::Lw { .. }
-            | RvInstr::Lbu { .. }
-            | RvInstr::Lhu { .. } => self.load(instr, image, reply),
-            RvInstr::Sb { .. } | RvInstr::Sh { .. } | RvInstr::Sw { .. } => {
-                self.store(instr, image, reply)
-            }
-            RvInstr::LrW { rd, rs1 } => self.reserve(image, reply, self.x(rs1), rd),
-            RvInstr::ScW { rd, rs1, rs2 } => {
-                self.store_if_reserved(image, reply, self.x(rs1), self.x(rs2), rd)
-            }
             RvInstr::Fence => self.write(0, 0),
             RvInstr::Ecall => Outcome::Calls(self.call()),
             _ => self.compute(instr),

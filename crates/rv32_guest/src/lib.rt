@@ -17,7 +17,6 @@ mod jumps;
 pub mod laws;
 mod memory;
 mod outcomes;
-mod passages;
 mod ready;
 mod registers;
 mod running;

@@ -1,14 +1,12 @@
-use llsc_base::{Ask, CallAsk, Stop};
+use llsc_base::{CallAsk, Stop};
 
-/// What an instruction does next.
+/// What an instruction comes to that makes no access.
 #[derive(Clone, Copy)]
 pub enum Outcome {
-    /// It asks for an access.
-    Asks(Ask),
+    /// It is complete.
+    Completes,
     /// It makes a guest call.
     Calls(CallAsk),
-    /// It is complete: a register, which may be x0, gets a value, and the next instruction stands at `pc`.
-    Completes { rd: u8, value: u32, pc: u32 },
     /// It stops the thread.
     Stops(Stop),
 }

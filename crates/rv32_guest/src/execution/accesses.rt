@@ -1,17 +1,17 @@
 //! Loads and stores ("Load and Store Instructions"), and load-reserved and store-conditional ("Zalrsc").
-ghost use Rattle.std.specs.Prelude.{◌≡◌, ◌%◌, ◌^◌, [], true, false};
+ghost use Rattle.std.specs.Prelude.{◌≡◌, ◌%◌, ◌^◌, [], ◌∷◌, IfNone, IfSome};
 ghost use Rattle.llsc_base.specs.Memory.{size_bytes};
-ghost use Rattle.llsc_base.specs.Images.{bar_of};
-ghost use Rattle.llsc_base.specs.declared.access.Size.TheVariants.{B1, B2, B4};
-ghost use Rattle.llsc_base.specs.Effects.{barred};
-ghost use Rattle.rv32_guest.specs.Classes.{instr_class, loading, storing};
-ghost use Rattle.rv32_guest.specs.Accesses.{asks_unless, loads, stores, reserves, stores_conditionally, place_of};
+ghost use Rattle.llsc_base.specs.Images.{Program};
+ghost use Rattle.llsc_base.specs.Effects.{barred, asks, completes, stops};
+ghost use Rattle.guest_core.specs.Machine.{PassesTests, ValueFits};
+ghost use Rattle.rv32_guest.specs.Classes.{instr_class, MakesAccess, MakesNoAccess};
+ghost use Rattle.rv32_guest.specs.Accesses.{asked_first, place_of};
+ghost use Rattle.rv32_guest.specs.Computing.{moved};
 ghost use Rattle.rv32_guest.specs.Effect.{acts};
-ghost use Rattle.rv32_guest.specs.Outcome.{effect_by, replies_of, IsSound};
+ghost use Rattle.rv32_guest.specs.State.{register};
 
 use crate::arithmetic::{loaded_byte, loaded_half, low_word};
 use crate::instructions::RvInstr;
-use crate::outcomes::Outcome;
 use crate::registers::Registers;
 use llsc_base::{Ask, Bar, Image, Place, Size, Stop};
 
@@ -26,194 +26,21 @@ fn barred(bar: Bar, addr: u32) -> Stop
     }
 }
 
-impl Registers {
-    /// A load that has had no reply yet.
-    fn ask_load(&self, image: &Image, place: Place) -> Outcome
-        ensures effect { effect_by self.now result ≡ asks_unless (bar_of image.now place false) place.addr (Ask.Load place) }
-        ensures sound { IsSound image.now [] result }
-    {
-        match image.test(place, false) {
-            Some(bar) => Outcome::Stops(barred(bar, place.addr)),
-            None => Outcome::Asks(Ask::Load(place)),
-        }
-    }
-
-    /// LB and LBU.
-    #[tactic(auto, using(crate::proofs::Quiet::quiet_is_sound))]
-    fn load_byte(
-        &self,
-        image: &Image,
-        reply: Option<u64>,
-        addr: u32,
-        with_sign: bool,
-        rd: u8,
-    ) -> Outcome
-        ensures effect { effect_by self.now result ≡ loads image.now (place_of B1 addr) with_sign rd (replies_of reply) self.now }
-        ensures sound { IsSound image.now (replies_of reply) result }
-    {
-        if let Some(reply) = reply {
-            return self.write(rd, loaded_byte(with_sign, reply));
-        }
-        self.ask_load(
-            image,
-            Place {
-                addr,
-                size: Size::B1,
-            },
-        )
-    }
-
-    /// LH and LHU.
-    #[tactic(auto, using(crate::proofs::Quiet::quiet_is_sound))]
-    fn load_half(
-        &self,
-        image: &Image,
-        reply: Option<u64>,
-        addr: u32,
-        with_sign: bool,
-        rd: u8,
-    ) -> Outcome
-        ensures effect { effect_by self.now result ≡ loads image.now (place_of B2 addr) with_sign rd (replies_of reply) self.now }
-        ensures sound { IsSound image.now (replies_of reply) result }
-    {
-        if let Some(reply) = reply {
-            return self.write(rd, loaded_half(with_sign, reply));
-        }
-        self.ask_load(
-            image,
-            Place {
-                addr,
-                size: Size::B2,
-            },
-        )
-    }
-
-    /// LW.
-    #[tactic(auto, using(crate::proofs::Quiet::quiet_is_sound))]
-    fn load_word(&self, image: &Image, reply: Option<u64>, addr: u32, rd: u8) -> Outcome
-        ensures effect { effect_by self.now result ≡ loads image.now (place_of B4 addr) false rd (replies_of reply) self.now }
-        ensures sound { IsSound image.now (replies_of reply) result }
-    {
-        if let Some(reply) = reply {
-            return self.write(rd, low_word(reply));
-        }
-        self.ask_load(
-            image,
-            Place {
-                addr,
-                size: Size::B4,
-            },
-        )
-    }
-
-    /// The low part of a value is stored.
-    #[tactic(auto, using(crate::proofs::Quiet::quiet_is_sound))]
-    fn store_part(&self, image: &Image, reply: Option<u64>, place: Place, value: u32) -> Outcome
-        ensures effect { effect_by self.now result ≡ stores image.now place value (replies_of reply) self.now }
-        ensures sound { IsSound image.now (replies_of reply) result }
-    {
-        if reply.is_some() {
-            return self.write(0, 0);
-        }
-        match image.test(place, true) {
-            Some(bar) => Outcome::Stops(barred(bar, place.addr)),
-            None => Outcome::Asks(Ask::Store(place, stored_part(place.size, value))),
-        }
-    }
-
-    /// LR.W.
-    #[tactic(auto, using(crate::proofs::Quiet::quiet_is_sound))]
-    pub(super) fn reserve(&self, image: &Image, reply: Option<u64>, addr: u32, rd: u8) -> Outcome
-        ensures effect { effect_by self.now result ≡ reserves image.now addr rd (replies_of reply) self.now }
-        ensures sound { IsSound image.now (replies_of reply) result }
-    {
-        if let Some(reply) = reply {
-            return self.write(rd, low_word(reply));
-        }
-        let place = Place {
-            addr,
-            size: Size::B4,
-        };
-        match image.test(place, false) {
-            Some(bar) => Outcome::Stops(barred(bar, addr)),
-            None => Outcome::Asks(Ask::LoadEx(place)),
-        }
-    }
-
-    /// SC.W.
-    #[tactic(auto, using(crate::proofs::Quiet::quiet_is_sound))]
-    pub(super) fn store_if_reserved(
-        &self,
-        image: &Image,
-        reply: Option<u64>,
-        addr: u32,
-        value: u32,
-        rd: u8,
-    ) -> Outcome
-        ensures effect { effect_by self.now result ≡ stores_conditionally image.now addr value rd (replies_of reply) self.now }
-        ensures sound { IsSound image.now (replies_of reply) result }
-    {
-        if let Some(reply) = reply {
-            let status = low_word(reply);
-            return self.write(rd, status);
-        }
-        let place = Place {
-            addr,
-            size: Size::B4,
-        };
-        match image.test(place, true) {
-            Some(bar) => Outcome::Stops(barred(bar, addr)),
-            None => Outcome::Asks(Ask::StoreEx(place, u64::from(value))),
-        }
-    }
-
-    /// LB, LH, LW, LBU and LHU.
-    pub(super) fn load(&self, instr: RvInstr, image: &Image, reply: Option<u64>) -> Outcome
-        requires { instr_class instr ≡ loading }
-        ensures effect { effect_by self.now result ≡ acts instr image.now (replies_of reply) self.now }
-        ensures sound { IsSound image.now (replies_of reply) result }
-    {
-        match instr {
-            RvInstr::Lb { rd, rs1, imm } => {
-                self.load_byte(image, reply, self.address(rs1, imm), true, rd)
-            }
-            RvInstr::Lh { rd, rs1, imm } => {
-                self.load_half(image, reply, self.address(rs1, imm), true, rd)
-            }
-            RvInstr::Lw { rd, rs1, imm } => {
-                self.load_word(image, reply, self.address(rs1, imm), rd)
-            }
-            RvInstr::Lbu { rd, rs1, imm } => {
-                self.load_byte(image, reply, self.address(rs1, imm), false, rd)
-            }
-            RvInstr::Lhu { rd, rs1, imm } => {
-                self.load_half(image, reply, self.address(rs1, imm), false, rd)
-            }
-            _ => unreachable!(),
-        }
-    }
-
-    /// SB, SH and SW.
-    pub(super) fn store(&self, instr: RvInstr, image: &Image, reply: Option<u64>) -> Outcome
-        requires { instr_class instr ≡ storing }
-        ensures effect { effect_by self.now result ≡ acts instr image.now (replies_of reply) self.now }
-        ensures sound { IsSound image.now (replies_of reply) result }
-    {
-        match instr {
-            RvInstr::Sb { rs1, rs2, imm } => {
-                let place = place(Size::B1, self.address(rs1, imm));
-                self.store_part(image, reply, place, self.x(rs2))
-            }
-            RvInstr::Sh { rs1, rs2, imm } => {
-                let place = place(Size::B2, self.address(rs1, imm));
-                self.store_part(image, reply, place, self.x(rs2))
-            }
-            RvInstr::Sw { rs1, rs2, imm } => {
-                let place = place(Size::B4, self.address(rs1, imm));
-                self.store_part(image, reply, place, self.x(rs2))
-            }
-            _ => unreachable!(),
-        }
+/// The stop of a thread whose access is barred, if anything bars it.
+#[inline(always)]
+pub fn stop_at(image: &Image, ask: Ask) -> Option<Stop>
+    ensures stops { IfSome result (λ stop. asked_first image.now ask ≡ stops stop) }
+    ensures asks { IfNone result (asked_first image.now ask ≡ asks ask) }
+    ensures passes { IfNone result (PassesTests image.now ask) }
+{
+    let (place, store) = match ask {
+        Ask::Load(place) | Ask::LoadEx(place) => (place, false),
+        Ask::Store(place, _) | Ask::StoreEx(place, _) => (place, true),
+        Ask::Clear => return None,
+    };
+    match image.test(place, store) {
+        Some(bar) => Some(barred(bar, place.addr)),
+        None => None,
     }
 }
 
@@ -226,6 +53,7 @@ fn place(size: Size, addr: u32) -> Place
 }
 
 /// The low part of a value that a store has.
+#[inline(always)]
 fn stored_part(size: Size, value: u32) -> u64
     ensures { result ≡ value % 256 ^ size_bytes size }
 {
@@ -233,5 +61,78 @@ fn stored_part(size: Size, value: u32) -> u64
         Size::B1 => u64::from(value & 0xff),
         Size::B2 => u64::from(value & 0xffff),
         Size::B4 | Size::B8 => u64::from(value),
+    }
+}
+
+impl Registers {
+    /// The access of a load.
+    #[inline(always)]
+    fn load(&self, size: Size, rs1: u8, imm: i32) -> Ask
+        ensures { result ≡ Ask.Load (place_of size (moved (register self.now rs1) imm)) }
+    {
+        Ask::Load(place(size, self.address(rs1, imm)))
+    }
+
+    /// The access of a store.
+    #[inline(always)]
+    fn store(&self, size: Size, rs1: u8, imm: i32, rs2: u8) -> Ask
+        ensures ask { result ≡ Ask.Store (place_of size (moved (register self.now rs1) imm)) (register self.now rs2 % 256 ^ size_bytes size) }
+        ensures fits { ValueFits result }
+    {
+        Ask::Store(
+            place(size, self.address(rs1, imm)),
+            stored_part(size, self.x(rs2)),
+        )
+    }
+
+    /// The access of an instruction, if it makes one.
+    #[inline(always)]
+    pub fn access(&self, instr: RvInstr) -> Option<Ask>
+        ensures asks { IfSome result (λ ask. (program : Program) → acts instr program [] self.now ≡ asked_first program ask) }
+        ensures fits { IfSome result ValueFits }
+        ensures makes_one { IfSome result (λ ask. MakesAccess (instr_class instr)) }
+        ensures makes_none { IfNone result (MakesNoAccess (instr_class instr)) }
+    {
+        match instr {
+            RvInstr::Lb { rs1, imm, .. } => Some(self.load(Size::B1, rs1, imm)),
+            RvInstr::Lh { rs1, imm, .. } => Some(self.load(Size::B2, rs1, imm)),
+            RvInstr::Lw { rs1, imm, .. } => Some(self.load(Size::B4, rs1, imm)),
+            RvInstr::Lbu { rs1, imm, .. } => Some(self.load(Size::B1, rs1, imm)),
+            RvInstr::Lhu { rs1, imm, .. } => Some(self.load(Size::B2, rs1, imm)),
+            RvInstr::Sb { rs1, rs2, imm } => Some(self.store(Size::B1, rs1, imm, rs2)),
+            RvInstr::Sh { rs1, rs2, imm } => Some(self.store(Size::B2, rs1, imm, rs2)),
+            RvInstr::Sw { rs1, rs2, imm } => Some(self.store(Size::B4, rs1, imm, rs2)),
+            RvInstr::LrW { rs1, .. } => Some(Ask::LoadEx(place(Size::B4, self.x(rs1)))),
+            RvInstr::ScW { rs1, rs2, .. } => Some(Ask::StoreEx(
+                place(Size::B4, self.x(rs1)),
+                u64::from(self.x(rs2)),
+            )),
+            _ => None,
+        }
+    }
+
+    /// An instruction is complete with the reply to its access.
+    #[inline(always)]
+    pub fn take(&mut self, instr: RvInstr, reply: u64)
+        requires { MakesAccess (instr_class instr) }
+        ensures { (program : Program) → acts instr program (reply ∷ []) self.old ≡ completes self.new }
+    {
+        match instr {
+            RvInstr::Lb { rd, .. } => self.advance_with(rd, loaded_byte(true, reply)),
+            RvInstr::Lh { rd, .. } => self.advance_with(rd, loaded_half(true, reply)),
+            RvInstr::Lbu { rd, .. } => self.advance_with(rd, loaded_byte(false, reply)),
+            RvInstr::Lhu { rd, .. } => self.advance_with(rd, loaded_half(false, reply)),
+            RvInstr::Lw { rd, .. } | RvInstr::LrW { rd, .. } => {
+                self.advance_with(rd, low_word(reply));
+            }
+            RvInstr::ScW { rd, .. } => {
+                let status = low_word(reply);
+                self.advance_with(rd, status);
+            }
+            RvInstr::Sb { .. } | RvInstr::Sh { .. } | RvInstr::Sw { .. } => {
+                self.advance_with(0, 0);
+            }
+            _ => unreachable!(),
+        }
     }
 }

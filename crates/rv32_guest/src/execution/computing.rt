@@ -3,7 +3,7 @@ ghost use Rattle.std.specs.Prelude.{◌≡◌, ℕ, List};
 ghost use Rattle.llsc_base.specs.Images.{Program};
 ghost use Rattle.rv32_guest.specs.Classes.{instr_class, by_immediate, by_registers, IsComputing};
 ghost use Rattle.rv32_guest.specs.Effect.{acts};
-ghost use Rattle.rv32_guest.specs.Outcome.{effect_by, IsQuiet};
+ghost use Rattle.rv32_guest.specs.Outcome.{effect_by, Keeps};
 
 use crate::arithmetic::{
     as_number, difference, is_less_signed, shift_left, shift_right, shift_signed, sum, word_of,
@@ -14,10 +14,11 @@ use crate::registers::Registers;
 
 impl Registers {
     /// What an instruction does that computes.
-    pub(super) fn compute(&self, instr: RvInstr) -> Outcome
+    #[inline(always)]
+    pub(super) fn compute(&mut self, instr: RvInstr) -> Outcome
         requires { IsComputing (instr_class instr) }
-        ensures effect { (program : Program) (replies : List ℕ) → effect_by self.now result ≡ acts instr program replies self.now }
-        ensures quiet { IsQuiet result }
+        ensures effect { (program : Program) (replies : List ℕ) → effect_by self.new result ≡ acts instr program replies self.old }
+        ensures kept { Keeps result self.old self.new }
     {
         match instr {
             RvInstr::Addi { .. }
@@ -35,10 +36,10 @@ impl Registers {
 
     /// ADDI, SLTI, SLTIU, XORI, ORI, ANDI, SLLI, SRLI and SRAI.
     #[inline(always)]
-    fn compute_with_immediate(&self, instr: RvInstr) -> Outcome
+    fn compute_with_immediate(&mut self, instr: RvInstr) -> Outcome
         requires { instr_class instr ≡ by_immediate }
-        ensures effect { (program : Program) (replies : List ℕ) → effect_by self.now result ≡ acts instr program replies self.now }
-        ensures quiet { IsQuiet result }
+        ensures effect { (program : Program) (replies : List ℕ) → effect_by self.new result ≡ acts instr program replies self.old }
+        ensures kept { Keeps result self.old self.new }
     {
         match instr {
             RvInstr::Addi { rd, rs1, imm } => self.write(rd, sum(self.x(rs1), word_of(imm))),
@@ -66,10 +67,10 @@ impl Registers {
 
     /// ADD, SUB, SLL, SLT, SLTU, XOR, SRL, SRA, OR and AND.
     #[inline(always)]
-    fn compute_with_registers(&self, instr: RvInstr) -> Outcome
+    fn compute_with_registers(&mut self, instr: RvInstr) -> Outcome
         requires { instr_class instr ≡ by_registers }
-        ensures effect { (program : Program) (replies : List ℕ) → effect_by self.now result ≡ acts instr program replies self.now }
-        ensures quiet { IsQuiet result }
+        ensures effect { (program : Program) (replies : List ℕ) → effect_by self.new result ≡ acts instr program replies self.old }
+        ensures kept { Keeps result self.old self.new }
     {
         match instr {
             RvInstr::Add { rd, rs1, rs2 } => self.write(rd, sum(self.x(rs1), self.x(rs2))),

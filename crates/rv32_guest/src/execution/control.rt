@@ -4,7 +4,7 @@ ghost use Rattle.llsc_base.specs.Images.{Program};
 ghost use Rattle.rv32_guest.specs.Classes.{instr_class, branching};
 ghost use Rattle.rv32_guest.specs.State.{jumps};
 ghost use Rattle.rv32_guest.specs.Effect.{acts, branches, call_in};
-ghost use Rattle.rv32_guest.specs.Outcome.{effect_by, replies_of, IsQuiet};
+ghost use Rattle.rv32_guest.specs.Outcome.{effect_by, Keeps};
 
 use crate::arithmetic::{is_less_signed, moved};
 use crate::instructions::RvInstr;
@@ -14,24 +14,24 @@ use llsc_base::{CallAsk, Stop};
 
 impl Registers {
     /// A jump, with the address of the next instruction in a register.
-    pub(super) fn jump(&self, rd: u8, target: u32) -> Outcome
-        ensures effect { effect_by self.now result ≡ jumps self.now rd target }
-        ensures quiet { IsQuiet result }
+    #[inline(always)]
+    pub(super) fn jump(&mut self, rd: u8, target: u32) -> Outcome
+        ensures effect { effect_by self.new result ≡ jumps self.old rd target }
+        ensures kept { Keeps result self.old self.new }
     {
         if target % 4 != 0 {
             return Outcome::Stops(Stop::Alignment(target));
         }
-        Outcome::Completes {
-            rd,
-            value: self.next_pc(),
-            pc: target,
-        }
+        let next_pc = self.next_pc();
+        self.complete(rd, next_pc, target);
+        Outcome::Completes
     }
 
     /// A branch.
-    fn branch(&self, taken: bool, distance: i32) -> Outcome
-        ensures effect { effect_by self.now result ≡ branches self.now taken distance }
-        ensures quiet { IsQuiet result }
+    #[inline(always)]
+    fn branch(&mut self, taken: bool, distance: i32) -> Outcome
+        ensures effect { effect_by self.new result ≡ branches self.old taken distance }
+        ensures kept { Keeps result self.old self.new }
     {
         if taken {
             self.jump(0, moved(self.pc(), distance))
@@ -54,10 +54,11 @@ impl Registers {
     }
 
     /// BEQ, BNE, BLT, BGE, BLTU and BGEU.
-    pub(super) fn branch_by(&self, instr: RvInstr) -> Outcome
+    #[inline(always)]
+    pub(super) fn branch_by(&mut self, instr: RvInstr) -> Outcome
         requires { instr_class instr ≡ branching }
-        ensures effect { (program : Program) (replies : List ℕ) → effect_by self.now result ≡ acts instr program replies self.now }
-        ensures quiet { IsQuiet result }
+        ensures effect { (program : Program) (replies : List ℕ) → effect_by self.new result ≡ acts instr program replies self.old }
+        ensures kept { Keeps result self.old self.new }
     {
         match instr {
             RvInstr::Beq { rs1, rs2, imm } => self.branch(self.x(rs1) == self.x(rs2), imm),

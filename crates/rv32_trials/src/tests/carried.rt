@@ -5,7 +5,7 @@ ghost use Rattle.guest_core.specs.Ports.{ReplyFits};
 
 use super::programs::image;
 use llsc_base::{Ask, CallAsk, Place, Size, Stop};
-use guest_core::{Code, Passage, Port};
+use guest_core::{Code, Core, Passage, Port};
 use rv32_guest::{RvCpu, RvInstr, Wanted};
 use std::alloc::Global;
 use std::test::Fail;
