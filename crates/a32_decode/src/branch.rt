@@ -6,8 +6,8 @@ ghost use Rattle.a32_instr.specs.Table.{branch, branch_reg, svc};
 ghost use Rattle.a32_decode.specs.Rows.{Fits, Means, NoneFits};
 
 use crate::bits::{bit, bits, condition, register};
-use llsc_base::DecodeFault;
 use a32_instr::Instr;
+use llsc_base::DecodeFault;
 
 /// A branch: a word whose bits 27:25 are 101 (DDI 0406C A5.5).
 #[inline]

@@ -5,8 +5,8 @@ ghost use Rattle.a32_decode.specs.Rows.{Fits, Means, NoneFits};
 
 use crate::bits::{bit, bits};
 use crate::{block, branch, data_processing, load_store, media, synchronization};
-use llsc_base::DecodeFault;
 use a32_instr::Instr;
+use llsc_base::DecodeFault;
 
 /// The instruction that a word is, by the table of words (DDI 0406C A5, A8.8). The encodings go by bits 27:25 (DDI 0406C
 /// A5.1, table A5-1); a condition field of 15 is another space of encodings.

@@ -7,8 +7,8 @@ ghost use Rattle.a32_decode.specs.Rows.{Fits, Means, NoneFits};
 
 use crate::bits::{bit, bits, condition, register};
 use crate::load_store::{index, is_index};
-use llsc_base::DecodeFault;
 use a32_instr::{HalfKind, Instr, Offset, Reg, ShiftKind};
+use llsc_base::DecodeFault;
 
 /// A load or a store of a halfword, or a load of a signed byte: a word whose bits 27:25 are 000 and whose bits 7 and 4
 /// are set (DDI 0406C A5.2.8).

@@ -18,5 +18,5 @@ mod multiply;
 mod pc;
 mod synchronization;
 
-pub use llsc_base::DecodeFault;
 pub use decoder::decode;
+pub use llsc_base::DecodeFault;

@@ -7,8 +7,8 @@ ghost use Rattle.a32_decode.specs.Rows.{Fits, Means, NoneFits};
 
 use crate::bits::{bit, bits, condition, register};
 use crate::data_processing::kind_of_shift;
-use llsc_base::DecodeFault;
 use a32_instr::{Index, Instr, Offset, Reg};
+use llsc_base::DecodeFault;
 
 /// A load or a store with an immediate offset: a word whose bits 27:25 are 010 (DDI 0406C A5.3).
 #[inline]

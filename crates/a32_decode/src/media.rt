@@ -6,8 +6,8 @@ ghost use Rattle.a32_decode.specs.Rows.{Fits, Means, NoneFits};
 
 use crate::bits::{bit, bits, condition, register};
 use crate::pc::one_of_2_is_pc;
-use llsc_base::DecodeFault;
 use a32_instr::Instr;
+use llsc_base::DecodeFault;
 
 /// A media instruction: a word whose bits 27:25 are 011 and whose bit 4 is set (DDI 0406C A5.4).
 #[inline]

@@ -7,8 +7,8 @@ ghost use Rattle.a32_decode.specs.Rows.{Fits, Means, NoneFits};
 
 use crate::bits::{bit, bits, condition, register};
 use crate::pc::{one_of_3_is_pc, one_of_4_is_pc};
-use llsc_base::DecodeFault;
 use a32_instr::{Instr, LongKind};
+use llsc_base::DecodeFault;
 
 /// A multiplication: a word whose bits 27:24 are 0000 and 7:4 are 1001 (DDI 0406C A5.2.5).
 #[inline]

@@ -9,8 +9,9 @@ ghost use Rattle.a32_instr.specs.State.{State, advanced};
 ghost use Rattle.llsc_base.specs.Effects.{completes};
 ghost use Rattle.a32_instr.specs.Table.{table, meaning, AreApart, FitsNone, MeansItsRow};
 
-use crate::instructions::{AluOp, BarrierKind, HalfKind, Index, Instr, LongKind, Offset, Operand2, ShiftKind};
-
+use crate::instructions::{
+    AluOp, BarrierKind, HalfKind, Index, Instr, LongKind, Offset, Operand2, ShiftKind,
+};
 use llsc_base::{DecodeFault, Size};
 
 /// Each row of the table has 32 bits.

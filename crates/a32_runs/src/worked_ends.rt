@@ -12,8 +12,8 @@ ghost use Rattle.a32_step.specs.Machine.{a32};
 ghost use Rattle.llsc_base.specs.Images.{program_of};
 ghost use Rattle.guest_core.specs.Phase.{Between};
 
-use llsc_base::{Size, Stop};
 use history::{Deed, Entry};
+use llsc_base::{Size, Stop};
 
 /// An end has the stop, the steps and the counts of its thread's accesses, whatever another thread's are.
 pub fn ends_of_a_thread()

@@ -14,7 +14,7 @@ use crate::phases::Point;
 use crate::slot::Slot;
 use crate::sources::Nobody;
 use a32_instr::Flags;
-use guest_core::{Passage, Wanted};
+use guest_core::{Code, Passage, Wanted};
 use llsc_base::{CallAsk, Image};
 use std::marker::Model;
 

@@ -14,13 +14,12 @@ ghost use Rattle.a32_step.specs.Inside.{stage_held};
 ghost use Rattle.guest_core.specs.Machine.{wanted_of};
 
 use crate::phases::{Hold, Point, Progress};
-
-use guest_core::Wanted;
 use crate::replies::Replies;
 use crate::sources::Source;
 use a32_compute::conditions::passes;
-use llsc_base::{Ask, CallAsk, Image, Stop};
 use a32_instr::{Cond, Flags, Instr, Reg};
+use guest_core::Wanted;
+use llsc_base::{Ask, CallAsk, Image, Stop};
 use std::marker::Model;
 
 mod accesses;

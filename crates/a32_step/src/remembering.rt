@@ -1,10 +1,10 @@
 //! The core of a guest thread that remembers words, so that the words of a loop are decoded once.
 ghost use Rattle.std.specs.Prelude.{◌≡◌};
 
-use guest_core::{Code, Core, Passage, Port, Wanted};
-use crate::cpu::Cpu;
 use crate::conditional::Conditional;
+use crate::cpu::Cpu;
 use crate::slot::Slot;
+use guest_core::{Code, Core, Passage, Port, Wanted};
 use llsc_base::{CallAsk, Image};
 use std::marker::Model;
 

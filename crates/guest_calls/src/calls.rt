@@ -6,8 +6,8 @@ ghost use Rattle.guest_calls.specs.Outcomes.{effect_of_outcome};
 ghost use Rattle.guest_calls.specs.Steps.{step_of, after_call, HaveRoom};
 
 use crate::output::Output;
-use llsc_base::CallAsk;
 use guest_core::Core;
+use llsc_base::CallAsk;
 
 /// The number of exit, in r7.
 const EXIT: u32 = 1;

@@ -8,8 +8,8 @@ ghost use Rattle.guest_calls.specs.Steps.{HaveRoom};
 ghost use Rattle.guest_calls.specs.Worked.{byte_at, call, word};
 
 use crate::calls::CallStep;
-use llsc_base::Ask;
 use history::{Cause, Deed, Entry};
+use llsc_base::Ask;
 
 /// Exit leaves with the low byte of r0, write goes by its own rules, and sched_yield is answered by 0; every other number is
 /// answered by minus 38, and so is every number with another immediate.

@@ -12,8 +12,8 @@ ghost use Rattle.a32_step.specs.Machine.{a32};
 
 use crate::kin::{Kin, Starter};
 use crate::starters::{StarterEnd, StarterPart, run_on};
-use llsc_base::{Image, Stop};
 use guest_thread::{GuestEnd, Job, Part, Ran};
+use llsc_base::{Image, Stop};
 use shared_memory::StartMemory;
 use std::sync::Wait;
 use std::thread::{Threads, join};

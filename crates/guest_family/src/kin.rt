@@ -6,10 +6,9 @@ ghost use Rattle.shared_memory.specs.Seen.{IsSingle};
 ghost use Rattle.guest_family.specs.Kin.{AreSpares, AreStarters, IsReady, heads_of, spares_of};
 ghost use Rattle.guest_family.specs.Left.{AreLeft};
 
-use guest_core::Code;
-
 use a32_step::{Conditional, Cpu};
 use guest_calls::Output;
+use guest_core::Code;
 use guest_thread::{GuestEnd, Job, job_of};
 use llsc_base::Image;
 use shared_memory::StartMemory;

@@ -9,9 +9,8 @@ ghost use Rattle.guest_thread.specs.Begun.{stock_of};
 ghost use Rattle.guest_family.specs.Next.{HasNoneLeft, IsAligned, IsNext, after_answer, refusal_of};
 ghost use Rattle.guest_family.specs.UnderWay.{HasEnded, IsUnderWay};
 
-use guest_core::Code;
-
 use a32_step::{Conditional, Cpu};
+use guest_core::Code;
 use guest_thread::{Finished, Part, Paused, go_on};
 use shared_memory::StartMemory;
 use std::sync::Wait;
@@ -27,7 +26,11 @@ pub(crate) enum Next<P> {
     /// It has ended.
     Ended(Finished<P>),
     /// It calls for a thread to be started, at an address and with an argument.
-    Calls { part: Part<P, Cpu>, entry: u32, arg: u32 },
+    Calls {
+        part: Part<P, Cpu>,
+        entry: u32,
+        arg: u32,
+    },
 }
 
 /// Goes on with a thread until it has ended or calls for another to be started.

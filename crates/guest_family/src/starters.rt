@@ -17,9 +17,9 @@ ghost use denote.Param.Send.{IsSync, IsSend};
 
 use crate::kin::Spare;
 use crate::running::{Next, answered, run_out, to_start};
-use guest_core::Code;
 use a32_step::{Conditional, Cpu};
 use guest_calls::Output;
+use guest_core::Code;
 use guest_thread::{Finished, GuestEnd, Part, Ran, gather};
 use llsc_base::{Image, MachineSize};
 use shared_memory::StartMemory;
@@ -131,7 +131,12 @@ fn join_unstarted<M: StartMemory>(
 }
 
 /// A thread that has called for another to be started, which is then started, and its call answered by the number of that.
-fn started<M: StartMemory>(mem: &M, mut part: Part<M::Pass, Cpu>, entry: u32, arg: u32) -> Part<M::Pass, Cpu>
+fn started<M: StartMemory>(
+    mem: &M,
+    mut part: Part<M::Pass, Cpu>,
+    entry: u32,
+    arg: u32,
+) -> Part<M::Pass, Cpu>
     requires memory { M.home part.pass ≡ M.id mem.now }
     requires single { (t : ℕ) × IsSingle t (M.numbers part.pass) × (t < (M.origin mem.now).first) × (starts_of t (M.seen part.pass) < (M.origin mem.now).spare) }
     requires calling { IsCalling part.cpu.phase }

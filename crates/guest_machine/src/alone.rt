@@ -4,11 +4,11 @@ ghost use Rattle.llsc_base.specs.Limits.{most_budget};
 ghost use Rattle.guest_machine.specs.Alone.{IsSoloEnd};
 
 use crate::serving::serve;
-use llsc_base::{Ask, Image, MachineSize};
-use guest_core::{Code, Core, Port};
 use guest_calls::reply_of;
+use guest_core::{Code, Core, Port};
 use guest_thread::{Counts, Guest, GuestEnd};
 use history::PlainMemory;
+use llsc_base::{Ask, Image, MachineSize};
 use std::alloc::{AllocError, Global};
 
 /// The memory that a thread has to itself, and how many accesses of each kind it made.

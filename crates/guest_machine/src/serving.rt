@@ -8,9 +8,9 @@ ghost use Rattle.guest_calls.specs.Pairs.{reply_of};
 ghost use Rattle.guest_thread.specs.Accesses.{access_by};
 ghost use Rattle.guest_core.specs.Ports.{IsAskIn, ReplyFits};
 
-use llsc_base::Ask;
 use guest_thread::tried_by;
 use history::{Access, PlainMemory};
+use llsc_base::Ask;
 
 /// Makes the access that a thread asks for.
 #[inline(always)]

@@ -7,8 +7,8 @@ ghost use Rattle.guest_thread.specs.Crews.{AreFresh, IsFresh, IsReady, threads_o
 
 use crate::ends::GuestEnd;
 use crate::starts::start_cpu;
-use guest_core::{Code, Core, Ready};
 use guest_calls::Output;
+use guest_core::{Code, Core, Ready};
 use llsc_base::Image;
 use shared_memory::SharedMemory;
 use std::alloc::{AllocError, Global};

@@ -1,5 +1,5 @@
-use llsc_base::Stop;
 use guest_calls::Output;
+use llsc_base::Stop;
 
 /// How a guest thread ended.
 #[derive(Drop)]

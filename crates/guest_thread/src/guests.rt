@@ -15,9 +15,9 @@ ghost use Rattle.guest_thread.specs.Turns.{AfterCall, IsAtTurn, IsOneStepOn, aft
 ghost use Rattle.guest_thread.specs.Under.{HasCome, HasComeFrom, Awaits, AwaitsFrom, ComesTo, ComesToEvent};
 
 use crate::starts::start_cpu;
-use llsc_base::{Ask, CallAsk, Image, MachineSize, Place, Size, Stop};
-use guest_core::{Core, Wanted};
 use guest_calls::{CallStep, Output, guest_call, is_start_call};
+use guest_core::{Core, Wanted};
+use llsc_base::{Ask, CallAsk, Image, MachineSize, Place, Size, Stop};
 use std::alloc::{AllocError, Global};
 use std::marker::Model;
 

@@ -6,8 +6,8 @@ ghost use Rattle.llsc_base.specs.declared.outside.Ask.{Ask};
 
 use crate::counts::Counts;
 use crate::sharing::Sharing;
-use llsc_base::Ask;
 use guest_core::Port;
+use llsc_base::Ask;
 use shared_memory::SharedMemory;
 use std::marker::Model;
 use std::sync::Wait;

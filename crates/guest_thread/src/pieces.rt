@@ -15,9 +15,9 @@ use crate::guests::Guest;
 use crate::in_pieces::InPieces;
 use crate::ports::Rest;
 use crate::running::Finished;
+use guest_calls::Output;
 use guest_core::{Code, Core};
 use llsc_base::Stop;
-use guest_calls::Output;
 use shared_memory::SharedMemory;
 use std::sync::Wait;
 
@@ -91,7 +91,11 @@ pub enum Paused<P, C> {
     Ended(Finished<P>),
     /// It calls for a thread to be started, at an address and with an argument. Whoever has started one, or hasn't, answers the
     /// call by the core's `answer`, and adds one to the steps.
-    Start { part: Part<P, C>, entry: u32, arg: u32 },
+    Start {
+        part: Part<P, C>,
+        entry: u32,
+        arg: u32,
+    },
     /// It has made all steps that it was to make, and may go on.
     Pause(Part<P, C>),
 }
@@ -186,7 +190,13 @@ fn rested<P, C: Core>(
 }
 
 /// A thread that has ended.
-fn ended<P, C: Core>(thread: u32, stop: Stop, guest: Guest<C>, pass: P, counts: Counts) -> Finished<P>
+fn ended<P, C: Core>(
+    thread: u32,
+    stop: Stop,
+    guest: Guest<C>,
+    pass: P,
+    counts: Counts,
+) -> Finished<P>
     ensures { result ≡ ended_at thread stop (part_at guest pass counts) }
 {
     Finished {

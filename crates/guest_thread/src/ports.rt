@@ -12,8 +12,8 @@ ghost use Rattle.guest_thread.specs.ThreadState.{thread_in};
 ghost use Rattle.guest_thread.specs.Under.{HasCome, HasComeFrom};
 
 use crate::guests::{Event, Guest, Turn};
-use llsc_base::{Ask, Stop};
 use guest_core::{Code, Core, Passage, Port};
+use llsc_base::{Ask, Stop};
 
 /// How a thread that may start others comes to rest.
 #[derive(Clone, Copy)]

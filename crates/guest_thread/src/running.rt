@@ -11,9 +11,9 @@ ghost use Rattle.guest_thread.specs.Outcome.{IsEndOn};
 use crate::ends::GuestEnd;
 use crate::guests::Guest;
 use crate::sharing::Sharing;
+use guest_calls::Output;
 use guest_core::{Code, Core};
 use llsc_base::Stop;
-use guest_calls::Output;
 use shared_memory::SharedMemory;
 use std::sync::Wait;
 

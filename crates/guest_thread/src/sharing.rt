@@ -7,8 +7,8 @@ ghost use Rattle.guest_thread.specs.Sharing.{IsServedBy};
 ghost use Rattle.llsc_base.specs.declared.outside.Ask.{Ask};
 
 use crate::counts::Counts;
-use llsc_base::Ask;
 use guest_core::Port;
+use llsc_base::Ask;
 use shared_memory::SharedMemory;
 use std::marker::Model;
 use std::sync::Wait;

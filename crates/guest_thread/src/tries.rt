@@ -2,8 +2,8 @@
 ghost use Rattle.std.specs.Prelude.{◌≡◌};
 ghost use Rattle.guest_thread.specs.Accesses.{tried_by};
 
-use llsc_base::{Ask, Place};
 use history::{Access, Deed};
+use llsc_base::{Ask, Place};
 
 /// The access that a thread tries by what it asks: a load without a value, a store with its own, a CLREX of the place of one
 /// byte at address 0.

@@ -7,8 +7,8 @@ ghost use Rattle.guest_thread.specs.Counting.{AreCounts};
 ghost use Rattle.guest_thread.specs.Counts.{fails_in, fails_of, reads_in, reads_of, writes_in, writes_of};
 ghost use Rattle.guest_thread.specs.Worked.{access, machine_of, store_of, word};
 
-use llsc_base::Ask;
 use history::{Cause, Deed, Entry};
+use llsc_base::Ask;
 
 /// What is tried by an ask: the same access, a load with no value yet.
 pub fn accesses_that_are_tried()

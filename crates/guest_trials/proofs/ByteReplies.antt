@@ -5,7 +5,7 @@ use Rattle.llsc_base.specs.declared.access.Size.{Size}
 use Rattle.llsc_base.specs.declared.access.Size.TheVariants.{B1, B2, B4, B8}
 use Rattle.llsc_base.specs.declared.outside.Ask.{Ask}
 use Rattle.llsc_base.specs.declared.outside.Ask.TheVariants.{Load, LoadEx, Store, StoreEx, Clear}
-use Rattle.guest_thread.specs.ThreadState.{ThreadState, IsPending, MayGive}
+use Rattle.guest_thread.specs.ThreadState.{ThreadOf, IsPending, MayGive}
 use Rattle.guest_core.specs.Ports.{ReplyFits}
 
 fits_size : (size : Size) (byte : ℕ) → byte < 256 → byte < 256 ^ size_bytes size
@@ -22,5 +22,5 @@ byte_fits (StoreEx place value) byte fits = tt
 byte_fits Clear byte fits = tt
 
 -- a byte may be the reply to any access
-pub takes_byte : (mem budget : ℕ) (ask : Ask) (standing : ThreadState) (byte : ℕ) → IsPending mem budget ask standing → byte < 256 → MayGive standing byte
+pub takes_byte : {I S : Type 0} (mem budget : ℕ) (ask : Ask) (standing : ThreadOf I S) (byte : ℕ) → IsPending mem budget ask standing → byte < 256 → MayGive standing byte
 takes_byte mem budget ask standing byte pending fits = pending.give byte (byte_fits ask byte fits)

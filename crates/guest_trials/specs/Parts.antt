@@ -6,6 +6,7 @@ use Rattle.history.specs.declared.entry.Entry.{Entry}
 use Rattle.shared_memory.specs.Origin.{Origin}
 use Rattle.shared_memory.specs.Seen.{IsSingle}
 use Rattle.guest_core.specs.Machine.{between}
+use Rattle.a32_step.specs.Machine.{Machine}
 use Rattle.guest_thread.specs.Pieces.{CountFew, counts_by}
 use Rattle.guest_thread.specs.declared.pieces.Part.{Part}
 

@@ -6,8 +6,8 @@ ghost use Rattle.llsc_host.specs.Writes.{Writes};
 ghost use Rattle.std.specs.List.{flat_map, sum_by};
 ghost use Rattle.llsc_report.specs.Report.{HasSums, head_line, last_line, report_of, stop_text, thread_text};
 
-use llsc_base::{Line, Stop};
 use guest_thread::{Counts, GuestEnd};
+use llsc_base::{Line, Stop};
 use llsc_host::{Failed, Host, write};
 use number_text::{write_decimal, write_text, write_word};
 

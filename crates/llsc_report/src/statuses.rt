@@ -2,8 +2,8 @@
 ghost use Rattle.std.specs.Prelude.{◌≡◌, ◌⊎◌};
 ghost use Rattle.llsc_report.specs.Status.{have_left, status_of, status_of_all};
 
-use llsc_base::Stop;
 use guest_thread::GuestEnd;
+use llsc_base::Stop;
 
 /// 0 where a thread left by an exit call with code 0, else 1.
 pub fn status(stop: Stop) -> u8

@@ -2,8 +2,8 @@
 ghost use Rattle.std.specs.Prelude.{◌≡◌};
 ghost use Rattle.run_checker.specs.Verdict.{is_asked, is_place};
 
-use llsc_base::{Ask, Place};
 use history::{Access, Deed};
+use llsc_base::{Ask, Place};
 
 /// Whether an access is what was asked: its deed, its place, and the value that is stored.
 pub fn is_asked(ask: Ask, access: Access) -> bool

@@ -40,7 +40,12 @@ pub fn check_record<C: Core>(
 }
 
 /// The verdict on accesses, by threads and memory at their start.
-fn verdict_of<C: Core>(mut checker: Checker<C>, image: &Image, budget: u64, accesses: &[Access]) -> Verdict
+fn verdict_of<C: Core>(
+    mut checker: Checker<C>,
+    image: &Image,
+    budget: u64,
+    accesses: &[Access],
+) -> Verdict
     requires ready { MayGoOn C.machine (length image.now.bytes) budget checker }
     requires budget { budget ≤ most_budget }
     requires few { length accesses.now ≤ most_accesses }

@@ -4,8 +4,8 @@ ghost use Rattle.run_checker.specs.Verdict.{HasWrongValue, LacksReservation, is_
 ghost use Rattle.run_checker.specs.Worked.{access_as, beside, low_byte, next_row, word, zeros_after};
 
 use crate::verdicts::Reason;
-use llsc_base::Ask;
 use history::{Deed, Entry};
+use llsc_base::Ask;
 
 /// Places are the same where their addresses and their sizes are.
 pub fn same_places()

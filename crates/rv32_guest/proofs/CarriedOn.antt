@@ -71,7 +71,7 @@ pub held_on : {P : Type 0} {replies : P → Ask → Option ℕ → P → Type 0}
     → IsCarriedOnOf rv32 replies program old from AtStart (machine_of (record inside { registers = now })) from
 held_on {P} {replies} {program} {old} {from} inside outcome now is rest held kept =
     subst (λ r. IsCarriedOnOf rv32 replies program old from AtStart (machine_of (record inside { registers = r })) from) (sym (held_keeps outcome inside.registers now held kept))
-        (subst (λ m. IsCarriedOnOf rv32 replies program old from AtStart m from) (sym is) (not_on rest))
+    (subst (λ m. IsCarriedOnOf rv32 replies program old from AtStart m from) (sym is) (not_on rest))
 
 -- the store that it asks for was refused
 pub refused_on : {P : Type 0} {replies : P → Ask → Option ℕ → P → Type 0} {program : Program} {old : Machine} {from to : P} (ask : Ask) → old ≡ between old.state

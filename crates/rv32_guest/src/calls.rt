@@ -7,8 +7,8 @@ ghost use Rattle.rv32_guest.specs.Calls.{call_of, number_of};
 ghost use Rattle.rv32_guest.specs.Machine.{rv32};
 
 use crate::cpu::RvCpu;
-use llsc_base::CallAsk;
 use guest_calls::{CallStep, Output, guest_call};
+use llsc_base::CallAsk;
 
 /// The number of exit, in x17.
 const EXIT: u32 = 93;

@@ -4,8 +4,8 @@ use crate::cpu::RvCpu;
 use crate::execution::stop_at;
 use crate::instructions::RvInstr;
 use crate::outcomes::Outcome;
-use llsc_base::{CallAsk, Image};
 use guest_core::{Code, Core, Passage, Port, Wanted};
+use llsc_base::{CallAsk, Image};
 
 impl Core for RvCpu {
     type Ready = RvInstr;

@@ -14,8 +14,8 @@ use crate::execution::stop_at;
 use crate::instructions::RvInstr;
 use crate::outcomes::Outcome;
 use crate::registers::Registers;
-use llsc_base::{Ask, CallAsk, DecodeFault, Image, Stop};
 use guest_core::Wanted;
+use llsc_base::{Ask, CallAsk, DecodeFault, Image, Stop};
 use std::marker::Model;
 
 /// Where a thread stands in its instruction.

@@ -11,9 +11,8 @@ ghost use Rattle.rv32_guest.specs.Machine.{rv32};
 
 use crate::cpu::RvCpu;
 use crate::instructions::RvInstr;
+use guest_thread::{Crew, Job, Ran, prepare, run_all};
 use llsc_base::{Image, Stop};
-use guest_thread::run_all;
-use guest_thread::{Crew, Job, Ran, prepare};
 use shared_memory::SharedMemory;
 use std::alloc::{AllocError, Global};
 use std::sync::Wait;

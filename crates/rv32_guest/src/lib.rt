@@ -22,11 +22,11 @@ mod registers;
 mod running;
 mod system;
 
-pub use llsc_base::DecodeFault;
-pub use guest_core::Wanted;
 pub use calls::rv_call;
 pub use cpu::RvCpu;
 pub use crews::{RvCrew, RvJob, prepare_rv, run_rv_all};
 pub use decoder::rv_decode;
+pub use guest_core::Wanted;
 pub use instructions::RvInstr;
+pub use llsc_base::DecodeFault;
 pub use running::run_rv_thread;

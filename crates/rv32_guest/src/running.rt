@@ -11,10 +11,10 @@ ghost use Rattle.rv32_guest.specs.Machine.{rv32};
 
 use crate::cpu::RvCpu;
 use crate::instructions::RvInstr;
-use llsc_base::Stop;
-use guest_core::Code;
 use guest_calls::Output;
+use guest_core::Code;
 use guest_thread::{Finished, run_thread};
+use llsc_base::Stop;
 use shared_memory::SharedMemory;
 use std::sync::Wait;
 

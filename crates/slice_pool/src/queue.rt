@@ -1,8 +1,8 @@
 //! The queue of the guests that wait, and what each call on it does by its rule.
 ghost use Rattle.std.specs.Prelude.{◌≡◌};
 
-use a32_step::Cpu;
 use crate::views::{Hand, Key};
+use a32_step::Cpu;
 use crossbeam_queue::protocol::{Join, Lesson, Outcome, Protocol, Split};
 use crossbeam_queue::{Pass, RuledArrayQueue};
 use guest_thread::Part;

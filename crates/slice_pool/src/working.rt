@@ -8,8 +8,8 @@ ghost use Rattle.slice_pool.specs.AtWork.{IsWorker};
 
 use crate::queue::{Line, Seat, Takes};
 use crate::turns::{Gone, turns_of};
-use guest_core::Code;
 use a32_step::Conditional;
+use guest_core::Code;
 use shared_memory::SharedMemory;
 use std::sync::Wait;
 

@@ -18,8 +18,8 @@ use crate::sources::Source;
 use a32_compute::operands::moved;
 use a32_compute::parts::low_word;
 use a32_compute::registers::{count_of, is_listed, listed, lowest_address};
-use llsc_base::{Ask, Image, Place, Size};
 use a32_instr::{Instr, Reg};
+use llsc_base::{Ask, Image, Place, Size};
 
 /// The fields of a block's load or store.
 #[derive(Clone, Copy)]

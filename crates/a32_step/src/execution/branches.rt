@@ -11,8 +11,8 @@ ghost use Rattle.a32_step.specs.ExecutionState.{moves};
 use super::Execution;
 use crate::phases::{Hold, Point, Progress};
 use a32_compute::operands::branch_target;
-use llsc_base::CallAsk;
 use a32_instr::{Instr, Reg};
+use llsc_base::CallAsk;
 
 impl Execution {
     /// B and BL (DDI 0406C A8.8.18, A8.8.25).

@@ -10,8 +10,8 @@ use super::Execution;
 use crate::phases::Progress;
 use crate::sources::Source;
 use a32_compute::parts::{loaded_part, low_word};
-use llsc_base::{Ask, Image, Place, Size};
 use a32_instr::{Instr, Reg};
+use llsc_base::{Ask, Image, Place, Size};
 
 /// The register after this one, which holds the high word of a doubleword.
 fn next_register(rt: Reg) -> Reg

@@ -18,8 +18,8 @@ use a32_compute::operands::{
 };
 use a32_compute::parts::{loaded_half, loaded_word};
 use a32_compute::shifts::shift_by_number;
-use llsc_base::{Ask, Bar, Image, Place, Size, Stop};
 use a32_instr::{HalfKind, Index, Instr, Offset, Reg};
+use llsc_base::{Ask, Bar, Image, Place, Size, Stop};
 
 /// What becomes of the base register when a load or a store is complete.
 #[derive(Clone, Copy)]

@@ -7,8 +7,8 @@ ghost use Rattle.guest_core.specs.Machine.{IsReady};
 
 use crate::tests::cpu::starts::{core_with, reachable};
 use a32_step::{Cpu, Flags};
-use llsc_base::{Image, MachineSize, Stop};
 use guest_core::Wanted;
+use llsc_base::{Image, MachineSize, Stop};
 use std::alloc::Global;
 use std::test::Fail;
 

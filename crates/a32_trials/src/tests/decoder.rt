@@ -3,8 +3,8 @@ mod manual;
 mod refusals;
 
 use a32_decode::decode;
-use llsc_base::DecodeFault;
 use a32_instr::Instr;
+use llsc_base::DecodeFault;
 
 /// The first word that isn't decoded to what stands beside it.
 fn first_wrong(words: &[(u32, Result<Instr, DecodeFault>)]) -> Option<u32> {

@@ -1,10 +1,10 @@
 //! Runs of small programs.
 ghost use Rattle.std.specs.Prelude.{◌≤◌};
 
-use a32_step::Cpu;
 use super::programs::image_of;
-use llsc_base::{MachineSize, Stop};
+use a32_step::Cpu;
 use guest_machine::solo;
+use llsc_base::{MachineSize, Stop};
 use std::alloc::Global;
 use std::test::Fail;
 

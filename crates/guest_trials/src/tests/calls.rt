@@ -1,9 +1,9 @@
 //! One call at a time, at the edges of each rule.
 use super::same;
-use llsc_base::{CallAsk, Image, MachineSize};
 use a32_step::Cpu;
-use guest_core::Wanted;
 use guest_calls::{CallStep, Output, guest_call};
+use guest_core::Wanted;
+use llsc_base::{CallAsk, Image, MachineSize};
 use std::alloc::Global;
 use std::process::Abort;
 use std::test::Fail;

@@ -1,8 +1,8 @@
 //! Guests that start threads, on host threads beside each other.
 use super::programs::image_of;
-use llsc_base::{MachineSize, Stop};
 use guest_family::{prepare_family, run_family};
 use guest_thread::{GuestEnd, Ran};
+use llsc_base::{MachineSize, Stop};
 use std::alloc::Global;
 use std::sync::Wait;
 use std::test::Fail;

@@ -2,10 +2,10 @@
 ghost use Rattle.std.specs.Prelude.{◌≡◌, ◌≤◌, length};
 
 use super::programs::{WRITES, image_of};
-use llsc_base::{Ask, Image, MachineSize, Place, Size, Stop};
 use a32_step::Cpu;
 use guest_calls::Output;
 use guest_thread::{Guest, Turn};
+use llsc_base::{Ask, Image, MachineSize, Place, Size, Stop};
 use std::alloc::Global;
 use std::test::Fail;
 

@@ -3,11 +3,11 @@ ghost use Rattle.std.specs.Prelude.{◌≡◌, ◌≤◌, IfOk, length};
 ghost use Rattle.guest_trials.specs.Parts.{MayGoOn};
 
 use super::programs::image_of;
-use guest_core::Code;
-use a32_step::Conditional;
-use llsc_base::{MachineSize, Stop};
+use a32_step::{Conditional, Cpu};
 use guest_calls::Output;
+use guest_core::Code;
 use guest_thread::{Finished, Part, Paused, go_on, start_cpu};
+use llsc_base::{MachineSize, Stop};
 use shared_memory::SharedMemory;
 use std::alloc::Global;
 use std::sync::Wait;

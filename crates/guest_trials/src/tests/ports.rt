@@ -3,10 +3,10 @@ ghost use Rattle.std.specs.Prelude.{◌≡◌, IfSome};
 
 use super::programs::image_of;
 use super::same;
-use llsc_base::{Ask, MachineSize, Stop};
-use guest_core::{Code, Port};
 use a32_step::Cpu;
+use guest_core::{Code, Port};
 use guest_thread::Guest;
+use llsc_base::{Ask, MachineSize, Stop};
 use std::alloc::Global;
 use std::test::Fail;
 

@@ -1,10 +1,10 @@
 //! Traces of small programs by the number 0.
-use a32_step::Remembering;
 use super::programs::{ADDS, SHARES, image_of};
-use llsc_base::{MachineSize, Place, Size, Stop};
+use a32_step::Remembering;
 use guest_machine::{Traced, trace};
 use guest_thread::GuestEnd;
 use history::{Access, Deed};
+use llsc_base::{MachineSize, Place, Size, Stop};
 use std::alloc::Global;
 use std::test::Fail;
 

@@ -2,9 +2,9 @@
 ghost use Rattle.std.specs.Prelude.{◌≡◌, IfOk};
 ghost use Rattle.run_record.specs.Limits.{IsRecord};
 
-use a32_step::Remembering;
 use super::programs::{ADDS, SHARES, WRITES, image_of};
 use super::same;
+use a32_step::Remembering;
 use llsc_base::MachineSize;
 use run_checker::{Reason, Verdict, check_record};
 use run_record::{RunRecord, read_record};

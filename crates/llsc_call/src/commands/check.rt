@@ -6,8 +6,8 @@ ghost use Rattle.llsc_files.specs.Refusals.{most_program, too_long, IsRefusal};
 ghost use Rattle.llsc_call.specs.Check.{most_record, record_fault_text, verdict_text, AnswersCheck, IsJudged, JudgesRun};
 ghost use Rattle.llsc_call.specs.Outcome.{Gives};
 
-use a32_step::Remembering;
 use crate::outcome::Outcome;
+use a32_step::Remembering;
 use llsc_base::{Image, MachineSize};
 use llsc_files::{Refusal, load, numbers_of, refuse};
 use llsc_words::Format;

@@ -5,8 +5,8 @@ ghost use Rattle.llsc_files.specs.Refusals.{most_program, too_long};
 ghost use Rattle.llsc_call.specs.Answer.{AnswersSolo, IsReported};
 ghost use Rattle.llsc_call.specs.Outcome.{Gives};
 
-use a32_step::Cpu;
 use crate::outcome::Outcome;
+use a32_step::Cpu;
 use guest_machine::solo;
 use llsc_base::{Image, MachineSize};
 use llsc_files::{LEAST_GRANULE, load, numbers_of};

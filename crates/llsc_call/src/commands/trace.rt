@@ -5,8 +5,8 @@ ghost use Rattle.llsc_files.specs.Refusals.{most_program, too_long, IsRefusal};
 ghost use Rattle.llsc_call.specs.Trace.{AnswersTrace, Traces};
 ghost use Rattle.llsc_call.specs.Outcome.{Gives};
 
-use a32_step::Remembering;
 use crate::outcome::Outcome;
+use a32_step::Remembering;
 use guest_machine::{TraceFault, Traced, trace};
 use llsc_base::{Image, MachineSize};
 use llsc_files::{Refusal, load, numbers_of, refuse};

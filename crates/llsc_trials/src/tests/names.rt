@@ -1,10 +1,10 @@
 //! The names that no call of the program shows: those of want of memory, and of words that are no instructions.
 use super::*;
 use a32_asm::AsmFault;
-use llsc_base::{DecodeFault, FlatFault};
 use a32_syntax::AsmKind;
 use elf32::ElfFault;
 use guest_machine::TraceFault;
+use llsc_base::{DecodeFault, FlatFault};
 use llsc_files::programs::ProgramFault;
 use llsc_host::ReadFault;
 use run_record::RecordFault;

@@ -4,8 +4,8 @@ ghost use Rattle.llsc_base.specs.Memory.{size_bytes};
 ghost use Rattle.guest_core.specs.Ports.{ReplyFits};
 
 use super::programs::image;
-use llsc_base::{Ask, CallAsk, Place, Size, Stop};
 use guest_core::{Code, Core, Passage, Port};
+use llsc_base::{Ask, CallAsk, Place, Size, Stop};
 use rv32_guest::{RvCpu, RvInstr, Wanted};
 use std::alloc::Global;
 use std::test::Fail;

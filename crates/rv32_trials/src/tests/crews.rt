@@ -1,7 +1,7 @@
 //! All threads of a guest, on host threads beside each other.
 use super::programs::image_of;
-use llsc_base::{MachineSize, Stop};
 use guest_thread::{GuestEnd, Ran};
+use llsc_base::{MachineSize, Stop};
 use rv32_guest::{prepare_rv, run_rv_all};
 use shared_memory::{Rows, SharedMemory};
 use std::alloc::Global;

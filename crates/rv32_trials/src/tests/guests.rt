@@ -1,7 +1,7 @@
 //! A whole guest, against what `qemu-riscv32` printed for it.
 use super::programs::image_of;
-use llsc_base::{Ask, Image, MachineSize, Place};
 use guest_calls::{CallStep, Output};
+use llsc_base::{Ask, Image, MachineSize, Place};
 use rv32_guest::{RvCpu, Wanted, rv_call};
 use std::alloc::Global;
 use std::test::Fail;
