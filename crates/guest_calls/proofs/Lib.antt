@@ -6,3 +6,5 @@ pub mod Written
 pub mod OwnAccesses
 pub mod Pieces
 pub mod Retries
+pub mod Splits
+pub mod AskedBefore

@@ -1,10 +1,8 @@
 -- The record of a trace is good.
-use Rattle.std.proofs.Common.{◌≡◌, ℕ, ◌==◌, ◌&&◌, Bool, true, false, if◌then◌else◌, List, [], refl, sym, subst}
-use Rattle.std.proofs.lemmas.Bool.{eq-eqb}
+use Rattle.std.proofs.Common.{◌≡◌, ℕ, Bool, true, false, if◌then◌else◌, List, [], refl, sym, subst}
 use Rattle.llsc_base.specs.Images.{Program}
-use Rattle.llsc_base.specs.Memory.{row_of, size_bytes}
+use Rattle.llsc_base.specs.Memory.{row_of}
 use Rattle.llsc_base.specs.Sizes.{Numbers}
-use Rattle.llsc_base.specs.declared.access.Place.{Place}
 use Rattle.history.specs.Monitor.{Monitor, is_on, marked_row}
 use Rattle.history.specs.declared.entry.Access.{Access}
 use Rattle.history.specs.declared.entry.Deed.{Deed}
@@ -15,24 +13,13 @@ use Rattle.guest_machine.specs.Turns.{Takes, begins, makes, stops, IsTrace}
 use Rattle.guest_thread.specs.Accesses.{access_by, monitor_of}
 use Rattle.guest_machine.proofs.AllEnded.{all_ended}
 use Rattle.guest_machine.proofs.Pushed.{made_by}
-use Rattle.run_checker.specs.Verdict.{fits, is_asked, is_load, is_place, AreRight, AsksNext, HasWrongValue, IsRight, Judges, LacksReservation, good}
+use Rattle.run_checker.specs.Verdict.{fits, is_asked, is_load, AreRight, AsksNext, HasWrongValue, IsRight, Judges, LacksReservation, good}
 use Rattle.run_checker.specs.declared.verdicts.Verdict.TheVariants as verdict
+use Rattle.run_checker.proofs.OwnAsks.{same_place, same_store}
 use Rattle.run_checker.proofs.Right.{right_none, right_push}
 use Rattle.a32_step.specs.Machine.{a32}
 
 -- ---- the access that memory makes of what is asked
-
-both_true : (a b : Bool) → a ≡ true → b ≡ true → (a && b) ≡ true
-both_true true b one other = other
-both_true false b one other = cc
-
-same_place : (place : Place) → is_place place place ≡ true
-same_place place =
-    both_true (place.addr == place.addr) (size_bytes place.size == size_bytes place.size)
-    (eq-eqb place.addr place.addr refl) (eq-eqb (size_bytes place.size) (size_bytes place.size) refl)
-
-same_store : (place : Place) (value : ℕ) → (is_place place place && (value == value)) ≡ true
-same_store place value = both_true (is_place place place) (value == value) (same_place place) (eq-eqb value value refl)
 
 -- a store-exclusive stores, or fails
 abbrev store_or_fail : Bool → Deed

@@ -13,7 +13,7 @@ use Rattle.run_checker.specs.declared.verdicts.Reason.{Reason}
 use Rattle.run_checker.specs.declared.verdicts.Reason.TheVariants.{AfterStop, NotAsked, WrongValue, NoReservation, Unfinished}
 use Rattle.run_checker.specs.declared.verdicts.Verdict.{Verdict}
 use Rattle.run_checker.specs.declared.verdicts.Verdict.TheVariants as verdict
-use Rattle.run_checker.proofs.Splits.{at_it, before_it, behind_it, meets, none_behind}
+use Rattle.guest_calls.proofs.Splits.{at_it, before_it, behind_it, meets, none_behind}
 use Rattle.guest_core.specs.Machine.{InstructionSet}
 
 module _ {I S : Type 0} (set : InstructionSet I S) where

@@ -31,3 +31,11 @@ pub fn good_records_are_legal<C: Core>()
 {
     C::is_sound();
 }
+
+/// Accesses that Arm's memory and monitors allow, by which each thread has stopped, are good.
+pub fn legal_records_are_good<C: Core>()
+    ensures { (program : Program) (size : Numbers) (budget : ℕ) (accesses : List Access) →
+        IsArmLegal (at_rest_by size.granule program.bytes size.threads) (history_of accesses) →
+        ((t : ℕ) → t < size.threads → HasEnded C.set program size budget accesses t) →
+        Judges C.set program size budget accesses Verdict.Good }
+{}
