@@ -3,13 +3,14 @@ use Rattle.std.proofs.Common.{◌≡◌, ◌≢◌, ◌⊎◌, inl, inr, ℕ, ze
 use Rattle.std.specs.List.{range_with_len}
 use Rattle.std.proofs.lemmas.Bool.{eq-eqb, ne_eqb}
 use Rattle.std.proofs.lemmas.List.{map-append}
+use Rattle.std.proofs.lemmas.List.Elements.{All-append, All-cons, All-nil}
 use Rattle.llsc_base.specs.Images.{Program}
 use Rattle.history.specs.declared.entry.Entry.{Entry}
 use Rattle.atomic_table.specs.Seated.{TableId}
 use Rattle.shared_memory.specs.Origin.{Origin}
 use Rattle.shared_memory.specs.Seen.{IsOneOf, all_but}
 use Rattle.guest_core.specs.Machine.{MachineOf, InstructionSet}
-use Rattle.guest_thread.specs.Crews.{AreFresh, IsFresh, threads_of}
+use Rattle.guest_thread.specs.Crews.{AreFresh, HaveSeen, IsFresh, threads_of}
 use Rattle.guest_thread.specs.declared.crews.Job.{Job}
 
 -- what is left to a pass of all threads once those of the numbers from 1 up to one were split off: 0, and that number and those
@@ -65,6 +66,12 @@ module _ {I S C R P : Type 0} (set : InstructionSet I S) (machine : C → Machin
   pub fresh_pushed : (jobs new : List (Job P C R)) (job : Job P C R) → new ≡ jobs ++ job ∷ [] → AreFresh set machine home numbers seen mem origin program jobs
       → IsFresh set machine home numbers seen mem origin program job → AreFresh set machine home numbers seen mem origin program new
   fresh_pushed jobs new job pushed all is = subst (AreFresh set machine home numbers seen mem origin program) (sym pushed) (fresh_more jobs job all is)
+
+pub seen_pushed : {P C R : Type 0} (seen : P → List Entry) (history : List Entry) (jobs new : List (Job P C R)) (job : Job P C R) → new ≡ jobs ++ job ∷ []
+    → HaveSeen seen history jobs → seen job.pass ≡ history → HaveSeen seen history new
+seen_pushed {P = P} {C = C} {R = R} seen history jobs new job pushed all is =
+    let HasSeen : Job P C R → Type 0 = λ one. seen one.pass ≡ history in
+    subst (HaveSeen seen history) (sym pushed) (All-append HasSeen jobs (job ∷ []) all (All-cons HasSeen job [] is (All-nil HasSeen)))
 
 pub range_more : (n count : ℕ) → range_with_len n count ++ (n + count) ∷ [] ≡ range_with_len n (suc count)
 range_more n zero = ap (λ k. k ∷ []) (omega arith)

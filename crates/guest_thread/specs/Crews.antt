@@ -36,6 +36,10 @@ module _ {I S : Type 0} (set : InstructionSet I S) {C : Type 0} (machine : C →
   AreFresh mem origin program [] = Unit {0}
   AreFresh mem origin program (job ∷ jobs) = IsFresh mem origin program job × AreFresh mem origin program jobs
 
+-- each of these threads has a pass that has seen just this
+abbrev pub HaveSeen : {P C R : Type 0} → (P → List Entry) → List Entry → List (Job P C R) → Type 0
+HaveSeen seen history jobs = All (λ job. seen job.pass ≡ history) jobs
+
 -- whose jobs they are
 abbrev pub threads_of : {P C R : Type 0} → List (Job P C R) → List ℕ
 threads_of jobs = map (λ job. job.thread) jobs

@@ -3,7 +3,7 @@ ghost use Rattle.std.specs.Prelude.{◌≡◌, ◌<◌, ◌+◌, ℕ, IfOk, [], 
 ghost use Rattle.std.specs.List.{range_with_len};
 ghost use Rattle.history.specs.Parts.{entries_of};
 ghost use Rattle.shared_memory.specs.Seen.{IsSingle};
-ghost use Rattle.guest_thread.specs.Crews.{AreFresh, IsFresh, IsReady, threads_of};
+ghost use Rattle.guest_thread.specs.Crews.{AreFresh, HaveSeen, IsFresh, IsReady, threads_of};
 
 use crate::ends::GuestEnd;
 use crate::starts::start_cpu;
@@ -79,6 +79,7 @@ fn other_jobs<'i, M: SharedMemory, C: Core>(
     ensures fresh { IfOk result (λ jobs. AreFresh C.set C.machine M.home M.numbers M.seen (M.id mem.now) (M.origin mem.now) image.now jobs.items) }
     ensures threads { IfOk result (λ jobs. threads_of jobs.items ≡ range_with_len 1 (vec_len jobs)) }
     ensures len { IfOk result (λ jobs. vec_len jobs + 1 ≡ count) }
+    ensures unseen { IfOk result (λ jobs. HaveSeen M.seen (M.seen first.old) jobs.items) }
     ensures single { IfOk result (λ _. IsSingle 0 (M.numbers first.new)) }
     ensures memory { M.home first.new ≡ M.home first.old }
     ensures seen { M.seen first.new ≡ M.seen first.old }
@@ -109,6 +110,7 @@ pub fn prepare<'i, M: SharedMemory, C: Core>(
     requires none { (t : ℕ) → entries_of t (M.seen first) ≡ [] }
     ensures ready { IfOk result (IsReady C.set C.machine M.home M.numbers M.seen (M.id mem.now) (M.origin mem.now) image.now) }
     ensures seen { IfOk result (λ crew. M.seen crew.first.pass ≡ M.seen first) }
+    ensures unseen { IfOk result (λ crew. HaveSeen M.seen (M.seen first) crew.jobs.items) }
 {
     let size = mem.size();
     let count = size.threads();

@@ -1,6 +1,6 @@
 //! Threads that have ended, taken together one after another.
 ghost use Rattle.std.specs.Prelude.{◌≡◌, ◌<◌, ◌≤◌, ◌+◌, [], ◌∷◌, ◌++◌, IfNone, IfSome, MatchOption, vec_len, vec_capacity};
-ghost use Rattle.shared_memory.specs.Seen.{IsFront, SaysAllOf, joint};
+ghost use Rattle.shared_memory.specs.Seen.{IsFront, SaysAllOf, joint, longer};
 ghost use Rattle.guest_thread.specs.Crews.{AreFresh, IsFresh};
 
 use crate::crews::Job;
@@ -23,6 +23,7 @@ pub fn gather<M: SharedMemory>(mem: &M, ran: Ran<M::Pass>, done: Finished<M::Pas
     requires room { vec_len ran.ends < vec_capacity ran.ends }
     ensures memory { M.home result.pass ≡ M.id mem.now }
     ensures numbers { M.numbers result.pass ≡ joint (M.numbers ran.pass) (M.numbers done.pass) }
+    ensures seen { M.seen result.pass ≡ longer (M.seen ran.pass) (M.seen done.pass) }
     ensures fronts { IsFront (M.seen ran.pass) (M.seen result.pass) × IsFront (M.seen done.pass) (M.seen result.pass) }
     ensures mine { SaysAllOf (M.numbers ran.pass) (M.seen ran.pass) (M.seen result.pass) }
     ensures yours { SaysAllOf (M.numbers done.pass) (M.seen done.pass) (M.seen result.pass) }

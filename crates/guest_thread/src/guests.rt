@@ -125,7 +125,7 @@ impl<C: Core> Guest<C> {
 
 impl<C: Core> Guest<C> {
     /// A thread whose core is between two instructions, and that has written nothing.
-    pub(crate) fn new(cpu: C, output: Output) -> Guest<C>
+    pub fn new(cpu: C, output: Output) -> Guest<C>
         ensures state { result ≡ record { cpu = cpu; steps = 0; output = output; printing = None } }
         ensures ready { IsReady (C.machine cpu).phase → (mem budget : ℕ) → IsReadyIn mem budget (thread_in C.machine result) }
         ensures comes { output ≡ [] → (program : Program) (budget : ℕ) → HasCome C.set program budget (C.machine cpu) [] (thread_in C.machine result) }

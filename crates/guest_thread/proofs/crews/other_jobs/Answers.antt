@@ -1,5 +1,5 @@
 use Rattle.std.proofs.Common.{◌+◌, ◌≤◌, ◌≡◌, ◌∙◌, vec_len, arith}
-use Rattle.guest_thread.proofs.Prepared.{fresh_pushed, one_less, threads_more}
+use Rattle.guest_thread.proofs.Prepared.{fresh_pushed, one_less, seen_pushed, threads_more}
 use Rattle.guest_thread.proofs.crews.other_jobs.Goals as goal
 
 pub loop-t-preserved : goal.loop-t-preserved
@@ -13,6 +13,8 @@ loop-t-preserved g c =
       left = one_less c.args.count c.loop-t.t (g.M.SharedMemory.numbers c.loop-t.first) (g.M.SharedMemory.numbers c.split-pass.new.pass) above c.split-pass.ensures.rest c.loop-t.invariant.left;
       fresh = fresh_pushed g.C.Core.set g.C.Core.machine g.M.SharedMemory.home g.M.SharedMemory.numbers g.M.SharedMemory.seen (g.M.SharedMemory.id c.args.mem.now) (g.M.SharedMemory.origin c.args.mem.now) c.args.image.now
           c.loop-t.jobs.items c.push.new.self.items job c.in_ok-push.ensures.items c.loop-t.invariant.fresh c.in_ok-job_of.ensures.fresh;
+      unseen = seen_pushed g.M.SharedMemory.seen (g.M.SharedMemory.seen c.args.first.now) c.loop-t.jobs.items c.push.new.self.items job c.in_ok-push.ensures.items c.loop-t.invariant.unseen
+          (c.in_ok-job_of.ensures.seen ∙ c.split-pass.ensures.seen.1 ∙ c.loop-t.invariant.seen);
       len = omega (arith, longer, c.loop-t.invariant.len);
       threads = threads_more c.loop-t.jobs.items c.push.new.self.items job (vec_len c.loop-t.jobs) (vec_len c.push.new.self) c.loop-t.t c.in_ok-push.ensures.items c.in_ok-job_of.ensures.thread
           c.loop-t.invariant.len longer c.loop-t.invariant.threads;
