@@ -3,11 +3,12 @@
 //! [`Cpu::next`] goes on until the instruction at the PC wants something from outside: an access to
 //! memory, a guest call, or nothing, since it is complete or the thread has stopped. The caller
 //! answers an access by [`Cpu::give`] and a call by [`Cpu::answer`]. Each of them is proved to be
-//! what the effect of the instruction says (`a32_instr`, `specs/Effect`); `specs/Machine` here says
-//! it of a machine that is in the middle of an instruction, and [`laws`] that the two agree over all
-//! replies. [`Core::carry`] takes a whole instruction at once, over a [`Port`], which replies to its
-//! accesses, and over [`Code`], which knows the instructions of one image that were met. A [`Remembering`] is a core that goes
-//! access by access, and decodes the words of a loop once.
+//! what the effect of the instruction says (`a32_instr`, `specs/Effect`); `specs/Machine` here is the
+//! set of these instructions, for a machine that may be in the middle of one (`guest_core`,
+//! `specs/Machine`), and [`laws`] has that the two agree over all replies. As a
+//! [`guest_core::Core`], a `Cpu` also carries a whole instruction through at once, in the form that
+//! [`Conditional`] has. A [`Remembering`] is a core that goes access by access, and decodes the words
+//! of a loop once.
 #![tactic(auto)]
 
 mod conditional;

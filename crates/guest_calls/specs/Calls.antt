@@ -1,9 +1,10 @@
--- The table of guest calls. A guest calls by SVC with the immediate 0: the number of the call is in r7, its arguments
--- are in r0, r1 and r2, and the answer goes to r0. Call numbers and errors are those of Linux's EABI.
+-- The table of guest calls. An A32 guest calls by SVC with the immediate 0: the number of the call is in r7, its arguments
+-- are in r0, r1 and r2, and the answer goes to r0. Call numbers and errors are those of Linux's EABI. Another instruction set says
+-- which call of this table a call of its own is.
 use Rattle.std.specs.Prelude.{ℕ, ◌+◌, ◌%◌, ◌==◌, ◌&&◌, ◌||◌, Bool, not, nat_lt, if◌then◌else◌}
 use Rattle.llsc_base.specs.declared.outside.CallAsk.{CallAsk}
 
--- what a guest call does: it ends the thread with a code, puts an answer into r0, or writes so many bytes of memory
+-- what a guest call does: it ends the thread with a code, is answered, or writes so many bytes of memory
 -- from an address up, and then has their number as its answer
 pub data CallEffect : Type 0 where
   exits : (code : ℕ) → CallEffect

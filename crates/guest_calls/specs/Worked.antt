@@ -4,7 +4,7 @@ use Rattle.llsc_base.specs.declared.access.Place.{Place}
 use Rattle.llsc_base.specs.declared.access.Size.TheVariants.{B1, B4}
 use Rattle.llsc_base.specs.declared.outside.CallAsk.{CallAsk}
 
--- a call by SVC with the immediate 0: its number, and r0 to r2
+-- a call with the immediate 0: its number, and its arguments
 abbrev pub call : (number a b c : ℕ) → CallAsk
 call number a b c = record { imm = 0; number = number; a = a; b = b; c = c }
 

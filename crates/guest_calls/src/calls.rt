@@ -9,7 +9,7 @@ use crate::output::Output;
 use guest_core::Core;
 use llsc_base::CallAsk;
 
-/// The number of exit, in r7.
+/// The number of exit.
 const EXIT: u32 = 1;
 
 /// The number of write.
@@ -38,7 +38,7 @@ const NO_ROOM: u32 = 0xffff_ffe4;
 pub enum CallStep {
     /// The thread ends with this code.
     Exit(u8),
-    /// r0 has the answer, and the thread goes on.
+    /// The call was answered, and the thread goes on.
     Answered,
     /// So many bytes of memory from an address up are to be loaded and written; the answer is then their number.
     Bytes { from: u32, len: u32 },

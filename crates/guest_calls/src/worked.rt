@@ -11,7 +11,7 @@ use crate::calls::CallStep;
 use history::{Cause, Deed, Entry};
 use llsc_base::Ask;
 
-/// Exit leaves with the low byte of r0, write goes by its own rules, and sched_yield is answered by 0; every other number is
+/// Exit leaves with the low byte of its first argument, write goes by its own rules, and sched_yield is answered by 0; every other number is
 /// answered by minus 38, and so is every number with another immediate.
 pub fn calls_by_number()
     ensures exit { call_effect (call 1 261 0 0) 16 0 ≡ exits 5 }

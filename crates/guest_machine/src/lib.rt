@@ -1,8 +1,5 @@
-//! The guest threads of a program: one alone, all beside each other on host threads, or all on one in an order that a
-//! number fixes.
-//!
-//! [`prepare`] makes a [`Job`] of each thread on a memory that threads share, and [`run_all`] runs them beside each
-//! other up to their ends; `specs/Crews.antt` says when a [`Crew`] of jobs is ready, and how its threads have ended.
+//! The guest threads of a program: one alone, or all on one host thread in an order that a number fixes. Those that run
+//! beside each other on host threads are `guest_thread`'s ([`prepare`], [`run_all`]), and are named here as well.
 //!
 //! [`solo`] runs a program's one thread on a memory of its own; `specs/Alone.antt` says what its end is. [`trace`]
 //! gives the accesses of a run of all threads as a record, and how each thread ended; `specs/Turns.antt` says whose

@@ -1,4 +1,4 @@
-//! Worked cases of threads that a thread starts: what the call answers, and runs with a stock of numbers.
+//! Worked cases of the call that starts a thread: what it answers, and which thread it starts.
 ghost use Rattle.std.specs.Prelude.{◌≡◌, ◌∷◌, []};
 ghost use Rattle.llsc_base.specs.declared.outside.Stop.{Stop};
 ghost use Rattle.guest_calls.specs.Worked.{call};

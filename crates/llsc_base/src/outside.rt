@@ -16,7 +16,8 @@ pub enum Ask {
     Clear,
 }
 
-/// A guest call: the immediate of the SVC, the call number in r7, and r0, r1 and r2.
+/// A guest call: its number and its first three arguments, each in the register that its instruction set has for it, and the
+/// immediate of the instruction that calls, which is 0 where that has none.
 #[derive(Clone, Copy, Debug, PartialEq, Eq)]
 pub struct CallAsk {
     pub imm: u32,
@@ -29,11 +30,12 @@ pub struct CallAsk {
 /// Why a guest thread runs no further.
 #[derive(Clone, Copy, Debug, PartialEq, Eq)]
 pub enum Stop {
-    /// The exit call, with r0 modulo 256.
+    /// The exit call, with its code modulo 256.
     Exit(u8),
     /// The word at this address is no instruction.
     Undefined(u32),
-    /// The instruction at this address is unpredictable, or writes a PC with bits 1:0 equal to 10.
+    /// The instruction at this address is unpredictable; or, in a set in which that counts as such, it writes a PC whose lowest two
+    /// bits are 10.
     Unpredictable(u32),
     /// An access at this address, which is no multiple of its size.
     Alignment(u32),
@@ -41,7 +43,7 @@ pub enum Stop {
     Outside(u32),
     /// A store at this address has a byte in a span that isn't written.
     ReadOnly(u32),
-    /// The instruction at this address writes a PC with bit 0 set.
+    /// The instruction at this address writes a PC with bit 0 set, which would go on with instructions of another length.
     Thumb(u32),
     /// The thread has used up its steps.
     Budget,

@@ -7,7 +7,7 @@ ghost use Rattle.llsc_call.specs.Beside.{Ran as HasRun, RanFrom};
 
 use guest_core::Core;
 use guest_family::{prepare_family, run_family};
-use guest_machine::run_all;
+use guest_thread::run_all;
 use guest_thread::{Crew, GuestEnd, Ran, prepare};
 use llsc_base::{Image, MachineSize};
 use shared_memory::{Rows, SharedMemory, StartMemory};
