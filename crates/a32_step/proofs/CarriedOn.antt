@@ -1,5 +1,5 @@
 -- A machine whose instruction was carried on over a port.
-use Rattle.std.proofs.Common.{◌≡◌, ℕ, Bool, true, false, if◌then◌else◌, Option, List, [], ◌∷◌, ◌++◌, Ok, refl, sym, ap, subst, ◌∙◌}
+use Rattle.std.proofs.Common.{◌≡◌, ℕ, Bool, true, false, if◌then◌else◌, Option, List, [], ◌∷◌, ◌++◌, Result, Ok, Err, refl, sym, ap, subst, ◌∙◌}
 use Rattle.llsc_base.specs.Images.{Program}
 use Rattle.a32_instr.specs.declared.instructions.Instr.{Instr}
 use Rattle.llsc_base.specs.declared.outside.Ask.{Ask}
@@ -11,8 +11,8 @@ use Rattle.guest_core.specs.declared.phases.Passage.{Passage}
 use Rattle.guest_core.specs.declared.phases.Passage.TheVariants.{Complete, AtStart}
 use Rattle.a32_step.specs.ExecutionState.{ExecutionState, resting, machine_in}
 use Rattle.a32_step.specs.ExecutionState as stage
-use Rattle.a32_step.specs.Machine.{Machine, instr_at, next_effect, after_next}
-use Rattle.guest_core.specs.Machine.{between, IsReady, moved_on, given}
+use Rattle.a32_step.specs.Machine.{Machine, instr_at, next_effect, after_next, a32}
+use Rattle.guest_core.specs.Machine.{between, IsReady, moved_on, given, begins_of, IsHeld}
 use Rattle.guest_core.specs.Ports.{Leads, goes, refused, stays}
 use Rattle.a32_step.specs.Acting.{IsGiven, begins, none_made, one_more, StandsAt, IsActed}
 use Rattle.a32_step.specs.Passages.{Comes, EndsAt, IsCarriedOn}
@@ -23,6 +23,8 @@ use Rattle.a32_step.specs.Progress.{progress_of}
 use Rattle.a32_step.proofs.Acting.{acted_same}
 use Rattle.a32_step.proofs.ExecutionStates.{is_resting}
 use Rattle.a32_step.proofs.Replied.{inside, first_effect, first_after}
+use Rattle.llsc_base.specs.declared.outside.Stop.{Stop}
+use Rattle.guest_core.specs.Known.{HasNone}
 
 -- ---- between two instructions
 
@@ -173,13 +175,31 @@ module _ {S : Type 0} {replies : S → Ask → Option ℕ → S → Type 0} {pro
         let at = held_at (does here.had) (sym here.came ∙ held) here.stands in
         ap (λ m. instr_at m acted.state.pc) same ∙ ap (λ (s : State). instr_at program s.pc) at.0 ∙ it.known
 
+    put_there : {now : Machine} → p ≡ progress.Held → ((found : Instr) → instr_at image acted.state.pc ≡ Ok found → now ≡ in_hand found acted.state acted.replies)
+        → now ≡ in_hand instr standing.state here.had
+    put_there held now_is =
+        let at = held_at (does here.had) (sym here.came ∙ held) here.stands in
+        now_is instr (known_still held) ∙ ap (λ s. in_hand instr s acted.replies) at.0 ∙ ap (in_hand instr standing.state) at.1
+
+    held_effect : (e : Effect) → progress_of e ≡ progress.Held → IsHeld e
+    held_effect (asks ask) held = tt
+    held_effect (calls call) held = tt
+    held_effect (completes end) held = cc
+    held_effect (stops stop) held = tt
+
+    -- what it does next is what holds it
+    pub held_next : {now : Machine} → p ≡ progress.Held → ((found : Instr) → instr_at image acted.state.pc ≡ Ok found → now ≡ in_hand found acted.state acted.replies)
+        → IsHeld (next_effect program now)
+    held_next held now_is =
+        subst (λ m. IsHeld (next_effect program m)) (sym (put_there held now_is))
+        (subst IsHeld (sym (next_is program instr standing.state it.known holds here.had)) (held_effect (does here.had) (sym here.came ∙ held)))
+
     pub carried_on : {passage : Passage} {now : Machine} → p ≡ progress.Held → passage ≡ passage_of acted.replies
         → ((found : Instr) → instr_at image acted.state.pc ≡ Ok found → now ≡ in_hand found acted.state acted.replies)
         → IsCarriedOn replies program old from passage now to
     carried_on {passage} {now} held passage_is now_is =
         let at = held_at (does here.had) (sym here.came ∙ held) here.stands in
-        let there : now ≡ in_hand instr standing.state here.had =
-        now_is instr (known_still held) ∙ ap (λ s. in_hand instr s acted.replies) at.0 ∙ ap (in_hand instr standing.state) at.1 in
+        let there : now ≡ in_hand instr standing.state here.had = put_there held now_is in
         subst (λ m. IsCarriedOn replies program m from passage now to) (sym it.begins_at) (record {
           pairs = way_to.pairs;
           machine = in_hand instr standing.state here.had;
@@ -199,3 +219,11 @@ not_on {old = old} rest = record {
   comes = starts;
   ends = (refl, subst (λ (m : Machine). IsReady m.phase) (sym rest) tt);
 }
+
+none_held : (program : Program) (state : State) (found : Result Instr Stop) → HasNone found → IsHeld (begins_of a32 program state found)
+none_held program state (Ok instr) none = absurd none
+none_held program state (Err stop) none = tt
+
+-- where no instruction stands it stops
+pub held_at_none : (program : Program) (old : Machine) → old ≡ between old.state → HasNone (instr_at program old.state.pc) → IsHeld (next_effect program old)
+held_at_none program old rest none = subst (λ m. IsHeld (next_effect program m)) (sym rest) (none_held program old.state (instr_at program old.state.pc) none)

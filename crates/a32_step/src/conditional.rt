@@ -43,4 +43,6 @@ impl Ready for Conditional {
             instr,
         })
     }
+
+    fn needs_words() {}
 }

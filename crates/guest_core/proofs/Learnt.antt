@@ -1,5 +1,5 @@
 -- Instructions that are known, each in the slot of its address.
-use Rattle.std.proofs.Common.{◌≡◌, ◌<◌, ◌/◌, ◌%◌, ℕ, List, All, Result, Some, length, replicate, slice_set, sym, ap, ◌∙◌, subst, arith}
+use Rattle.std.proofs.Common.{◌≡◌, ◌<◌, ◌/◌, ◌%◌, ℕ, List, All, Result, Some, length, replicate, slice_set, sym, ap, ◌∙◌, subst, arith, Option, None, refl}
 use Rattle.std.proofs.lemmas.List.Elements.{All-replicate, All-set}
 use Rattle.std.proofs.lemmas.List.{length-replicate, length-set, get_or-set_same}
 use Rattle.std.proofs.lemmas.Option.{slice_get-get_or}
@@ -31,3 +31,8 @@ known_there slots known addr many is =
     let low : at < length slots = subst (λ n. at < n) (sym many) (omega arith) in
     let inside : at < length (slice_set slots at known) = subst (λ n. at < n) (sym (length-set slots at known)) low in
     subst (IsOf addr) (sym (slice_get-get_or (slice_set slots at known) at known inside ∙ ap Some (get_or-set_same slots at known known low))) is
+
+-- what isn't something is nothing
+pub none_there : {A : Type 0} (o : Option A) → ((x : A) → o ≡ Some x → ⊥) → o ≡ None
+none_there None other = refl
+none_there (Some x) other = absurd (other x refl)

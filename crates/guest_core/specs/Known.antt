@@ -1,5 +1,5 @@
 -- Instructions that were met before, each in the slot of its address.
-use Rattle.std.specs.Prelude.{◌≡◌, ℕ, ◌/◌, ◌%◌, List, Option, Some, None, Result, Ok, slice_get}
+use Rattle.std.specs.Prelude.{◌≡◌, ℕ, ◌/◌, ◌%◌, List, Option, Some, None, Result, Ok, Err, slice_get}
 use Rattle.llsc_base.specs.Images.{Program}
 use Rattle.llsc_base.specs.declared.outside.Stop.{Stop}
 use Rattle.guest_core.specs.declared.code.Known.{Known}
@@ -22,3 +22,8 @@ IsOf addr (Some known) = known.addr ≡ addr
 -- the instruction at an address is known
 abbrev pub IsKnown : {R : Type 0} → List (Known R) → ℕ → Type 0
 IsKnown slots addr = IsOf addr (slice_get slots (addr / 4 % 4096))
+
+-- there is no instruction: a thread stops there
+abbrev pub HasNone : {I : Type 0} → Result I Stop → Type 0
+HasNone (Ok instr) = ⊥
+HasNone (Err stop) = Unit {0}

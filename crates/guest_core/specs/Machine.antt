@@ -36,6 +36,13 @@ wanted_of (calls call) = wanted.Call call
 wanted_of (completes state) = wanted.Done
 wanted_of (stops stop) = wanted.Stopped stop
 
+-- what a machine does whose instruction isn't complete by it
+abbrev pub IsHeld : {S : Type 0} → EffectOf S → Type 0
+IsHeld (asks ask) = Unit {0}
+IsHeld (calls call) = Unit {0}
+IsHeld (completes state) = ⊥
+IsHeld (stops stop) = Unit {0}
+
 -- between two instructions, in this state
 abbrev pub between : {I S : Type 0} → S → MachineOf I S
 between state = record { state = state; phase = Between; replies = [] }

@@ -1,6 +1,6 @@
 //! A program's instructions, each decoded where it is met first.
-ghost use Rattle.std.specs.Prelude.{◌≡◌, ◌%◌, IfOk, IsTrue, Ok};
-ghost use Rattle.guest_core.specs.Known.{IsKnown};
+ghost use Rattle.std.specs.Prelude.{◌≡◌, ◌%◌, IfOk, IsFalse, IsTrue, Ok};
+ghost use Rattle.guest_core.specs.Known.{HasNone, IsKnown};
 
 use crate::ready::Ready;
 use llsc_base::Image;
@@ -82,6 +82,7 @@ impl<'i, I: Ready> Code<'i, I> {
         requires { addr % 4 ≡ 0 }
         ensures program { self.new.program ≡ self.old.program }
         ensures known { IsTrue result → IsKnown self.new.slots addr }
+        ensures none { IsFalse result → HasNone (I.found self.old.program addr) }
     {
         self.has(addr) || self.learn(addr)
     }
@@ -112,8 +113,10 @@ impl<'i, I: Ready> Code<'i, I> {
         requires { addr % 4 ≡ 0 }
         ensures program { self.new.program ≡ self.old.program }
         ensures known { IsTrue result → IsKnown self.new.slots addr }
+        ensures none { IsFalse result → HasNone (I.found self.old.program addr) }
     {
         let Some(word) = self.image.fetch(addr) else {
+            I::needs_words();
             return false;
         };
         let Some(ready) = I::of_word(word) else {

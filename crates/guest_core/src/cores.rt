@@ -1,11 +1,11 @@
 //! The core of a guest thread, of whatever instruction set.
-ghost use Rattle.std.specs.Prelude.{◌≡◌, ◌<◌, ◌≤◌, ◌%◌, ◌+◌, ◌^◌, length, IsTrue};
+ghost use Rattle.std.specs.Prelude.{◌≡◌, ◌≢◌, ◌<◌, ◌≤◌, ◌%◌, ◌+◌, ◌^◌, length, IsTrue};
 ghost use Rattle.llsc_base.specs.Images.{Program};
 ghost use Rattle.llsc_base.specs.declared.outside.Ask.{Ask};
 ghost use Rattle.llsc_base.specs.declared.outside.Stop.{Stop};
 ghost use Rattle.llsc_base.specs.Effects.{asks, stops};
 ghost use Rattle.guest_core.specs.Phase as phase;
-ghost use Rattle.guest_core.specs.Machine.{MachineOf, InstructionSet, after_of, between, given, next_of, returned_of, start_in, wanted_of, Follows, GoesOn, GoesOnWith, IsAwaiting, IsCalling, IsOwn, IsReady, IsTested, PassesTests};
+ghost use Rattle.guest_core.specs.Machine.{MachineOf, InstructionSet, after_of, between, given, next_of, returned_of, start_in, wanted_of, Follows, GoesOn, GoesOnWith, IsAwaiting, IsCalling, IsHeld, IsOwn, IsReady, IsTested, PassesTests};
 ghost use Rattle.guest_core.specs.Passages.{IsCarriedOnOf};
 
 use crate::code::Code;
@@ -48,12 +48,13 @@ pub trait Core: Send + Drop {
     /// instructions, and the port's memory has as many bytes as the program.
     ///
     /// The instruction is complete; or the core is between two instructions as it was, or under way with the replies that it had,
-    /// and [`Core::next`] goes on from there.
+    /// and [`Core::next`] goes on from there: what it does next doesn't complete the instruction.
     fn carry<P: Port>(&mut self, code: &mut Code<Self::Ready>, port: &mut P) -> Passage
         requires rest { machine self.old ≡ between (machine self.old).state }
         requires mem { P.mem port.old ≡ length code.old.program.bytes }
         requires few { P.counted port.old + 16 ≤ 2 ^ 63 }
         ensures carried { IsCarriedOnOf set P.replies code.old.program (machine self.old) port.old result (machine self.new) port.new }
+        ensures held { result ≢ Passage.Complete → IsHeld (next_of set code.old.program (machine self.new)) }
         ensures program { code.new.program ≡ code.old.program }
         ensures room { length (machine self.new).replies ≤ 16 }
         ensures mem { P.mem port.new ≡ P.mem port.old }

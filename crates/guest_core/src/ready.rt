@@ -1,7 +1,8 @@
 //! Instructions that are kept ready, so that their words needn't be decoded again.
-ghost use Rattle.std.specs.Prelude.{◌≡◌, ℕ, IfSome, Ok, Result, Some};
+ghost use Rattle.std.specs.Prelude.{◌≡◌, ℕ, IfNone, IfSome, None, Ok, Result, Some};
 ghost use Rattle.llsc_base.specs.Images.{Program, word_at};
 ghost use Rattle.llsc_base.specs.declared.outside.Stop.{Stop};
+ghost use Rattle.guest_core.specs.Known.{HasNone};
 
 /// An instruction of a set as its cores keep it ready, made of its word.
 pub trait Ready: Copy + Send {
@@ -24,5 +25,10 @@ pub trait Ready: Copy + Send {
     /// The instruction of a word, if it is the word of one.
     fn of_word(word: u32) -> Option<Self>
         ensures right { IfSome result is_right }
-        ensures found { IfSome result (λ ready. (program : Program) (addr : ℕ) → word_at program addr ≡ Some word → found program addr ≡ Ok (instr ready)) };
+        ensures found { IfSome result (λ ready. (program : Program) (addr : ℕ) → word_at program addr ≡ Some word → found program addr ≡ Ok (instr ready)) }
+        ensures none { IfNone result ((program : Program) (addr : ℕ) → word_at program addr ≡ Some word → HasNone (found program addr)) };
+
+    /// The law that no instruction stands where no word does.
+    fn needs_words()
+        ensures { (program : Program) (addr : ℕ) → word_at program addr ≡ None → HasNone (found program addr) };
 }

@@ -1,20 +1,26 @@
 -- A machine whose instruction was carried on over a port.
-use Rattle.std.proofs.Common.{◌≡◌, ℕ, Option, Some, None, List, [], ◌∷◌, Ok, refl, sym, ap, subst, ◌∙◌}
-use Rattle.llsc_base.specs.Images.{Program}
+use Rattle.std.proofs.Common.{◌≡◌, ℕ, true, false, Option, Some, None, List, [], ◌∷◌, Result, Ok, Err, refl, sym, ap, subst, ◌∙◌}
+use Rattle.llsc_base.specs.declared.access.Bar.{Bar}
+use Rattle.llsc_base.specs.Images.{Program, bar_of}
 use Rattle.llsc_base.specs.declared.outside.Ask.{Ask}
+use Rattle.llsc_base.specs.declared.outside.Ask.TheVariants as ask
+use Rattle.llsc_base.specs.declared.outside.Stop.{Stop}
 use Rattle.llsc_base.specs.Effects.{asks, completes}
 use Rattle.guest_core.specs.declared.phases.Passage.TheVariants.{Complete, AtStart}
 use Rattle.guest_core.specs.Phase as phase
+use Rattle.guest_core.specs.Known.{HasNone}
+use Rattle.guest_core.specs.Machine.{IsHeld}
 use Rattle.guest_core.specs.Machine.{after_found_of, after_of, begins_of, between, given, moved_on, next_of, IsReady}
 use Rattle.guest_core.specs.Passages.{ComesOf, EndsAtOf, IsCarriedOnOf, starts, replied}
 use Rattle.guest_core.specs.Ports.{goes, refused, stays}
 use Rattle.rv32_guest.specs.declared.cpu.Stage.TheVariants as stage
 use Rattle.rv32_guest.specs.declared.cpu.RvCpu.TheInside as fields
 use Rattle.rv32_guest.specs.declared.instructions.RvInstr.{RvInstr}
+use Rattle.rv32_guest.specs.Accesses.{asked_first, asks_unless}
 use Rattle.rv32_guest.specs.Effect.{acts}
 use Rattle.rv32_guest.specs.Inside.{machine_of}
 use Rattle.rv32_guest.specs.Machine.{Machine, instr_at, rv32}
-use Rattle.rv32_guest.specs.Outcome.{replies_of, Keeps}
+use Rattle.rv32_guest.specs.Outcome.{effect_by, replies_of, Keeps}
 use Rattle.rv32_guest.specs.declared.outcomes.Outcome.{Outcome}
 use Rattle.rv32_guest.specs.declared.outcomes.Outcome.TheVariants as comes
 use Rattle.rv32_guest.specs.State.{RvState, Effect}
@@ -85,15 +91,13 @@ refused_on {old = old} {from = from} {to = to} ask rest served = record {
 }
 
 module _ {program : Program} {old : Machine} {state : RvState} {instr : RvInstr} (it : IsFound program old state instr) where
-  does : List ℕ → Effect
+  abbrev does : List ℕ → Effect
   does had = acts instr program had state
 
   first_effect : next_of rv32 program (between state) ≡ does []
-  unfolding does
   first_effect = ap (begins_of rv32 program state) it.known
 
   first_after : after_of rv32 program (between state) ≡ moved_on instr (between state) (does [])
-  unfolding does
   first_after = ap (after_found_of rv32 program (between state)) it.known
 
   -- with the reply to its access
@@ -105,13 +109,16 @@ module _ {program : Program} {old : Machine} {state : RvState} {instr : RvInstr}
   given_on ask reply asked = ap (λ m. given m reply) (first_after ∙ ap (moved_on instr (between state)) asked)
 
   ends_with : (reply : ℕ) (done : RvState) (new : Machine) → does (reply ∷ []) ≡ completes done → new ≡ between done → EndsAtOf rv32 program (with_reply reply) Complete new
-  unfolding with_reply does
+  unfolding with_reply
   ends_with reply done new is now_is = (done, is, now_is ∙ sym (ap (moved_on instr (with_reply reply)) is), now_is)
+
+  -- what it does next is what the instruction does first
+  pub held_next : (effect : Effect) → does [] ≡ effect → IsHeld effect → IsHeld (next_of rv32 program old)
+  held_next effect is held = subst (λ m. IsHeld (next_of rv32 program m)) (sym it.begins_at) (subst IsHeld (sym (first_effect ∙ is)) held)
 
   module _ {P : Type 0} {replies : P → Ask → Option ℕ → P → Type 0} {from : P} where
     -- it was complete at once
     pub carried_at_once : {new : Machine} (done : RvState) → acts instr program [] state ≡ completes done → new ≡ between done → IsCarriedOnOf rv32 replies program old from Complete new from
-    unfolding does
     carried_at_once {new} done is now_is =
         subst (λ m. IsCarriedOnOf rv32 replies program m from Complete new from) (sym it.begins_at) (record {
           pairs = [];
@@ -124,7 +131,6 @@ module _ {program : Program} {old : Machine} {state : RvState} {instr : RvInstr}
     -- it was complete with the reply
     pub carried_by_reply : {new : Machine} {to : P} (ask : Ask) (reply : ℕ) (done : RvState) → acts instr program [] state ≡ asks ask → replies from ask (Some reply) to
         → acts instr program (reply ∷ []) state ≡ completes done → new ≡ between done → IsCarriedOnOf rv32 replies program old from Complete new to
-    unfolding does
     carried_by_reply {new} {to} ask reply done asked served is now_is =
         subst (λ m. IsCarriedOnOf rv32 replies program m from Complete new to) (sym it.begins_at) (record {
           pairs = (ask, reply) ∷ [];
@@ -133,3 +139,39 @@ module _ {program : Program} {old : Machine} {state : RvState} {instr : RvInstr}
           comes = subst (λ m. ComesOf rv32 program (between state) ((ask, reply) ∷ []) m) (given_on ask reply asked) (replied [] (between state) ask reply starts (first_effect ∙ asked));
           ends = ends_with reply done new is now_is;
         })
+
+-- ---- what holds it
+
+none_held : (program : Program) (state : RvState) (at : Result RvInstr Stop) → HasNone at → IsHeld (begins_of rv32 program state at)
+none_held program state (Ok instr) none = absurd none
+none_held program state (Err stop) none = tt
+
+-- where no instruction stands it stops
+pub held_at_none : (program : Program) (old : Machine) → old ≡ between old.state → HasNone (instr_at program old.state.pc) → IsHeld (next_of rv32 program old)
+held_at_none program old rest none =
+    subst (λ m. IsHeld (next_of rv32 program m)) (sym rest) (none_held program old.state (instr_at program old.state.pc) none)
+
+unless_held : (bar : Option Bar) (addr : ℕ) (ask : Ask) → IsHeld (asks_unless bar addr ask)
+unless_held None addr ask = tt
+unless_held (Some bar) addr ask = tt
+
+-- an access holds it, be it made or barred
+pub first_held : (program : Program) (ask : Ask) → IsHeld (asked_first program ask)
+first_held program (ask.Load place) = unless_held (bar_of program place false) place.addr (ask.Load place)
+first_held program (ask.LoadEx place) = unless_held (bar_of program place false) place.addr (ask.LoadEx place)
+first_held program (ask.Store place value) = unless_held (bar_of program place true) place.addr (ask.Store place value)
+first_held program (ask.StoreEx place value) = unless_held (bar_of program place true) place.addr (ask.StoreEx place value)
+first_held program ask.Clear = tt
+
+outcome_held : (state : RvState) (outcome : Outcome) → (outcome ≡ comes.Completes → ⊥) → IsHeld (effect_by state outcome)
+outcome_held state comes.Completes held = absurd (held refl)
+outcome_held state (comes.Calls call) held = tt
+outcome_held state (comes.Stops stop) held = tt
+
+-- a call or a stop does
+pub held_still : {program : Program} {old : Machine} {instr : RvInstr} (inside : fields.Inside) (outcome : Outcome) (now : RvState) → IsFound program old inside.registers instr
+    → machine_of inside ≡ old → (outcome ≡ comes.Completes → ⊥) → Keeps outcome inside.registers now → effect_by now outcome ≡ acts instr program [] inside.registers
+    → IsHeld (next_of rv32 program (machine_of (record inside { registers = now })))
+held_still {program} {old} inside outcome now it is held kept does_so =
+    subst (λ r. IsHeld (next_of rv32 program (machine_of (record inside { registers = r })))) (sym (held_keeps outcome inside.registers now held kept))
+    (subst (λ m. IsHeld (next_of rv32 program m)) (sym is) (held_next it (effect_by now outcome) (sym does_so) (outcome_held now outcome held)))

@@ -9,3 +9,4 @@ pub mod OthersAskNothing
 pub mod CarriedOn
 pub mod Ending
 pub mod Resting
+pub mod Unmet

@@ -26,7 +26,7 @@ impl Core for RvCpu {
         RvCpu::start(entry, t, n, sp)
     }
 
-    /// It is at its start where it calls, stops, or stores and memory has no write left, and under way nowhere.
+    /// It is complete, or at its start: where it calls, stops, or stores and memory has no write left.
     #[inline(always)]
     fn carry<P: Port>(&mut self, code: &mut Code<RvInstr>, port: &mut P) -> Passage {
         let pc = self.registers.pc();

@@ -26,4 +26,6 @@ impl Ready for RvInstr {
         };
         Some(instr)
     }
+
+    fn needs_words() {}
 }

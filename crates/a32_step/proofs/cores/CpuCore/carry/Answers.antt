@@ -1,6 +1,7 @@
 use Rattle.std.proofs.Common.{rules, ◌≤◌, List, ℕ, length, sym, ap, subst, ◌∙◌}
-use Rattle.a32_step.specs.Machine.{instr_at}
-use Rattle.a32_step.proofs.CarriedOn.{carried_on, carried_through, found, known_still, none_left, not_on, passed_over}
+use Rattle.a32_step.specs.Machine.{Machine, instr_at}
+use Rattle.guest_core.specs.Known.{HasNone}
+use Rattle.a32_step.proofs.CarriedOn.{carried_on, carried_through, found, held_at_none, held_next, known_still, none_left, not_on, passed_over}
 use Rattle.a32_step.proofs.cores.CpuCore.carry.Goals as goal
 
 pub returns-then-not-found-clause-carried : goal.returns-then-not-found-clause-carried
@@ -31,4 +32,15 @@ pub returns-in-Held-clause-carried : goal.returns-in-Held-clause-carried
 returns-in-Held-clause-carried g c =
     let it = found _ _ _ c.self.view_is c.requires.rest c.pc-pc.ensures.pc c.find-found.ensures.program c.at-known.ensures.instr c.at-known.ensures.right c.meets.ensures in
     carried_on it c.if-not-meets.false (c.image-image.ensures ∙ c.find-found.ensures.program) c.act.ensures.acted c.in-Held.is c.put_back.ensures.passage
+    (λ instr at. c.put_back.ensures.machine instr (ap (λ p. instr_at p c.act.new.self.state.pc) (sym c.image-image.ensures) ∙ at))
+
+pub returns-then-not-found-clause-held : goal.returns-then-not-found-clause-held
+returns-then-not-found-clause-held g c = λ other.
+    held_at_none c.args.code.now.program c.args.self.now c.requires.rest
+    (subst (λ at. HasNone (instr_at c.args.code.now.program at)) (c.pc-pc.ensures.pc ∙ ap (λ (m : Machine). m.state.pc) c.self.view_is) (c.find-found.ensures.none c.if-not-found.true))
+
+pub returns-in-Held-clause-held : goal.returns-in-Held-clause-held
+returns-in-Held-clause-held g c = λ other.
+    let it = found _ _ _ c.self.view_is c.requires.rest c.pc-pc.ensures.pc c.find-found.ensures.program c.at-known.ensures.instr c.at-known.ensures.right c.meets.ensures in
+    held_next it c.if-not-meets.false (c.image-image.ensures ∙ c.find-found.ensures.program) c.act.ensures.acted c.in-Held.is
     (λ instr at. c.put_back.ensures.machine instr (ap (λ p. instr_at p c.act.new.self.state.pc) (sym c.image-image.ensures) ∙ at))

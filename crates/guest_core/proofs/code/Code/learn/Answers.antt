@@ -1,8 +1,9 @@
-use Rattle.std.proofs.Common.{◌/◌, ◌%◌, ◌∙◌, refl, sym}
+use Rattle.std.proofs.Common.{◌/◌, ◌%◌, ◌∙◌, ap, refl, subst, sym}
 use Rattle.std.proofs.lemmas.List.{length-set}
+use Rattle.llsc_base.specs.Images.{Program}
 use Rattle.guest_core.specs.declared.code.Known.{Known}
-use Rattle.guest_core.specs.Known.{IsRight}
-use Rattle.guest_core.proofs.Learnt.{all_right, known_there}
+use Rattle.guest_core.specs.Known.{HasNone, IsRight, KnownCode}
+use Rattle.guest_core.proofs.Learnt.{all_right, known_there, none_there}
 use Rattle.guest_core.proofs.code.Code.learn.Goals as goal
 
 pub invariant_of-self : goal.invariant_of-self
@@ -23,3 +24,11 @@ pub returns-clause-known : goal.returns-clause-known
 returns-clause-known g c = λ done.
     let known : Known g.row.I.Denot = record { addr = c.args.addr; ready = c.in-Some-of_word.ready } in
     known_there c.self.inside.slots.items known c.args.addr c.self.invariant.0 refl
+
+pub returns-in_default-clause-none : goal.returns-in_default-clause-none
+returns-in_default-clause-none g c = λ no. subst (λ (p : Program). HasNone (g.I.Ready.found p c.args.addr)) (ap (λ (k : KnownCode g.row.I.Denot). k.program) c.self.view_is)
+    (c.needs_words.ensures c.self.inside.image.now c.args.addr (sym c.fetch.ensures ∙ none_there c.fetch.result c.in_default.not-Some))
+
+pub returns-in_default-of_word-clause-none : goal.returns-in_default-of_word-clause-none
+returns-in_default-of_word-clause-none g c = λ no. subst (λ (p : Program). HasNone (g.I.Ready.found p c.args.addr)) (ap (λ (k : KnownCode g.row.I.Denot). k.program) c.self.view_is)
+    (c.in_default-of_word.ensures.none c.self.inside.image.now c.args.addr (sym c.fetch.ensures ∙ c.in-Some.is))
