@@ -2,7 +2,7 @@
 use Rattle.std.proofs.Common.{◌≡◌, ◌≢◌, ℕ, inl, inr, List, [], ◌∷◌, Option, Some, None, refl}
 use Rattle.std.proofs.lemmas.List.Elements.{recursion_from_All}
 use Rattle.llsc_host.specs.Host.{AreBytes}
-use Rattle.llsc_words.specs.Request.{Request, Solo, Run, Pool, Assemble, Disassemble, Trace, Check, Load, files_of}
+use Rattle.llsc_words.specs.Request.{Request, Solo, Run, Pool, Record, Assemble, Disassemble, Trace, Check, Load, files_of}
 use Rattle.llsc_call.specs.Answer.{AreFiles, AreTold, IsDue, IsNoneOf}
 
 -- files that are told
@@ -31,6 +31,7 @@ pub due_named : (held : List ℕ → Option (List ℕ)) (asked : Request) (name 
 due_named held (Solo file format mem budget) name none due = not_first name file [] none due.0
 due_named held (Run file format set first spare size budget) name none due = not_first name file [] none due.0
 due_named held (Pool file format size workers slice budget) name none due = not_first name file [] none due.0
+due_named held (Record file format size budget) name none due = not_first name file [] none due.0
 due_named held (Assemble file format) name none due = not_first name file [] none due
 due_named held (Disassemble file format mem) name none due = not_first name file [] none due.0
 due_named held (Trace file format threads mem granule seed budget) name none due = not_first name file [] none due.0

@@ -14,7 +14,7 @@ use Rattle.llsc_host.proofs.Kept.{reads_kept, writes_kept}
 use Rattle.llsc_words.specs.declared.formats.Format.{Format}
 use Rattle.llsc_words.specs.declared.sets.SetName.{SetName}
 use Rattle.llsc_words.specs.declared.sets.SetName.TheVariants.{A32}
-use Rattle.llsc_words.specs.Request.{Request, Solo, Run, Pool, Assemble, Disassemble, Trace, Check, Load, files_of}
+use Rattle.llsc_words.specs.Request.{Request, Solo, Run, Pool, Record, Assemble, Disassemble, Trace, Check, Load, files_of}
 use Rattle.llsc_files.specs.Programs.{image_of, program_refusal, program_refusal_as}
 use Rattle.llsc_files.specs.Reads.{Had, IsHad, MayBeLong, Reads}
 use Rattle.llsc_files.specs.Refusals.{Answer, Is, machine_of, most_program, size_refusal, solo_size, too_long, unless}
@@ -24,6 +24,7 @@ use Rattle.run_record.specs.Reading.{record_of}
 use Rattle.llsc_call.specs.Answer.{Answers, AreFiles, IsDue, IsReported}
 use Rattle.llsc_call.specs.Check.{JudgesRead, files_refusal, most_record}
 use Rattle.llsc_call.specs.Files.{IsRefusedLong, ReadFiles, ReadWanted, barred, first_file, second_file}
+use Rattle.llsc_call.specs.Record.{RecordsRun}
 use Rattle.llsc_call.specs.Run.{ReportsRun, UnlessRun}
 use Rattle.llsc_call.specs.Trace.{Traces}
 use Rattle.llsc_call.specs.declared.files.Files.{Files}
@@ -46,6 +47,7 @@ abbrev stands : Request → List ℕ → Option (List ℕ)
 stands (Solo name format mem budget) file = program_refusal format (solo_size mem) file
 stands (Run name format set first spare size budget) file = program_refusal_as set format size file
 stands (Pool name format size workers slice budget) file = program_refusal format size file
+stands (Record name format size budget) file = program_refusal format size file
 stands (Assemble name format) file = text_refusal file
 stands (Disassemble name format mem) file = program_refusal format (solo_size mem) file
 stands (Trace name format threads mem granule seed budget) file = program_refusal format (machine_of threads mem granule) file
@@ -73,6 +75,8 @@ refused_first held (Run name format set first spare size budget) file against ma
     (file ∷ [], ((may, tt), run_is_refused (program_refusal_as set format size file) (ReportsRun set None (image_of format file size) size first spare budget) against is))
 refused_first held (Pool name format size workers slice budget) file against may is =
     (file ∷ [], ((may, tt), run_is_refused (program_refusal format size file) (ReportsRun A32 None (image_of format file size) size size.threads 0 budget) against is))
+refused_first held (Record name format size budget) file against may is =
+    (file ∷ [], ((may, tt), run_is_refused (program_refusal format size file) (RecordsRun None (image_of format file size) size budget) against is))
 refused_first held (Assemble name format) file against may is =
     (file ∷ [], ((may, tt), (refl, is_refused (text_refusal file) (text_answer format (unit_of file)) against is)))
 refused_first held (Disassemble name format mem) file against may is =
@@ -105,6 +109,9 @@ refused_barred held (Run name format set first spare size budget) against is =
 refused_barred held (Pool name format size workers slice budget) against is =
     let file = held_bytes (held name) in
     refused_first held (Pool name format size workers slice budget) file against (are_held (held name)) (unsized A32 format size file against is)
+refused_barred held (Record name format size budget) against is =
+    let file = held_bytes (held name) in
+    refused_first held (Record name format size budget) file against (are_held (held name)) (unsized A32 format size file against is)
 refused_barred held (Disassemble name format mem) against is =
     let file = held_bytes (held name) in
     refused_first held (Disassemble name format mem) file against (are_held (held name)) (unsized A32 format (solo_size mem) file against is)
@@ -166,6 +173,10 @@ first_unread host old new (Pool name format size workers slice budget) f none re
     let asked : Request = Pool name format size workers slice budget in
     one_unread host old new asked name most_program f (refl, none)
     (λ may. refused_first (host.file old) asked may.0 (codes "FileTooLong") may.1.0 (long A32 format size may.0 none may.1.1)) read
+first_unread host old new (Record name format size budget) f none read =
+    let asked : Request = Record name format size budget in
+    one_unread host old new asked name most_program f (refl, none)
+    (λ may. refused_first (host.file old) asked may.0 (codes "FileTooLong") may.1.0 (long A32 format size may.0 none may.1.1)) read
 first_unread host old new (Assemble name format) f none read =
     let asked : Request = Assemble name format in
     one_unread host old new asked name most_text f refl
@@ -200,6 +211,7 @@ pub second_unread : {S : Type 0} (host : Ghosts S) (old mid new : S) (asked : Re
 second_unread host old mid new (Solo name format mem budget) file f first second = absurd second
 second_unread host old mid new (Run name format set heads spare size budget) file f first second = absurd second
 second_unread host old mid new (Pool name format size workers slice budget) file f first second = absurd second
+second_unread host old mid new (Record name format size budget) file f first second = absurd second
 second_unread host old mid new (Assemble name format) file f first second = absurd second
 second_unread host old mid new (Disassemble name format mem) file f first second = absurd second
 second_unread host old mid new (Trace name format threads mem granule seed budget) file f first second = absurd second
@@ -216,6 +228,8 @@ all_had host old mid new (Solo name format mem budget) files first second =
 all_had host old mid new (Run name format set heads spare size budget) files first second =
     record { had = (reads_kept host old mid new first.had.0 second.0, ((first.had.1.1, tt), (first.had.1.0, tt))); writes = writes_kept host old mid new first.writes second.1 }
 all_had host old mid new (Pool name format size workers slice budget) files first second =
+    record { had = (reads_kept host old mid new first.had.0 second.0, ((first.had.1.1, tt), (first.had.1.0, tt))); writes = writes_kept host old mid new first.writes second.1 }
+all_had host old mid new (Record name format size budget) files first second =
     record { had = (reads_kept host old mid new first.had.0 second.0, ((first.had.1.1, tt), (first.had.1.0, tt))); writes = writes_kept host old mid new first.writes second.1 }
 all_had host old mid new (Assemble name format) files first second =
     record { had = (reads_kept host old mid new first.had.0 second.0, ((first.had.1.1, tt), (first.had.1.0, tt))); writes = writes_kept host old mid new first.writes second.1 }

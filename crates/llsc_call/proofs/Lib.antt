@@ -4,6 +4,7 @@ pub mod CheckAnswers
 pub mod Finished
 pub mod RunAnswers
 pub mod RunMachine
+pub mod RecordAnswers
 pub mod Left
 pub mod LoadAnswers
 pub mod Asked
@@ -11,5 +12,6 @@ pub mod Had
 pub mod Said
 pub mod OneAnswer
 pub mod GoodTraces
+pub mod GoodMerges
 pub mod Exclusives
 pub mod TracesAlone

@@ -1,5 +1,5 @@
 -- A request has one answer for the bytes of its files.
-use Rattle.std.proofs.Common.{◌≡◌, ℕ, inl, inr, List, [], ◌∷◌, Option, Some, None, Result, Ok, Err, sym, ◌∙◌, ap, subst}
+use Rattle.std.proofs.Common.{◌≡◌, ◌⊎◌, ℕ, inl, inr, false, arith, List, [], ◌∷◌, Option, Some, None, Result, Ok, Err, sym, ◌∙◌, ap, subst}
 use Rattle.llsc_base.specs.Sizes.{Numbers}
 use Rattle.llsc_base.specs.Images.{Program}
 use Rattle.history.specs.Accesses.{history_of}
@@ -25,6 +25,7 @@ use Rattle.llsc_words.specs.declared.sets.SetName.TheVariants.{A32, Rv32}
 use Rattle.llsc_files.specs.Programs.{image_of, program_refusal, program_refusal_as}
 use Rattle.llsc_files.specs.Refusals.{Answer, machine_of, solo_size, Unless, Is}
 use Rattle.llsc_report.specs.Report.{report_of}
+use Rattle.llsc_call.specs.Record.{AnswersRecord, IsRecordOf, IsTooLongFor, PrintsMerge, RecordsRun}
 use Rattle.llsc_call.specs.Run.{IsOutcomeBy, ReportsRun, UnlessRun}
 use Rattle.llsc_call.specs.Load.{TellsLoad, load_program, load_refusal, load_size, load_text}
 use Rattle.llsc_texts.specs.Assembly.{asm_answer}
@@ -32,8 +33,8 @@ use Rattle.llsc_texts.specs.Disassembly.{dis_answer}
 use Rattle.llsc_report.specs.Status.{status_of, status_of_all}
 use Rattle.llsc_call.specs.Trace.{IsRecorded, Traces}
 use Rattle.llsc_call.specs.Check.{files_refusal, verdict_status, verdict_text, IsJudged, JudgesRead}
-use Rattle.llsc_words.specs.Request.{Request, Solo, Run, Pool, Assemble, Disassemble, Trace, Check, Load}
-use Rattle.llsc_call.specs.Answer.{Answers, IsReported}
+use Rattle.llsc_words.specs.Request.{Request, Solo, Run, Pool, Record, Assemble, Disassemble, Trace, Check, Load}
+use Rattle.llsc_call.specs.Answer.{Answers, IsReported, merges}
 
 -- answers have one status and one text
 abbrev pub AreOne : (ℕ → List ℕ → Type 0) → Type 0
@@ -73,7 +74,7 @@ record_one : (program : Program) (size : Numbers) (seed budget : ℕ) → AreOne
 record_one program size seed budget status other text more a b =
     let run : a.0 ≡ b.0 = one_run program size seed budget a.0 b.0 a.2.0 b.2.0 in
     let ends : a.1 ≡ b.1 =
-    one_list program size budget (history_of b.0.accesses) a.1 b.1 (subst (λ r. AreEnds a32 program size budget (history_of r.accesses) a.1) run a.2.1.0) b.2.1.0 in
+    one_list a32 program size budget (history_of b.0.accesses) a.1 b.1 (subst (λ r. AreEnds a32 program size budget (history_of r.accesses) a.1) run a.2.1.0) b.2.1.0 in
     (a.2.1.1.0 ∙ ap status_of_all ends ∙ sym b.2.1.1.0, a.2.1.1.1 ∙ ap record_text run ∙ sym b.2.1.1.1)
 
 trace_one : (program : Program) (size : Numbers) (seed budget : ℕ) → AreOne (Traces program size seed budget)
@@ -128,36 +129,66 @@ unless_run_one None story answers one status other text more a b = one status ot
 untold_one : {N : Type 0} {answers : ℕ → List ℕ → Type 0} → AreOne answers → AreOne (λ status text. N × answers status text)
 untold_one one status other text more a b = one status other text more a.1 b.1
 
-pub answers_one : (asked : Request) (files : List (List ℕ)) (story : Option (List Entry)) → AreOne (Answers asked files story)
-answers_one (Solo name format mem budget) (file ∷ []) story =
+-- a record, by its history
+record_status : (history : List Entry) (program : Program) (size : Numbers) (budget : ℕ) (status other : ℕ) (text more : List ℕ)
+    → IsRecordOf history program size budget status text → IsRecordOf history program size budget other more → status ≡ other
+record_status history program size budget status other text more a b = by a.1.1.1 b.1.1.1
+  where
+    ends : a.0 ≡ b.0
+    ends = one_list_on a32 program size budget history a.0 b.0 a.1.0.ends b.1.0.ends
+
+    by : PrintsMerge history size budget a.0 status text ⊎ IsTooLongFor history status text → PrintsMerge history size budget b.0 other more ⊎ IsTooLongFor history other more → status ≡ other
+    by (inl one) (inl two) = one.1.1.1.0 ∙ ap status_of_all ends ∙ sym two.1.1.1.0
+    by (inr one) (inr two) = one.1.0 ∙ sym two.1.0
+    by (inl one) (inr two) = absurd (omega (arith, one.0, two.0))
+    by (inr one) (inl two) = absurd (omega (arith, one.0, two.0))
+
+records_one : (program : Program) (size : Numbers) (budget : ℕ) (story : Option (List Entry)) (status other : ℕ) (text more : List ℕ)
+    → RecordsRun story program size budget status text → RecordsRun story program size budget other more → status ≡ other
+records_one program size budget None status other text more a b = absurd a
+records_one program size budget (Some history) status other text more a b = record_status history program size budget status other text more a b
+
+record_unless : (against : Option (List ℕ)) (story : Option (List Entry)) (program : Program) (size : Numbers) (budget : ℕ) (status other : ℕ) (text more : List ℕ)
+    → UnlessRun against story (RecordsRun story program size budget) status text → UnlessRun against story (RecordsRun story program size budget) other more → status ≡ other
+record_unless (Some name) story program size budget status other text more a b = a.1.0 ∙ sym b.1.0
+record_unless None story program size budget status other text more a b = records_one program size budget story status other text more a b
+
+pub one_status : (format : Format) (size : Numbers) (budget : ℕ) (file : List ℕ) (story : Option (List Entry)) (status other : ℕ) (text more : List ℕ)
+    → AnswersRecord format size budget file story status text → AnswersRecord format size budget file story other more → status ≡ other
+one_status format size budget file story status other text more a b =
+    record_unless (program_refusal format size file) story (image_of format file size) size budget status other text more a b
+
+pub answers_one : (asked : Request) (files : List (List ℕ)) (story : Option (List Entry)) → merges asked ≡ false → AreOne (Answers asked files story)
+answers_one (Solo name format mem budget) (file ∷ []) story plain =
     let size = solo_size mem in
     untold_one (unless_one (IsReported (image_of format file size) size budget) (program_refusal format size file) (report_one (image_of format file size) size budget))
-answers_one (Run name format set first spare size budget) (file ∷ []) story =
+answers_one (Run name format set first spare size budget) (file ∷ []) story plain =
     unless_run_one (program_refusal_as set format size file) story (ReportsRun set story (image_of format file size) size first spare budget) (run_one set (image_of format file size) size first spare budget story)
-answers_one (Pool name format size workers slice budget) (file ∷ []) story =
+answers_one (Pool name format size workers slice budget) (file ∷ []) story plain =
     unless_run_one (program_refusal format size file) story (ReportsRun A32 story (image_of format file size) size size.threads 0 budget) (run_one A32 (image_of format file size) size size.threads 0 budget story)
-answers_one (Assemble name format) (file ∷ []) story = untold_one (is_one (asm_answer format file))
-answers_one (Disassemble name format mem) (file ∷ []) story = untold_one (is_one (dis_answer format mem file))
-answers_one (Trace name format threads mem granule seed budget) (file ∷ []) story =
+answers_one (Record name format size budget) files story plain = absurd (let e : ⊥ = cc in e)
+answers_one (Assemble name format) (file ∷ []) story plain = untold_one (is_one (asm_answer format file))
+answers_one (Disassemble name format mem) (file ∷ []) story plain = untold_one (is_one (dis_answer format mem file))
+answers_one (Trace name format threads mem granule seed budget) (file ∷ []) story plain =
     let size = machine_of threads mem granule in
     untold_one (unless_one (Traces (image_of format file size) size seed budget) (program_refusal format size file) (trace_one (image_of format file size) size seed budget))
-answers_one (Check name second format mem) (file ∷ recorded ∷ []) story =
+answers_one (Check name second format mem) (file ∷ recorded ∷ []) story plain =
     untold_one (unless_one (JudgesRead format mem file (record_of recorded)) (files_refusal file recorded) (read_one format mem file (record_of recorded)))
-answers_one (Load seed threads rounds budget) [] story =
+answers_one (Load seed threads rounds budget) [] story plain =
     unless_run_one (load_refusal threads rounds) story (TellsLoad story seed threads rounds budget) (load_one seed threads rounds budget story)
-answers_one (Load seed threads rounds budget) (first ∷ rest) story = λ status other text more a b. absurd a
-answers_one (Solo name format mem budget) [] story = λ status other text more a b. absurd a
-answers_one (Solo name format mem budget) (first ∷ second ∷ rest) story = λ status other text more a b. absurd a
-answers_one (Run name format set first spare size budget) [] story = λ status other text more a b. absurd a
-answers_one (Run name format set first spare size budget) (one ∷ two ∷ rest) story = λ status other text more a b. absurd a
-answers_one (Pool name format size workers slice budget) [] story = λ status other text more a b. absurd a
-answers_one (Pool name format size workers slice budget) (one ∷ two ∷ rest) story = λ status other text more a b. absurd a
-answers_one (Assemble name format) [] story = λ status other text more a b. absurd a
-answers_one (Assemble name format) (first ∷ second ∷ rest) story = λ status other text more a b. absurd a
-answers_one (Disassemble name format mem) [] story = λ status other text more a b. absurd a
-answers_one (Disassemble name format mem) (first ∷ second ∷ rest) story = λ status other text more a b. absurd a
-answers_one (Trace name format threads mem granule seed budget) [] story = λ status other text more a b. absurd a
-answers_one (Trace name format threads mem granule seed budget) (first ∷ second ∷ rest) story = λ status other text more a b. absurd a
-answers_one (Check name other format mem) [] story = λ status other text more a b. absurd a
-answers_one (Check name other format mem) (first ∷ []) story = λ status other text more a b. absurd a
-answers_one (Check name other format mem) (first ∷ second ∷ third ∷ rest) story = λ status other text more a b. absurd a
+answers_one (Load seed threads rounds budget) (first ∷ rest) story plain = λ status other text more a b. absurd a
+answers_one (Solo name format mem budget) [] story plain = λ status other text more a b. absurd a
+answers_one (Solo name format mem budget) (first ∷ second ∷ rest) story plain = λ status other text more a b. absurd a
+answers_one (Run name format set first spare size budget) [] story plain = λ status other text more a b. absurd a
+answers_one (Run name format set first spare size budget) (one ∷ two ∷ rest) story plain = λ status other text more a b. absurd a
+answers_one (Pool name format size workers slice budget) [] story plain = λ status other text more a b. absurd a
+answers_one (Pool name format size workers slice budget) (one ∷ two ∷ rest) story plain = λ status other text more a b. absurd a
+answers_one (Assemble name format) [] story plain = λ status other text more a b. absurd a
+answers_one (Assemble name format) (first ∷ second ∷ rest) story plain = λ status other text more a b. absurd a
+answers_one (Disassemble name format mem) [] story plain = λ status other text more a b. absurd a
+answers_one (Disassemble name format mem) (first ∷ second ∷ rest) story plain = λ status other text more a b. absurd a
+answers_one (Trace name format threads mem granule seed budget) [] story plain = λ status other text more a b. absurd a
+answers_one (Trace name format threads mem granule seed budget) (first ∷ second ∷ rest) story plain = λ status other text more a b. absurd a
+answers_one (Check name other format mem) [] story plain = λ status other text more a b. absurd a
+answers_one (Check name other format mem) (first ∷ []) story plain = λ status other text more a b. absurd a
+answers_one (Check name other format mem) (first ∷ second ∷ third ∷ rest) story plain = λ status other text more a b. absurd a

@@ -18,6 +18,7 @@ use Rattle.guest_machine.proofs.UnderWay.{all_fail_push, unmarked}
 use Rattle.llsc_call.proofs.GoodTraces.{trace_good}
 use Rattle.run_checker.proofs.LegalRecords.{right_legal, good_right}
 use Rattle.a32_step.specs.Machine.{a32}
+use Rattle.a32_step.proofs.Tested.{next_passes, next_own}
 
 -- each store-exclusive of a trace that failed did so without a mark
 all_unmarked : (program : Program) (size : Numbers) (seed budget x : ℕ) (live : List ℕ) (accesses : List Access)
@@ -26,8 +27,8 @@ all_unmarked program size seed budget _ _ _ begins = tt
 all_unmarked program size seed budget _ _ _ (makes x live accesses t ask before turn asks) =
     let access : Access = access_by (monitor_of program size accesses) t ask in
     subst (AllFailUnmarked (at_rest_by size.granule program.bytes size.threads)) (sym (history_push accesses access))
-    (all_fail_push a32 (at_rest_by size.granule program.bytes size.threads) (history_of accesses) (entry_of access)
-    (all_unmarked program size seed budget x live accesses before) (unmarked a32 (monitor_of program size accesses) t ask))
+    (all_fail_push (at_rest_by size.granule program.bytes size.threads) (history_of accesses) (entry_of access)
+    (all_unmarked program size seed budget x live accesses before) (unmarked (monitor_of program size accesses) t ask))
 all_unmarked program size seed budget _ _ _ (stops x live accesses t stop steps output before turn ends) =
     all_unmarked program size seed budget x live accesses before
 
@@ -36,9 +37,9 @@ pub trace_alone : (program : Program) (size : Numbers) (seed : ℕ) (run : RunRe
 trace_alone program size seed run one is =
     let accesses : List Access = run.accesses in
     let sound : All (IsAccess size.threads) accesses = subst (λ n. All (IsAccess n) accesses) is.threads is.sound.accesses in
-    let right = good_right a32 program size run.budget accesses (trace_good program size seed run.budget accesses is.trace) in
+    let right = good_right a32 next_passes next_own program size run.budget accesses (trace_good program size seed run.budget accesses is.trace) in
     record {
-      legal = subst (λ n. IsArmLegal (at_rest_by size.granule program.bytes n) (history_of accesses)) one (right_legal a32 program size run.budget accesses right sound);
+      legal = subst (λ n. IsArmLegal (at_rest_by size.granule program.bytes n) (history_of accesses)) one (right_legal a32 next_passes next_own program size run.budget accesses right sound);
       decided = subst (λ n. AllFailUnmarked (at_rest_by size.granule program.bytes n) (history_of accesses)) one
           (all_unmarked program size seed run.budget is.trace.0 [] accesses is.trace.1);
     }

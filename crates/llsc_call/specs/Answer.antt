@@ -1,5 +1,5 @@
 -- What a call of the program answers: a status and a text, and with which history.
-use Rattle.std.specs.Prelude.{◌≡◌, ◌≢◌, ℕ, ◌⊎◌, List, [], ◌∷◌, All, map, Option, Some, None}
+use Rattle.std.specs.Prelude.{◌≡◌, ◌≢◌, ℕ, ◌⊎◌, Bool, true, false, List, [], ◌∷◌, All, map, Option, Some, None}
 use Rattle.llsc_base.specs.Sizes.{Numbers}
 use Rattle.llsc_base.specs.Images.{Program}
 use Rattle.history.specs.declared.entry.Entry.{Entry}
@@ -9,10 +9,11 @@ use Rattle.llsc_words.specs.declared.formats.Format.{Format}
 use Rattle.llsc_words.specs.declared.sets.SetName.TheVariants.{A32}
 use Rattle.llsc_report.specs.Report.{report_of}
 use Rattle.llsc_host.specs.Host.{Rose, AreBytes, AddsFront}
-use Rattle.llsc_words.specs.Request.{Request, Solo, Run, Pool, Assemble, Disassemble, Trace, Check, Load, files_of}
+use Rattle.llsc_words.specs.Request.{Request, Solo, Run, Pool, Record, Assemble, Disassemble, Trace, Check, Load, files_of}
 use Rattle.llsc_texts.specs.Assembly.{AnswersAsm}
 use Rattle.llsc_texts.specs.Disassembly.{AnswersDis}
 use Rattle.llsc_call.specs.Run.{AnswersRun}
+use Rattle.llsc_call.specs.Record.{AnswersRecord}
 use Rattle.llsc_report.specs.Status.{status_of}
 use Rattle.llsc_call.specs.Trace.{AnswersTrace}
 use Rattle.llsc_call.specs.Check.{AnswersCheck}
@@ -39,12 +40,18 @@ abbrev pub Answers : Request → List (List ℕ) → Option (List Entry) → ℕ
 Answers (Solo name format mem budget) (file ∷ []) story status text = (story ≡ None) × AnswersSolo format mem budget file status text
 Answers (Run name format set first spare size budget) (file ∷ []) story status text = AnswersRun set format first spare size budget file story status text
 Answers (Pool name format size workers slice budget) (file ∷ []) story status text = AnswersRun A32 format size.threads 0 size budget file story status text
+Answers (Record name format size budget) (file ∷ []) story status text = AnswersRecord format size budget file story status text
 Answers (Assemble name format) (file ∷ []) story status text = (story ≡ None) × AnswersAsm format file status text
 Answers (Disassemble name format mem) (file ∷ []) story status text = (story ≡ None) × AnswersDis format mem file status text
 Answers (Trace name format threads mem granule seed budget) (file ∷ []) story status text = (story ≡ None) × AnswersTrace format threads mem granule seed budget file status text
 Answers (Check name other format mem) (file ∷ recorded ∷ []) story status text = (story ≡ None) × AnswersCheck format mem file recorded status text
 Answers (Load seed threads rounds budget) [] story status text = AnswersLoad seed threads rounds budget story status text
 Answers _ _ story status text = ⊥
+
+-- a request's threads run freely and record what they do, so that any merge of what they did may be its answer
+abbrev pub merges : Request → Bool
+merges (Record name format size budget) = true
+merges _ = false
 
 -- these are bytes that the files of these names may hold, one for each
 abbrev pub AreFiles : (List ℕ → Option (List ℕ)) → (names files : List (List ℕ)) → Type 0
@@ -67,6 +74,7 @@ abbrev pub IsDue : (List ℕ → Option (List ℕ)) → Request → List ℕ →
 IsDue held (Solo file format mem budget) name = (name ≡ file) × (size_refusal (solo_size mem) ≡ None)
 IsDue held (Run file format set first spare size budget) name = (name ≡ file) × (size_refusal size ≡ None)
 IsDue held (Pool file format size workers slice budget) name = (name ≡ file) × (size_refusal size ≡ None)
+IsDue held (Record file format size budget) name = (name ≡ file) × (size_refusal size ≡ None)
 IsDue held (Assemble file format) name = name ≡ file
 IsDue held (Disassemble file format mem) name = (name ≡ file) × (size_refusal (solo_size mem) ≡ None)
 IsDue held (Trace file format threads mem granule seed budget) name = (name ≡ file) × (size_refusal (machine_of threads mem granule) ≡ None)

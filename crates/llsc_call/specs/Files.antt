@@ -10,7 +10,7 @@ use Rattle.llsc_host.specs.declared.host.ReadFault.TheVariants.{Failed, FileTooL
 use Rattle.llsc_host.specs.Host.{Rose}
 use Rattle.llsc_host.specs.Said.{refusal_text}
 use Rattle.llsc_host.specs.Writes.{KeepsReads, KeepsWrites}
-use Rattle.llsc_words.specs.Request.{Request, Solo, Run, Pool, Assemble, Disassemble, Trace, Check, Load, files_of}
+use Rattle.llsc_words.specs.Request.{Request, Solo, Run, Pool, Record, Assemble, Disassemble, Trace, Check, Load, files_of}
 use Rattle.llsc_files.specs.Reads.{Reads}
 use Rattle.llsc_files.specs.Refusals.{machine_of, most_program, size_refusal, solo_size, too_long}
 use Rattle.llsc_call.specs.Answer.{Answers, AreFiles, IsDue}
@@ -26,6 +26,7 @@ abbrev pub first_file : Request → Option (List ℕ × ℕ)
 first_file (Solo file format mem budget) = Some (file, most_program)
 first_file (Run file format set first spare size budget) = Some (file, most_program)
 first_file (Pool file format size workers slice budget) = Some (file, most_program)
+first_file (Record file format size budget) = Some (file, most_program)
 first_file (Assemble file format) = Some (file, most_text)
 first_file (Disassemble file format mem) = Some (file, most_program)
 first_file (Trace file format threads mem granule seed budget) = Some (file, most_program)
@@ -41,6 +42,7 @@ abbrev pub machine_wanted : Request → Option Numbers
 machine_wanted (Solo file format mem budget) = Some (solo_size mem)
 machine_wanted (Run file format set first spare size budget) = Some size
 machine_wanted (Pool file format size workers slice budget) = Some size
+machine_wanted (Record file format size budget) = Some size
 machine_wanted (Disassemble file format mem) = Some (solo_size mem)
 machine_wanted (Trace file format threads mem granule seed budget) = Some (machine_of threads mem granule)
 machine_wanted _ = None

@@ -5,7 +5,9 @@ pub mod Exclusives
 pub mod Beside
 pub mod Load
 pub mod Check
+pub mod Record
 pub mod Answer
 pub mod Files
 pub mod Outcome
+pub mod Merged
 pub mod Comes

@@ -1,5 +1,5 @@
 //! Threads that run beside each other, on a memory of their own.
-ghost use Rattle.std.specs.Prelude.{◌≡◌, ◌≤◌, ◌+◌, ◌*◌, ℕ, [], false, length, nat_lt, true, IfOk};
+ghost use Rattle.std.specs.Prelude.{◌≡◌, ◌≤◌, ◌+◌, ◌*◌, ℕ, [], length, nat_lt, true, IfOk};
 ghost use Rattle.llsc_base.specs.Limits.{most_budget};
 ghost use Rattle.version_memory.specs.Memory.{story_history};
 ghost use Rattle.a32_step.specs.Machine.{a32};
@@ -7,8 +7,7 @@ ghost use Rattle.llsc_call.specs.Beside.{Ran as HasRun, RanFrom};
 
 use guest_core::Core;
 use guest_family::{prepare_family, run_family};
-use guest_thread::run_all;
-use guest_thread::{Crew, GuestEnd, Ran, prepare};
+use guest_thread::{Crew, GuestEnd, Ran, prepare, run_all};
 use llsc_base::{Image, MachineSize};
 use shared_memory::{Rows, SharedMemory, StartMemory};
 use slice_pool::{Pooled, pool_crew, run_pool};

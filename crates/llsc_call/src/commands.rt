@@ -12,6 +12,7 @@ mod check;
 mod dis;
 mod load;
 mod pool;
+mod recording;
 mod run;
 mod solo;
 mod trace;
@@ -35,6 +36,7 @@ fn machine_named(request: Request<'_>) -> Option<MachineNumbers>
         }
         Request::Run { numbers, .. } => Some(numbers.whole_machine()),
         Request::Pool { numbers, .. } => Some(numbers.machine),
+        Request::Record { numbers, .. } => Some(numbers.machine),
         Request::Trace { numbers, .. } => {
             Some(numbers_of(numbers.threads, numbers.mem, numbers.granule))
         }
@@ -90,6 +92,11 @@ pub fn answer<R: Threads + Wait + Sync>(
             numbers,
             ..
         } => pool::answer(rt, alloc, format, numbers, first),
+        Request::Record {
+            format,
+            numbers,
+            ..
+        } => recording::answer(rt, alloc, format, numbers, first),
         Request::Assemble { format, .. } => Answer::from(asm::outcome(alloc, format, first)),
         Request::Disassemble { format, mem, .. } => {
             Answer::from(dis::outcome(alloc, format, mem, first))

@@ -38,6 +38,7 @@ fn first_file(request: Request<'_>) -> Option<Wanted<'_>>
         Request::Solo { file, .. }
         | Request::Run { file, .. }
         | Request::Pool { file, .. }
+        | Request::Record { file, .. }
         | Request::Disassemble { file, .. }
         | Request::Trace { file, .. }
         | Request::Check { file, .. } => Some(Wanted {

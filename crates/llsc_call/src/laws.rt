@@ -1,5 +1,5 @@
 //! The laws of what the program answers, each a function of no effect whose contract is the law.
-ghost use Rattle.std.specs.Prelude.{◌≡◌, ◌⊎◌, ℕ, List, Option, Some};
+ghost use Rattle.std.specs.Prelude.{◌≡◌, ◌≢◌, ◌⊎◌, ℕ, false, List, Option, Some, slice_get};
 ghost use Rattle.llsc_base.specs.Images.{Program};
 ghost use Rattle.llsc_base.specs.Sizes.{Numbers};
 ghost use Rattle.history.specs.Accesses.{history_of};
@@ -16,12 +16,14 @@ ghost use Rattle.guest_machine.specs.Alone.{IsSoloEnd};
 ghost use Rattle.guest_machine.specs.Traces.{IsTraceRecord};
 ghost use Rattle.guest_machine.specs.Turns.{IsTrace};
 ghost use Rattle.run_checker.specs.Verdict.{Judges};
-ghost use Rattle.llsc_call.specs.Answer.{Answers};
+ghost use Rattle.run_merge.specs.Merge.{IsMerge};
+ghost use Rattle.llsc_call.specs.Answer.{Answers, merges};
 ghost use Rattle.llsc_call.specs.Exclusives.{AreStoresExact};
 ghost use Rattle.llsc_call.specs.Load.{AnswersLoad, CountsEveryRound, load_program, load_size, load_text};
 ghost use Rattle.llsc_files.specs.Programs.{image_of};
 ghost use Rattle.llsc_report.specs.Report.{report_of};
 ghost use Rattle.llsc_report.specs.Summary.{load_summary};
+ghost use Rattle.llsc_call.specs.Record.{AnswersRecord, PrintsMerge};
 ghost use Rattle.llsc_call.specs.Run.{AnswersRun, IsOutcomeBy};
 ghost use Rattle.llsc_call.specs.Versions.{KeepsVersions};
 ghost use Rattle.llsc_words.specs.declared.formats.Format.{Format};
@@ -29,13 +31,14 @@ ghost use Rattle.llsc_words.specs.declared.sets.SetName.{SetName};
 ghost use Rattle.llsc_words.specs.Request.{Request};
 ghost use Rattle.a32_step.specs.Machine.{a32};
 
+use llsc_base::Stop;
 use run_checker::Verdict;
 
 /// A request has one answer for the bytes of its files, and for the history of its threads where they run beside each other: one
-/// status and one text.
+/// status and one text. Of a record alone it has one for each merge of that history.
 pub fn answers_are_one()
     ensures { (asked : Request) (files : List (List ℕ)) (story : Option (List Entry)) (status other : ℕ) (text more : List ℕ) →
-        Answers asked files story status text → Answers asked files story other more → (status ≡ other) × (text ≡ more) }
+        merges asked ≡ false → Answers asked files story status text → Answers asked files story other more → (status ≡ other) × (text ≡ more) }
 {}
 
 /// What a run prints, where its status is 0 or 1, is the report of an outcome of its threads, those that begin by themselves and
@@ -85,6 +88,31 @@ pub fn store_exclusives_are_exact()
         IsOutcomeFrom a32 program size first spare budget history ends → AreStoresExact size program.bytes history }
     ensures of_risc_v { (program : Program) (size : Numbers) (budget : ℕ) (history : List Entry) (ends : List GuestEnd) →
         IsOutcome rv32 program size budget history ends → AreStoresExact size program.bytes history }
+{}
+
+/// A record has one status for the bytes of its file and for the history of its threads, whichever merge is printed.
+pub fn records_have_one_status()
+    ensures { (format : Format) (size : Numbers) (budget : ℕ) (file : List ℕ) (story : Option (List Entry)) (status other : ℕ) (text more : List ℕ) →
+        AnswersRecord format size budget file story status text → AnswersRecord format size budget file story other more → status ≡ other }
+{}
+
+/// What `record` prints, where its status is 0 or 1, is a record of a merge of one history of its threads, legal and complete, from the
+/// program's memory on, that goes with the answer; and that history has no more accesses than a record may have.
+pub fn records_have_one_history()
+    ensures { (format : Format) (size : Numbers) (budget : ℕ) (file : List ℕ) (story : Option (List Entry)) (status : ℕ) (text : List ℕ) →
+        AnswersRecord format size budget file story status text → (status ≡ 0) ⊎ (status ≡ 1) →
+        (history : List Entry) × (ends : List GuestEnd)
+        × ((story ≡ Some history) × (IsOutcome a32 (image_of format file size) size budget history ends
+        × (KeepsVersions size history × PrintsMerge history size budget ends status text))) }
+{}
+
+/// A merge of the history of a program's threads is a good record, where none of them was stopped at a store since a class of rows had
+/// had all of its writes: so `check` says `good` of what `record` printed.
+pub fn merges_are_good()
+    ensures { (program : Program) (size : Numbers) (budget : ℕ) (history : List Entry) (ends : List GuestEnd) (merged : List Access) →
+        IsOutcome a32 program size budget history ends →
+        ((t addr : ℕ) (end : GuestEnd) → slice_get ends t ≡ Some end → end.stop ≢ Stop.TagLimit addr) →
+        IsMerge size history merged → Judges a32 program size budget merged Verdict.Good }
 {}
 
 /// The record of a trace is good.

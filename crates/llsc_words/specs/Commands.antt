@@ -3,7 +3,7 @@ use Rattle.std.specs.Prelude.{◌≡◌, true, Some, codes}
 use Rattle.clap.specs.Words.{App, Rule, Text, is_simple_and_free, new_app, new_rule, with_rule}
 use Rattle.clap.specs.declared.builder.ArgAction.TheVariants.{SetTrue}
 use Rattle.llsc_words.specs.declared.names.CommandName.{CommandName}
-use Rattle.llsc_words.specs.declared.names.CommandName.TheVariants.{Solo, Run, Pool, Asm, Dis, Trace, Check, Load}
+use Rattle.llsc_words.specs.declared.names.CommandName.TheVariants.{Solo, Run, Pool, Record, Asm, Dis, Trace, Check, Load}
 
 -- `--NAME VALUE` or `--NAME=VALUE`, once at most
 abbrev pub option_rule : Text → Rule
@@ -40,6 +40,11 @@ abbrev pub machine_app : Text → App
 machine_app name =
     with_rule (with_rule (with_rule (program_app name) (option_rule (codes "threads"))) (option_rule (codes "mem"))) (option_rule (codes "granule"))
 
+-- and how many classes its rows are dealt out to, how many writes each may have, and how many steps a thread has
+abbrev pub beside_app : Text → App
+beside_app name =
+    with_rule (with_rule (with_rule (machine_app name) (option_rule (codes "classes"))) (option_rule (codes "limit"))) (option_rule (codes "budget"))
+
 -- `solo` has FILE, `--flat`, `--mem` and `--budget`
 unfoldable pub solo_app : App
 solo_app = with_rule (with_rule (program_app (codes "solo")) (option_rule (codes "mem"))) (option_rule (codes "budget"))
@@ -54,15 +59,15 @@ dis_app = with_rule (program_app (codes "dis")) (option_rule (codes "mem"))
 
 -- `run` has FILE, `--flat`, `--threads`, `--mem`, `--granule`, `--classes`, `--limit`, `--budget`, `--spare` and `--rv`
 unfoldable pub run_app : App
-run_app =
-    with_rule (with_rule (with_rule (with_rule (with_rule (machine_app (codes "run")) (option_rule (codes "classes"))) (option_rule (codes "limit")))
-    (option_rule (codes "budget"))) (option_rule (codes "spare"))) rv
+run_app = with_rule (with_rule (beside_app (codes "run")) (option_rule (codes "spare"))) rv
 
 -- `pool` has FILE, `--flat`, `--threads`, `--mem`, `--granule`, `--classes`, `--limit`, `--budget`, `--workers` and `--slice`
 unfoldable pub pool_app : App
-pool_app =
-    with_rule (with_rule (with_rule (with_rule (with_rule (machine_app (codes "pool")) (option_rule (codes "classes"))) (option_rule (codes "limit")))
-    (option_rule (codes "budget"))) (option_rule (codes "workers"))) (option_rule (codes "slice"))
+pool_app = with_rule (with_rule (beside_app (codes "pool")) (option_rule (codes "workers"))) (option_rule (codes "slice"))
+
+-- `record` has FILE, `--flat`, `--threads`, `--mem`, `--granule`, `--classes`, `--limit` and `--budget`
+unfoldable pub record_app : App
+record_app = beside_app (codes "record")
 
 -- `trace` has FILE, `--flat`, `--threads`, `--mem`, `--granule`, `--seed` and `--budget`
 unfoldable pub trace_app : App
@@ -84,6 +89,7 @@ abbrev pub app_by : CommandName → App
 app_by Solo = solo_app
 app_by Run = run_app
 app_by Pool = pool_app
+app_by Record = record_app
 app_by Asm = asm_app
 app_by Dis = dis_app
 app_by Trace = trace_app

@@ -20,7 +20,8 @@ use Rattle.llsc_words.specs.Names.{command_named}
 
 -- what a call asks for: to run the file of that name, of that format, as one thread, with so many bytes of memory and so many
 -- steps; to run it, of that instruction set, as so many threads of a machine beside each other, each of which may start so many
--- more; to run it as all threads of a machine on so many workers, so many steps of each at a time; to assemble the text of that name as a file of that format; to show a file as text, in so many bytes of memory; to run a file as so many
+-- more; to run it as all threads of a machine on so many workers, so many steps of each at a time; to run it as all threads of a
+-- machine beside each other, and to record what each does; to assemble the text of that name as a file of that format; to show a file as text, in so many bytes of memory; to run a file as so many
 -- guest threads on one host thread, with rows of a granule and in the order that a seed fixes, and to record that; to check
 -- such a record, the second file, against a program; or to run the counter guest of a seed, as so many threads of so many
 -- rounds each, with so many steps for each
@@ -28,6 +29,7 @@ pub data Request : Type 0 where
   Solo : (file : List ℕ) (format : Format) (mem budget : ℕ) → Request
   Run : (file : List ℕ) (format : Format) (set : SetName) (first spare : ℕ) (size : Numbers) (budget : ℕ) → Request
   Pool : (file : List ℕ) (format : Format) (size : Numbers) (workers slice budget : ℕ) → Request
+  Record : (file : List ℕ) (format : Format) (size : Numbers) (budget : ℕ) → Request
   Assemble : (file : List ℕ) (format : Format) → Request
   Disassemble : (file : List ℕ) (format : Format) (mem : ℕ) → Request
   Trace : (file : List ℕ) (format : Format) (threads mem granule seed budget : ℕ) → Request
@@ -39,6 +41,7 @@ abbrev pub files_of : Request → List (List ℕ)
 files_of (Solo file format mem budget) = file ∷ []
 files_of (Run file format set first spare size budget) = file ∷ []
 files_of (Pool file format size workers slice budget) = file ∷ []
+files_of (Record file format size budget) = file ∷ []
 files_of (Assemble file format) = file ∷ []
 files_of (Disassemble file format mem) = file ∷ []
 files_of (Trace file format threads mem granule seed budget) = file ∷ []
@@ -75,6 +78,10 @@ pool_workers = 2
 
 abbrev pub pool_slice : ℕ
 pool_slice = 1000
+
+-- the steps of a thread where none are given for a run that its threads record; its other numbers are those of a run
+abbrev pub record_budget : ℕ
+record_budget = 10000
 
 -- the threads, the granule, the seed and the steps of a thread where none are given for a trace
 abbrev pub trace_threads : ℕ
@@ -162,7 +169,7 @@ solo_for given = solo_by given.file (format_of given) (number_or default_mem giv
 abbrev pub machine_by : MachineNumbers → Numbers
 machine_by n = record (numbers n.mem n.threads n.classes n.limit) { granule = n.granule }
 
--- the machine that a run or a pool asks for, with the threads that begin by themselves
+-- the machine that a run, a pool or a record asks for, with the threads that begin by themselves
 abbrev pub machine_of : (threads mem granule classes limit : Option ℕ) → Option MachineNumbers
 machine_of (Some threads) (Some mem) (Some granule) (Some classes) (Some limit) =
     Some (record { threads = threads; mem = mem; granule = granule; classes = classes; limit = limit })
@@ -193,6 +200,13 @@ abbrev pub pool_for : Given → Option Request
 pool_for given =
     pool_by given.file (format_of given) (machine_for given) (workers_or pool_workers given.workers) (budget_or pool_slice given.slice)
     (budget_or default_budget given.budget)
+
+abbrev pub record_by : Option (List ℕ) → Format → Option MachineNumbers → Option ℕ → Option Request
+record_by (Some file) format (Some machine) (Some budget) = Some (Record file format (machine_by machine) budget)
+record_by _ _ _ _ = None
+
+abbrev pub record_for : Given → Option Request
+record_for given = record_by given.file (format_of given) (machine_for given) (budget_or record_budget given.budget)
 
 abbrev pub assemble_by : Option (List ℕ) → Format → Option Request
 assemble_by (Some file) format = Some (Assemble file format)
@@ -238,6 +252,7 @@ abbrev pub request_by : CommandName → Given → Option Request
 request_by name.Solo given = solo_for given
 request_by name.Run given = run_for given
 request_by name.Pool given = pool_for given
+request_by name.Record given = record_for given
 request_by name.Asm given = assemble_for given
 request_by name.Dis given = disassemble_for given
 request_by name.Trace given = trace_for given
@@ -262,6 +277,7 @@ abbrev pub asked : Call → Request
 asked (call.Solo file format mem budget) = Solo file.now format mem budget
 asked (call.Run file format set n) = Run file.now format set n.machine.threads n.spare (size_of_run n) n.budget
 asked (call.Pool file format n) = Pool file.now format (machine_by n.machine) n.workers n.slice n.budget
+asked (call.Record file format n) = Record file.now format (machine_by n.machine) n.budget
 asked (call.Assemble file format) = Assemble file.now format
 asked (call.Disassemble file format mem) = Disassemble file.now format mem
 asked (call.Trace file format numbers) = Trace file.now format numbers.threads numbers.mem numbers.granule numbers.seed numbers.budget
@@ -276,6 +292,7 @@ HasBudget (call.Run file format set numbers) =
     ((1 ≤ numbers.budget) × (numbers.budget ≤ most_budget)) × (may_start set numbers.spare ≡ true)
 HasBudget (call.Pool file format numbers) =
     ((1 ≤ numbers.budget) × (numbers.budget ≤ most_budget)) × (1 ≤ numbers.slice) × ((1 ≤ numbers.workers) × (numbers.workers ≤ 4))
+HasBudget (call.Record file format numbers) = (1 ≤ numbers.budget) × (numbers.budget ≤ most_budget)
 HasBudget (call.Trace file format numbers) = (1 ≤ numbers.budget) × (numbers.budget ≤ most_budget)
 HasBudget (call.Load numbers) = (1 ≤ numbers.budget) × (numbers.budget ≤ most_budget)
 HasBudget _ = Unit {0}

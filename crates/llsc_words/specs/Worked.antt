@@ -31,7 +31,7 @@ fault_in text = fault_of_run (asked_in text)
 -- each command, with all that has to be there
 abbrev pub commands : List (List ℕ)
 commands =
-    codes "solo p" ∷ codes "run p" ∷ codes "pool p" ∷ codes "asm p" ∷ codes "dis p" ∷ codes "trace p" ∷ codes "check p r" ∷ codes "load 7" ∷ []
+    codes "solo p" ∷ codes "run p" ∷ codes "pool p" ∷ codes "record p" ∷ codes "asm p" ∷ codes "dis p" ∷ codes "trace p" ∷ codes "check p r" ∷ codes "load 7" ∷ []
 
 -- the names of all options
 abbrev pub option_names : List (List ℕ)

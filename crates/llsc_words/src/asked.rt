@@ -2,19 +2,19 @@
 ghost use Rattle.std.specs.Prelude.{◌≡◌, IfSome};
 ghost use Rattle.std.specs.Option.{option_map};
 ghost use Rattle.llsc_words.specs.Given.{seen};
-ghost use Rattle.llsc_words.specs.Request.{asked, assemble_for, check_for, disassemble_for, format_of, load_for, machine_for, pool_for, request_by, run_for, set_of, solo_for, trace_for, HasBudget};
+ghost use Rattle.llsc_words.specs.Request.{asked, assemble_for, check_for, disassemble_for, format_of, load_for, machine_for, pool_for, record_for, request_by, run_for, set_of, solo_for, trace_for, HasBudget};
 
 use crate::defaults::{
-    DEFAULT_BUDGET, DEFAULT_MEM, LOAD_ROUNDS, LOAD_THREADS, POOL_SLICE, POOL_WORKERS, RUN_CLASSES,
-    RUN_GRANULE, RUN_LIMIT, RUN_SPARE, RUN_THREADS, TRACE_BUDGET, TRACE_GRANULE, TRACE_SEED,
-    TRACE_THREADS,
+    DEFAULT_BUDGET, DEFAULT_MEM, LOAD_ROUNDS, LOAD_THREADS, POOL_SLICE, POOL_WORKERS,
+    RECORD_BUDGET, RUN_CLASSES, RUN_GRANULE, RUN_LIMIT, RUN_SPARE, RUN_THREADS, TRACE_BUDGET,
+    TRACE_GRANULE, TRACE_SEED, TRACE_THREADS,
 };
 use crate::formats::Format;
 use crate::given::Given;
 use crate::names::CommandName;
 use crate::numbers::{budget_or, number_in, number_or, spare_or, workers_or};
 use crate::requests::{
-    LoadNumbers, MachineNumbers, PoolNumbers, Request, RunNumbers, TraceNumbers,
+    LoadNumbers, MachineNumbers, PoolNumbers, RecordNumbers, Request, RunNumbers, TraceNumbers,
 };
 use crate::sets::SetName;
 
@@ -53,7 +53,7 @@ fn solo<'a>(given: &Given<'a>) -> Option<Request<'a>>
     })
 }
 
-/// The machine that `run` or `pool` asks for, with the threads that begin by themselves.
+/// The machine that `run`, `pool` or `record` asks for, with the threads that begin by themselves.
 fn machine(given: &Given) -> Option<MachineNumbers>
     ensures { result ≡ machine_for (seen given.now) }
 {
@@ -97,6 +97,21 @@ fn pool<'a>(given: &Given<'a>) -> Option<Request<'a>>
             workers: workers_or(POOL_WORKERS, given.workers)?,
             slice: budget_or(POOL_SLICE, given.slice)?,
             budget: budget_or(DEFAULT_BUDGET, given.budget)?,
+        },
+    })
+}
+
+/// What `record` asks for.
+fn recorded<'a>(given: &Given<'a>) -> Option<Request<'a>>
+    ensures request { option_map asked result ≡ record_for (seen given.now) }
+    ensures budget { IfSome result HasBudget }
+{
+    Some(Request::Record {
+        file: given.file?,
+        format: given.format(),
+        numbers: RecordNumbers {
+            machine: machine(given)?,
+            budget: budget_or(RECORD_BUDGET, given.budget)?,
         },
     })
 }
@@ -179,6 +194,7 @@ pub fn request_by<'a>(name: CommandName, given: &Given<'a>) -> Option<Request<'a
         CommandName::Solo => solo(given),
         CommandName::Run => run(given),
         CommandName::Pool => pool(given),
+        CommandName::Record => recorded(given),
         CommandName::Asm => assemble(given),
         CommandName::Dis => disassemble(given),
         CommandName::Trace => trace(given),

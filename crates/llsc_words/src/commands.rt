@@ -1,7 +1,7 @@
 //! The commands, each with its options and files.
 ghost use Rattle.std.specs.Prelude.{◌≡◌, IfOk, codes};
 ghost use Rattle.clap.specs.Words.{app_of, with_rule};
-ghost use Rattle.llsc_words.specs.Commands.{app_by, asm_app, check_app, dis_app, file, flat, load_app, machine_app, option_rule, plain_app, pool_app, positional_rule, program_app, run_app, solo_app, trace_app};
+ghost use Rattle.llsc_words.specs.Commands.{app_by, asm_app, beside_app, check_app, dis_app, file, flat, load_app, machine_app, option_rule, plain_app, pool_app, positional_rule, program_app, record_app, run_app, solo_app, trace_app};
 
 use crate::arguments::{flag, option, plain, positional};
 use crate::names::CommandName;
@@ -64,6 +64,13 @@ fn machine<'a>(alloc: Global, name: &'a str) -> Result<Command<'a>, AllocError>
     with_three_options(alloc, program(alloc, name)?, "threads", "mem", "granule")
 }
 
+/// A command whose threads run beside each other.
+fn beside<'a>(alloc: Global, name: &'a str) -> Result<Command<'a>, AllocError>
+    ensures { IfOk result (λ command. app_of command ≡ beside_app name.entry.now) }
+{
+    with_three_options(alloc, machine(alloc, name)?, "classes", "limit", "budget")
+}
+
 /// `solo`: runs one thread.
 #[tactic(auto, unfolding(crate::specs::Commands::solo_app))]
 fn solo<'a>(alloc: Global) -> Result<Command<'a>, AllocError>
@@ -93,8 +100,7 @@ fn dis<'a>(alloc: Global) -> Result<Command<'a>, AllocError>
 fn run<'a>(alloc: Global) -> Result<Command<'a>, AllocError>
     ensures { IfOk result (λ command. app_of command ≡ run_app) }
 {
-    let command = with_three_options(alloc, machine(alloc, "run")?, "classes", "limit", "budget")?;
-    with_option(alloc, command, "spare")?.arg(flag(alloc, "rv"))
+    with_option(alloc, beside(alloc, "run")?, "spare")?.arg(flag(alloc, "rv"))
 }
 
 /// `pool`: runs all threads on few workers.
@@ -102,8 +108,15 @@ fn run<'a>(alloc: Global) -> Result<Command<'a>, AllocError>
 fn pool<'a>(alloc: Global) -> Result<Command<'a>, AllocError>
     ensures { IfOk result (λ command. app_of command ≡ pool_app) }
 {
-    let command = with_three_options(alloc, machine(alloc, "pool")?, "classes", "limit", "budget")?;
-    with_two_options(alloc, command, "workers", "slice")
+    with_two_options(alloc, beside(alloc, "pool")?, "workers", "slice")
+}
+
+/// `record`: runs all threads, which record their accesses.
+#[tactic(auto, unfolding(crate::specs::Commands::record_app))]
+fn recorded<'a>(alloc: Global) -> Result<Command<'a>, AllocError>
+    ensures { IfOk result (λ command. app_of command ≡ record_app) }
+{
+    beside(alloc, "record")
 }
 
 /// `trace`: records a run of all threads.
@@ -149,6 +162,7 @@ pub fn command_by<'a>(alloc: Global, name: CommandName) -> Result<Command<'a>, A
         CommandName::Solo => solo(alloc),
         CommandName::Run => run(alloc),
         CommandName::Pool => pool(alloc),
+        CommandName::Record => recorded(alloc),
         CommandName::Asm => asm(alloc),
         CommandName::Dis => dis(alloc),
         CommandName::Trace => trace(alloc),

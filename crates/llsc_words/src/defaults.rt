@@ -27,6 +27,9 @@ pub const POOL_WORKERS: u64 = 2;
 /// The steps that a guest of a pool runs at a time.
 pub const POOL_SLICE: u64 = 1000;
 
+/// The steps of a thread of a run that its threads record; its other numbers are those of a run.
+pub const RECORD_BUDGET: u64 = 10_000;
+
 /// The threads of a trace.
 pub const TRACE_THREADS: u64 = 2;
 

@@ -23,6 +23,8 @@ pub mod worked_refusals;
 
 pub use defaults::{DEFAULT_MEM, RUN_CLASSES, RUN_LIMIT};
 pub use formats::Format;
-pub use requests::{LoadNumbers, MachineNumbers, PoolNumbers, Request, RunNumbers, TraceNumbers};
+pub use requests::{
+    LoadNumbers, MachineNumbers, PoolNumbers, RecordNumbers, Request, RunNumbers, TraceNumbers,
+};
 pub use sets::SetName;
 pub use words::parse;

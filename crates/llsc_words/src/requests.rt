@@ -68,6 +68,15 @@ pub struct PoolNumbers {
     pub budget: u64,
 }
 
+/// The numbers of a run that its threads record.
+#[derive(Clone, Copy)]
+pub struct RecordNumbers {
+    /// The machine, all of whose threads begin by themselves.
+    pub machine: MachineNumbers,
+    /// The most steps of a thread.
+    pub budget: u64,
+}
+
 /// The numbers of a trace.
 #[derive(Clone, Copy)]
 pub struct TraceNumbers {
@@ -120,6 +129,13 @@ pub enum Request<'a> {
         file: &'a str,
         format: Format,
         numbers: PoolNumbers,
+    },
+    /// To run the file of that name, of that format, as several threads beside each other, by these numbers, and to record what each
+    /// does.
+    Record {
+        file: &'a str,
+        format: Format,
+        numbers: RecordNumbers,
     },
     /// To assemble the text of that name as a file of that format.
     Assemble {

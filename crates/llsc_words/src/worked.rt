@@ -1,7 +1,7 @@
 //! Worked words of each command, and what they ask for, computed by the definitions.
 ghost use Rattle.std.specs.Prelude.{◌≡◌, Some, codes};
-ghost use Rattle.llsc_words.specs.Request.{default_budget, default_mem, load_rounds, load_threads, pool_slice, pool_workers, run_classes, run_granule, run_limit, run_spare, run_threads, trace_budget, trace_granule, trace_seed, trace_threads};
-ghost use Rattle.llsc_words.specs.Request.Request.{Assemble, Check, Disassemble, Load, Pool, Run, Solo, Trace};
+ghost use Rattle.llsc_words.specs.Request.{default_budget, default_mem, load_rounds, load_threads, pool_slice, pool_workers, record_budget, run_classes, run_granule, run_limit, run_spare, run_threads, trace_budget, trace_granule, trace_seed, trace_threads};
+ghost use Rattle.llsc_words.specs.Request.Request.{Assemble, Check, Disassemble, Load, Pool, Record, Run, Solo, Trace};
 ghost use Rattle.llsc_words.specs.Worked.{asked_in};
 
 use crate::formats::Format;
@@ -18,6 +18,7 @@ pub fn numbers_where_none_are_given()
     ensures run_limit { run_limit ≡ 4611686018427387904 }
     ensures pool_workers { pool_workers ≡ 2 }
     ensures pool_slice { pool_slice ≡ 1000 }
+    ensures record_budget { record_budget ≡ 10000 }
     ensures trace_threads { trace_threads ≡ 2 }
     ensures trace_granule { trace_granule ≡ 0 }
     ensures trace_seed { trace_seed ≡ 0 }
@@ -32,6 +33,7 @@ pub fn commands_by_themselves()
     ensures solo { asked_in (codes "solo p") ≡ Some (Solo (codes "p") Format.Elf 1048576 100000000) }
     ensures run { asked_in (codes "run p") ≡ Some (Run (codes "p") Format.Elf SetName.A32 2 0 (record { mem = 1048576; threads = 2; classes = 4096; limit = 4611686018427387904; granule = 0 }) 100000000) }
     ensures pool { asked_in (codes "pool p") ≡ Some (Pool (codes "p") Format.Elf (record { mem = 1048576; threads = 2; classes = 4096; limit = 4611686018427387904; granule = 0 }) 2 1000 100000000) }
+    ensures record_run { asked_in (codes "record p") ≡ Some (Record (codes "p") Format.Elf (record { mem = 1048576; threads = 2; classes = 4096; limit = 4611686018427387904; granule = 0 }) 10000) }
     ensures assemble { asked_in (codes "asm p") ≡ Some (Assemble (codes "p") Format.Elf) }
     ensures disassemble { asked_in (codes "dis p") ≡ Some (Disassemble (codes "p") Format.Elf 1048576) }
     ensures trace { asked_in (codes "trace p") ≡ Some (Trace (codes "p") Format.Elf 2 1048576 0 0 10000) }
@@ -47,6 +49,8 @@ pub fn commands_with_all_options()
         ≡ Some (Run (codes "guest.bin") Format.Flat SetName.A32 3 2 (record { mem = 69632; threads = 9; classes = 64; limit = 7; granule = 5 }) 9) }
     ensures pool { asked_in (codes "pool --flat --threads 3 --mem 69632 --granule 5 --classes 64 --limit 7 --workers 4 --slice 8 --budget 9 guest.bin")
         ≡ Some (Pool (codes "guest.bin") Format.Flat (record { mem = 69632; threads = 3; classes = 64; limit = 7; granule = 5 }) 4 8 9) }
+    ensures record_run { asked_in (codes "record --flat --threads 3 --mem 69632 --granule 5 --classes 64 --limit 7 --budget 9 guest.bin")
+        ≡ Some (Record (codes "guest.bin") Format.Flat (record { mem = 69632; threads = 3; classes = 64; limit = 7; granule = 5 }) 9) }
     ensures assemble { asked_in (codes "asm --flat guest.s") ≡ Some (Assemble (codes "guest.s") Format.Flat) }
     ensures disassemble { asked_in (codes "dis --flat --mem 73728 guest.bin") ≡ Some (Disassemble (codes "guest.bin") Format.Flat 73728) }
     ensures trace { asked_in (codes "trace --flat --threads 3 --mem 69632 --granule 5 --seed 12 --budget 9 guest.bin")

@@ -10,6 +10,8 @@ pub fn options_with_a_value()
         ≡ codes "threads" ∷ codes "spare" ∷ codes "mem" ∷ codes "granule" ∷ codes "classes" ∷ codes "limit" ∷ codes "budget" ∷ [] }
     ensures pool { taken (with_value (codes "1")) (codes "pool p")
         ≡ codes "threads" ∷ codes "mem" ∷ codes "granule" ∷ codes "classes" ∷ codes "limit" ∷ codes "workers" ∷ codes "slice" ∷ codes "budget" ∷ [] }
+    ensures record_run { taken (with_value (codes "1")) (codes "record p")
+        ≡ codes "threads" ∷ codes "mem" ∷ codes "granule" ∷ codes "classes" ∷ codes "limit" ∷ codes "budget" ∷ [] }
     ensures assemble { taken (with_value (codes "1")) (codes "asm p") ≡ [] }
     ensures disassemble { taken (with_value (codes "1")) (codes "dis p") ≡ codes "mem" ∷ [] }
     ensures trace { taken (with_value (codes "1")) (codes "trace p")
@@ -26,6 +28,8 @@ pub fn options_with_a_value_joined_to_them()
         ≡ codes "threads" ∷ codes "spare" ∷ codes "mem" ∷ codes "granule" ∷ codes "classes" ∷ codes "limit" ∷ codes "budget" ∷ [] }
     ensures pool { taken (joined_to (codes "1")) (codes "pool p")
         ≡ codes "threads" ∷ codes "mem" ∷ codes "granule" ∷ codes "classes" ∷ codes "limit" ∷ codes "workers" ∷ codes "slice" ∷ codes "budget" ∷ [] }
+    ensures record_run { taken (joined_to (codes "1")) (codes "record p")
+        ≡ codes "threads" ∷ codes "mem" ∷ codes "granule" ∷ codes "classes" ∷ codes "limit" ∷ codes "budget" ∷ [] }
     ensures assemble { taken (joined_to (codes "1")) (codes "asm p") ≡ [] }
     ensures disassemble { taken (joined_to (codes "1")) (codes "dis p") ≡ codes "mem" ∷ [] }
     ensures trace { taken (joined_to (codes "1")) (codes "trace p")
@@ -40,6 +44,7 @@ pub fn options_with_no_value()
     ensures solo { taken bare (codes "solo p") ≡ codes "flat" ∷ [] }
     ensures run { taken bare (codes "run p") ≡ codes "flat" ∷ codes "rv" ∷ [] }
     ensures pool { taken bare (codes "pool p") ≡ codes "flat" ∷ [] }
+    ensures record_run { taken bare (codes "record p") ≡ codes "flat" ∷ [] }
     ensures assemble { taken bare (codes "asm p") ≡ codes "flat" ∷ [] }
     ensures disassemble { taken bare (codes "dis p") ≡ codes "flat" ∷ [] }
     ensures trace { taken bare (codes "trace p") ≡ codes "flat" ∷ [] }

@@ -1,5 +1,5 @@
 //! Threads that log their accesses, each at its start.
-ghost use Rattle.std.specs.Prelude.{◌≡◌, ◌<◌, ◌≤◌, ◌+◌, ℕ, All, IfOk, [], nat_lt, vec_len, vec_capacity};
+ghost use Rattle.std.specs.Prelude.{◌≡◌, ◌<◌, ◌+◌, ℕ, All, IfOk, [], nat_lt, vec_len};
 ghost use Rattle.history.specs.Parts.{entries_of};
 ghost use Rattle.version_memory.specs.Memory.{memory_id, memory_origin, pass_home, pass_numbers, pass_seen};
 ghost use Rattle.run_merge.specs.Crews.{IsReadyToLog, IsUnused};

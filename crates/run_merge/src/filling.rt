@@ -1,15 +1,12 @@
 //! The tables of a merge, filled.
-ghost use Rattle.std.specs.Prelude.{◌≡◌, ◌≤◌, ◌<◌, ◌+◌, ◌^◌, ℕ, List, Some, None, IfOk, IfSome, length, get_or, map, slice_get, slice_index, sum_by};
+ghost use Rattle.std.specs.Prelude.{◌≡◌, ◌≤◌, ◌<◌, ◌+◌, ◌^◌, ℕ, Some, IfOk, length, get_or, slice_get, slice_index, sum_by};
 ghost use Rattle.std.specs.List.{count_by};
 ghost use Rattle.history.specs.Parts.{accesses_of};
 ghost use Rattle.version_memory.specs.Memory.{pass_seen};
 ghost use Rattle.run_merge.specs.Merging.{AreLogs, IsMerging};
 ghost use Rattle.run_merge.specs.Taking.{AreKnown};
-ghost use Rattle.run_merge.specs.Merge.{IsMerge};
-ghost use Rattle.run_merge.specs.Logs.{access_of};
-ghost use Rattle.history.specs.Accesses.{history_of};
 ghost use Rattle.run_merge.specs.Filling.{AreSmall, AreWide, IsStack, most_width};
-ghost use Rattle.run_merge.specs.Tables.{class_at, is_read_at, spot};
+ghost use Rattle.run_merge.specs.Tables.{is_read_at, spot};
 ghost use Rattle.run_merge.specs.declared.logs.Stamped.{Stamped};
 ghost use Rattle.run_merge.specs.declared.logs.Log.{Log};
 

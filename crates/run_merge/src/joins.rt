@@ -1,5 +1,5 @@
 //! Threads that log their accesses, beside each other.
-ghost use Rattle.std.specs.Prelude.{◌≡◌, ◌<◌, ◌≤◌, ◌+◌, ◌∷◌, ◌++◌, ℕ, [], All, IfNone, IfSome, MatchOption, length, vec_capacity, vec_len};
+ghost use Rattle.std.specs.Prelude.{◌≡◌, ◌<◌, ◌≤◌, ◌+◌, ◌∷◌, ◌++◌, [], All, IfNone, IfSome, MatchOption, length, vec_capacity, vec_len};
 ghost use Rattle.llsc_base.specs.Limits.{most_budget};
 ghost use Rattle.shared_memory.specs.Origin.{IsLegalFrom};
 ghost use Rattle.shared_memory.specs.Seen.{IsFront, IsOneOf, SaysAllOf, joint, longer};

@@ -4,7 +4,7 @@ ghost use Rattle.shared_memory.specs.Origin.{IsLegalFrom};
 ghost use Rattle.shared_memory.specs.Seen.{IsSingle};
 ghost use Rattle.version_memory.specs.Memory.{memory_id, memory_origin, pass_home, pass_numbers, pass_seen};
 ghost use Rattle.guest_thread.specs.Counting.{accesses_counted};
-ghost use Rattle.guest_core.specs.Ports.{IsAskIn, IsRefused, ReplyFits};
+ghost use Rattle.guest_core.specs.Ports.{IsAskIn};
 ghost use Rattle.llsc_base.specs.declared.outside.Ask.{Ask};
 ghost use Rattle.llsc_base.specs.Memory.{size_bytes};
 ghost use Rattle.guest_thread.specs.Sharing.{IsServed, IsUnserved, RefusesAt};

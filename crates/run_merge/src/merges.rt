@@ -1,5 +1,5 @@
 //! The merge of a run's logs.
-ghost use Rattle.std.specs.Prelude.{◌≡◌, ◌≤◌, ◌<◌, ◌+◌, ◌^◌, IfErr, IfNone, IfOk, IfSome, length, map, sum_by};
+ghost use Rattle.std.specs.Prelude.{◌≡◌, ◌≤◌, ◌<◌, ◌+◌, IfErr, IfNone, IfOk, IfSome, length, map, sum_by};
 ghost use Rattle.std.specs.Result.{OnOk};
 ghost use Rattle.history.specs.Accesses.{history_of};
 ghost use Rattle.history.specs.Parts.{accesses_of};

@@ -1,12 +1,10 @@
 //! The merge of logs.
-ghost use Rattle.std.specs.Prelude.{◌≡◌, ◌≤◌, ◌<◌, ◌+◌, ◌^◌, ℕ, List, IsTrue, IfOk, false, true, length, map, slice_index};
+ghost use Rattle.std.specs.Prelude.{◌≡◌, ◌≤◌, ◌<◌, ◌+◌, ◌^◌, ℕ, IsTrue, IfOk, false, true, length, map, slice_index};
 ghost use Rattle.std.specs.Result.{OnOk};
-ghost use Rattle.llsc_base.specs.Sizes.{Numbers};
 ghost use Rattle.history.specs.Accesses.{history_of};
-ghost use Rattle.history.specs.declared.entry.Entry.{Entry};
 ghost use Rattle.version_memory.specs.Memory.{pass_seen};
 ghost use Rattle.run_merge.specs.Merging.{AreLogs, IsMerging, tables_of};
-ghost use Rattle.run_merge.specs.Tables.{Tables, after_taking, class_at, is_open, spot};
+ghost use Rattle.run_merge.specs.Tables.{after_taking, class_at, is_open, spot};
 ghost use Rattle.run_merge.specs.Merge.{IsMerge};
 ghost use Rattle.run_merge.specs.Logs.{access_of};
 ghost use Rattle.run_merge.specs.Taking.{AreKnown, MayBeTaken, reads, writes};

@@ -1,5 +1,5 @@
 //! The run of a thread that logs its accesses.
-ghost use Rattle.std.specs.Prelude.{◌≡◌, ◌<◌, ◌≤◌, ℕ, [], length, true, vec_capacity};
+ghost use Rattle.std.specs.Prelude.{◌≡◌, ◌<◌, ◌≤◌, ℕ, [], length, true};
 ghost use Rattle.llsc_base.specs.Limits.{most_budget};
 ghost use Rattle.history.specs.Parts.{accesses_of, entries_of};
 ghost use Rattle.shared_memory.specs.Origin.{IsLegalFrom};

@@ -1,7 +1,6 @@
 //! `check`: whether a record is a run of its program.
 ghost use Rattle.std.specs.Prelude.{◌≡◌, None, Some, IfOk, length, string_bytes};
 ghost use Rattle.run_record.specs.Limits.{IsRecord};
-ghost use Rattle.run_record.specs.Reading.{record_of};
 ghost use Rattle.llsc_files.specs.Refusals.{most_program, too_long, IsRefusal};
 ghost use Rattle.llsc_call.specs.Check.{most_record, record_fault_text, verdict_text, AnswersCheck, IsJudged, JudgesRun};
 ghost use Rattle.llsc_call.specs.Outcome.{Gives};

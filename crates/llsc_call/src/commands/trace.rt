@@ -1,5 +1,5 @@
 //! `trace`: a run of all threads in an order that a number fixes, as a record.
-ghost use Rattle.std.specs.Prelude.{◌≡◌, ◌⊎◌, ◌≤◌, None, Some, codes, length};
+ghost use Rattle.std.specs.Prelude.{◌≡◌, ◌≤◌, None, Some, codes, length};
 ghost use Rattle.llsc_base.specs.Limits.{most_budget};
 ghost use Rattle.llsc_files.specs.Refusals.{most_program, too_long, IsRefusal};
 ghost use Rattle.llsc_call.specs.Trace.{AnswersTrace, Traces};

@@ -63,3 +63,6 @@ returns-in-Run g c = rw c.in-Run.is c.answer.ensures
 
 pub returns-in-Pool : goal.returns-in-Pool
 returns-in-Pool g c = rw c.in-Pool.is (c.answer-in-Pool).ensures
+
+pub returns-in-Record : goal.returns-in-Record
+returns-in-Record g c = rw c.in-Record.is (c.answer-in-Record).ensures
