@@ -10,6 +10,7 @@ mod pools;
 mod ports;
 mod programs;
 mod record_texts;
+mod recorded;
 mod traces;
 mod verdicts;
 
