@@ -6,6 +6,7 @@ const CALLS: &[(&str, &str)] = &[
     ("solo --flat leave", LEFT),
     ("run --flat --threads 1 leave", LEFT),
     ("pool --flat --threads 1 leave", LEFT),
+    ("record --flat --threads 1 leave", RECORD),
     ("asm --flat text", "abcd"),
     (
         "dis --flat leave",
