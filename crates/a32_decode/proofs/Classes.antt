@@ -1,17 +1,17 @@
 -- The rows of the table that a word can fit, by bits that are known of it.
-use Rattle.std.proofs.Common.{◌≡◌, ℕ, ◌^◌, ◌<◌, Bool, true, false, if◌then◌else◌, IsTrue, List, [], ◌∷◌, Result, refl, sym, ◌∙◌, arith}
+use Rattle.std.proofs.Common.{◌≡◌, ℕ, ◌^◌, ◌<◌, Bool, true, false, if◌then◌else◌, IsTrue, List, [], ◌∷◌, drop, Result, refl, sym, ◌∙◌, arith}
 use Rattle.std.specs.List.{list_all}
 use Rattle.std.proofs.lemmas.Bool.{and_parts, both_ways, eq-eqb}
 use Rattle.std.proofs.lemmas.List.Elements.{All-head}
 use Rattle.llsc_base.specs.Bits.{bits_of}
 use Rattle.a32_instr.specs.Fields.{always, never}
-use Rattle.a32_instr.specs.Table.{Row, AreApart, fits, outcome, meaning, table, alu_imm, alu_by_num, alu_by_reg, half_imm, half_reg, movw, movt, nop, yields, mul, mla, mls, long, clz, extend, rev, word_imm, word_reg, block, branch, branch_reg, svc, load_ex, store_ex, clrex, barrier}
+use Rattle.a32_instr.specs.Table.{Row, AreApart, fits, outcome, meaning, table, clrex, barrier}
 use Rattle.a32_instr.specs.declared.instructions.Instr.{Instr}
 use Rattle.a32_instr.specs.declared.instructions.Instr.TheVariants.{Clrex}
 use Rattle.llsc_base.specs.declared.decoding.DecodeFault.{DecodeFault}
 use Rattle.a32_instr.proofs.Apart.{rows_clash, clash_is_apart, is_conditional, unconditional_apart, fixed_unconditional}
-use Rattle.a32_decode.specs.Rows.{Fits, NoneFits}
-use Rattle.a32_decode.proofs.Rows.{FollowsRows, chosen}
+use Rattle.a32_decode.specs.Rows.{Fits, NoneFits, FollowsRows, Decides}
+use Rattle.a32_decode.proofs.Rows.{chosen}
 
 -- the words that have a value in some of their bits, as a row that asks for nothing else
 abbrev pub having : ℕ → ℕ → ℕ → Row
@@ -75,11 +75,15 @@ pub none_of_kept : (rows : List Row) (words : Row) (word : ℕ) → NoneFits row
 none_of_kept [] words word = λ none. none
 none_of_kept (row ∷ rows) words word = none_passed (rows_clash words row) row rows (kept words rows) word (none_of_kept rows words word)
 
+-- what decides the rows that a word can fit decides them all
+pub decides_by_kept : (rows : List Row) (word low width value : ℕ) (answer : Result Instr DecodeFault) → word < 2 ^ 32 → bits_of word low width ≡ value
+    → Decides (kept (having low width value) rows) word answer → Decides rows word answer
+decides_by_kept rows word low width value answer small same decides =
+    (follows_by_kept rows word low width value answer small same decides.0, λ unfit. decides.1 (none_of_kept rows (having low width value) word unfit))
+
 -- the rows with a condition
 abbrev pub conditional : List Row
-conditional =
-    alu_imm ∷ alu_by_num ∷ alu_by_reg ∷ half_imm ∷ half_reg ∷ movw ∷ movt ∷ nop ∷ yields ∷ mul ∷ mla ∷ mls ∷ long
-    ∷ clz ∷ extend ∷ rev ∷ word_imm ∷ word_reg ∷ block ∷ branch ∷ branch_reg ∷ svc ∷ load_ex ∷ store_ex ∷ []
+conditional = drop 2 table
 
 -- of a word with a condition the table says what the rows with one say
 pub means_by_conditional : (word : ℕ) → bits_of word 28 4 < 15 → meaning table word ≡ meaning conditional word

@@ -4,12 +4,7 @@ use Rattle.a32_instr.specs.Table.{Row, fits, outcome, meaning}
 use Rattle.a32_instr.specs.declared.instructions.Instr.{Instr}
 use Rattle.llsc_base.specs.declared.decoding.DecodeFault.{DecodeFault}
 use Rattle.llsc_base.specs.declared.decoding.DecodeFault.TheVariants.{Undefined}
-use Rattle.a32_decode.specs.Rows.{Fits, Means, NoneFits}
-
--- the answer is what each row that the word fits says
-abbrev pub FollowsRows : List Row → ℕ → Result Instr DecodeFault → Type 0
-FollowsRows [] word answer = Unit {0}
-FollowsRows (row ∷ rows) word answer = (Fits row word → Means row word answer) × FollowsRows rows word answer
+use Rattle.a32_decode.specs.Rows.{Fits, Means, NoneFits, FollowsRows, Decides}
 
 -- a choice between two answers, by the test that decides it
 pub chosen : (test : Bool) (answer here there : Result Instr DecodeFault)
@@ -25,3 +20,7 @@ meaning_by [] word answer follows none = none tt
 meaning_by (row ∷ rows) word answer follows none =
     chosen (fits row word) answer (outcome row word) (meaning rows word) follows.0
     (λ fails. meaning_by rows word answer follows.1 (λ others. none (fails, others)))
+
+-- an answer that is decided by rows is what they say
+pub decided : (rows : List Row) (word : ℕ) (answer : Result Instr DecodeFault) → Decides rows word answer → answer ≡ meaning rows word
+decided rows word answer decides = meaning_by rows word answer decides.0 decides.1

@@ -3,7 +3,7 @@ ghost use Rattle.std.specs.Prelude.{◌≡◌, ◌<◌, ◌^◌, ◌/◌, ◌%�
 ghost use Rattle.llsc_base.specs.Bits.{bits_of};
 ghost use Rattle.a32_instr.specs.Fields.{block_unpredictable};
 ghost use Rattle.a32_instr.specs.Table.{block};
-ghost use Rattle.a32_decode.specs.Rows.{Fits, Means, NoneFits};
+ghost use Rattle.a32_decode.specs.Rows.{Decides};
 
 use crate::bits::{bit, bits, condition, register};
 use a32_instr::{Instr, Reg};
@@ -15,8 +15,7 @@ use llsc_base::DecodeFault;
 pub fn block(word: u32) -> Result<Instr, DecodeFault>
     requires group { bits_of word 25 3 ≡ 4 }
     requires cond { bits_of word 28 4 < 15 }
-    ensures block { Fits block word → Means block word result }
-    ensures none { NoneFits (block ∷ []) word → result ≡ Err DecodeFault.Undefined }
+    ensures { Decides (block ∷ []) word result }
 {
     if bit(word, 22) {
         return Err(DecodeFault::Undefined);

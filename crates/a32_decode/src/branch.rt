@@ -3,7 +3,7 @@ ghost use Rattle.std.specs.Prelude.{◌≡◌, ◌<◌, ◌^◌, ◌∷◌, []};
 ghost use Rattle.llsc_base.specs.Bits.{bits_of};
 ghost use Rattle.a32_instr.specs.Fields.{signed24};
 ghost use Rattle.a32_instr.specs.Table.{branch, branch_reg, svc};
-ghost use Rattle.a32_decode.specs.Rows.{Fits, Means, NoneFits};
+ghost use Rattle.a32_decode.specs.Rows.{Decides};
 
 use crate::bits::{bit, bits, condition, register};
 use a32_instr::Instr;
@@ -14,8 +14,7 @@ use llsc_base::DecodeFault;
 pub fn immediate(word: u32) -> Result<Instr, DecodeFault>
     requires group { bits_of word 25 3 ≡ 5 }
     requires cond { bits_of word 28 4 < 15 }
-    ensures branch { Fits branch word → Means branch word result }
-    ensures none { NoneFits (branch ∷ []) word → result ≡ Err DecodeFault.Undefined }
+    ensures { Decides (branch ∷ []) word result }
 {
     Ok(Instr::Branch {
         cond: condition(word),
@@ -29,8 +28,7 @@ pub fn immediate(word: u32) -> Result<Instr, DecodeFault>
 pub fn by_register(word: u32) -> Result<Instr, DecodeFault>
     requires group { bits_of word 20 8 ≡ 0x12 }
     requires cond { bits_of word 28 4 < 15 }
-    ensures branch_reg { Fits branch_reg word → Means branch_reg word result }
-    ensures none { NoneFits (branch_reg ∷ []) word → result ≡ Err DecodeFault.Undefined }
+    ensures { Decides (branch_reg ∷ []) word result }
 {
     if bits(word, 8, 12) != 0xfff || bits(word, 6, 2) != 0 || bits(word, 4, 1) != 1 {
         return Err(DecodeFault::Undefined);
@@ -52,8 +50,7 @@ pub fn by_register(word: u32) -> Result<Instr, DecodeFault>
 pub fn supervisor_call(word: u32) -> Result<Instr, DecodeFault>
     requires group { bits_of word 25 3 ≡ 7 }
     requires cond { bits_of word 28 4 < 15 }
-    ensures svc { Fits svc word → Means svc word result }
-    ensures none { NoneFits (svc ∷ []) word → result ≡ Err DecodeFault.Undefined }
+    ensures { Decides (svc ∷ []) word result }
 {
     if !bit(word, 24) {
         return Err(DecodeFault::Undefined);

@@ -3,7 +3,7 @@ ghost use Rattle.std.specs.Prelude.{◌≡◌, ◌<◌, ◌==◌, ◌&&◌, ◌�
 ghost use Rattle.llsc_base.specs.Bits.{bits_of};
 ghost use Rattle.a32_instr.specs.Fields.{alu_fits, alu_op, alu_unpredictable, shift_kind};
 ghost use Rattle.a32_instr.specs.Table.{alu_imm, alu_by_num, alu_by_reg, half_imm, half_reg, movw, movt, nop, yields, mul, mla, mls, long, clz, branch_reg, load_ex, store_ex};
-ghost use Rattle.a32_decode.specs.Rows.{Fits, Means, NoneFits};
+ghost use Rattle.a32_decode.specs.Rows.{Decides, rows_of_registers};
 
 use crate::bits::{bit, bits, condition, register};
 use crate::pc::{one_of_2_is_pc, one_of_4_is_pc};
@@ -17,19 +17,7 @@ use llsc_base::DecodeFault;
 pub fn with_registers(word: u32) -> Result<Instr, DecodeFault>
     requires group { bits_of word 25 3 ≡ 0 }
     requires cond { bits_of word 28 4 < 15 }
-    ensures alu_by_num { Fits alu_by_num word → Means alu_by_num word result }
-    ensures alu_by_reg { Fits alu_by_reg word → Means alu_by_reg word result }
-    ensures half_imm { Fits half_imm word → Means half_imm word result }
-    ensures half_reg { Fits half_reg word → Means half_reg word result }
-    ensures mul { Fits mul word → Means mul word result }
-    ensures mla { Fits mla word → Means mla word result }
-    ensures mls { Fits mls word → Means mls word result }
-    ensures long { Fits long word → Means long word result }
-    ensures clz { Fits clz word → Means clz word result }
-    ensures branch_reg { Fits branch_reg word → Means branch_reg word result }
-    ensures load_ex { Fits load_ex word → Means load_ex word result }
-    ensures store_ex { Fits store_ex word → Means store_ex word result }
-    ensures none { NoneFits (alu_by_num ∷ alu_by_reg ∷ half_imm ∷ half_reg ∷ mul ∷ mla ∷ mls ∷ long ∷ clz ∷ branch_reg ∷ load_ex ∷ store_ex ∷ []) word → result ≡ Err DecodeFault.Undefined }
+    ensures { Decides rows_of_registers word result }
 {
     if !bit(word, 4) {
         return shifted_by_number(word);
@@ -52,12 +40,7 @@ pub fn with_registers(word: u32) -> Result<Instr, DecodeFault>
 pub fn with_immediate(word: u32) -> Result<Instr, DecodeFault>
     requires group { bits_of word 25 3 ≡ 1 }
     requires cond { bits_of word 28 4 < 15 }
-    ensures alu_imm { Fits alu_imm word → Means alu_imm word result }
-    ensures movw { Fits movw word → Means movw word result }
-    ensures movt { Fits movt word → Means movt word result }
-    ensures nop { Fits nop word → Means nop word result }
-    ensures yields { Fits yields word → Means yields word result }
-    ensures none { NoneFits (alu_imm ∷ movw ∷ movt ∷ nop ∷ yields ∷ []) word → result ≡ Err DecodeFault.Undefined }
+    ensures { Decides (alu_imm ∷ movw ∷ movt ∷ nop ∷ yields ∷ []) word result }
 {
     if is_silent_compare(word) {
         return wide_move_or_hint(word);
@@ -70,8 +53,7 @@ pub fn with_immediate(word: u32) -> Result<Instr, DecodeFault>
 fn immediate(word: u32) -> Result<Instr, DecodeFault>
     requires group { bits_of word 25 3 ≡ 1 }
     requires cond { bits_of word 28 4 < 15 }
-    ensures alu_imm { Fits alu_imm word → Means alu_imm word result }
-    ensures none { NoneFits (alu_imm ∷ []) word → result ≡ Err DecodeFault.Undefined }
+    ensures { Decides (alu_imm ∷ []) word result }
 {
     if !is_form(word) {
         return Err(DecodeFault::Undefined);
@@ -92,8 +74,7 @@ fn shifted_by_number(word: u32) -> Result<Instr, DecodeFault>
     requires group { bits_of word 25 3 ≡ 0 }
     requires by_number { bits_of word 4 1 ≡ 0 }
     requires cond { bits_of word 28 4 < 15 }
-    ensures alu_by_num { Fits alu_by_num word → Means alu_by_num word result }
-    ensures none { NoneFits (alu_by_num ∷ []) word → result ≡ Err DecodeFault.Undefined }
+    ensures { Decides (alu_by_num ∷ []) word result }
 {
     if !is_form(word) {
         return Err(DecodeFault::Undefined);
@@ -117,10 +98,7 @@ fn shifted_by_register(word: u32) -> Result<Instr, DecodeFault>
     requires by_register { bits_of word 4 1 ≡ 1 }
     requires no_product { bits_of word 7 1 ≡ 0 }
     requires cond { bits_of word 28 4 < 15 }
-    ensures alu_by_reg { Fits alu_by_reg word → Means alu_by_reg word result }
-    ensures clz { Fits clz word → Means clz word result }
-    ensures branch_reg { Fits branch_reg word → Means branch_reg word result }
-    ensures none { NoneFits (alu_by_reg ∷ clz ∷ branch_reg ∷ []) word → result ≡ Err DecodeFault.Undefined }
+    ensures { Decides (alu_by_reg ∷ clz ∷ branch_reg ∷ []) word result }
 {
     if is_silent_compare(word) {
         return miscellaneous(word);
@@ -148,11 +126,7 @@ fn wide_move_or_hint(word: u32) -> Result<Instr, DecodeFault>
     requires compare { bits_of word 23 2 ≡ 2 }
     requires silent { bits_of word 20 1 ≡ 0 }
     requires cond { bits_of word 28 4 < 15 }
-    ensures movw { Fits movw word → Means movw word result }
-    ensures movt { Fits movt word → Means movt word result }
-    ensures nop { Fits nop word → Means nop word result }
-    ensures yields { Fits yields word → Means yields word result }
-    ensures none { NoneFits (movw ∷ movt ∷ nop ∷ yields ∷ []) word → result ≡ Err DecodeFault.Undefined }
+    ensures { Decides (movw ∷ movt ∷ nop ∷ yields ∷ []) word result }
 {
     if bit(word, 21) {
         return hint(word);
@@ -176,9 +150,7 @@ fn hint(word: u32) -> Result<Instr, DecodeFault>
     requires compare { bits_of word 23 2 ≡ 2 }
     requires silent { bits_of word 20 2 ≡ 2 }
     requires cond { bits_of word 28 4 < 15 }
-    ensures nop { Fits nop word → Means nop word result }
-    ensures yields { Fits yields word → Means yields word result }
-    ensures none { NoneFits (nop ∷ yields ∷ []) word → result ≡ Err DecodeFault.Undefined }
+    ensures { Decides (nop ∷ yields ∷ []) word result }
 {
     let cond = condition(word);
     match bits(word, 0, 23) {
@@ -195,9 +167,7 @@ fn miscellaneous(word: u32) -> Result<Instr, DecodeFault>
     requires compare { bits_of word 23 2 ≡ 2 }
     requires silent { bits_of word 20 1 ≡ 0 }
     requires cond { bits_of word 28 4 < 15 }
-    ensures clz { Fits clz word → Means clz word result }
-    ensures branch_reg { Fits branch_reg word → Means branch_reg word result }
-    ensures none { NoneFits (clz ∷ branch_reg ∷ []) word → result ≡ Err DecodeFault.Undefined }
+    ensures { Decides (clz ∷ branch_reg ∷ []) word result }
 {
     if bits(word, 21, 2) == 1 {
         return branch::by_register(word);
@@ -211,8 +181,7 @@ fn leading_zeros(word: u32) -> Result<Instr, DecodeFault>
     requires group { bits_of word 25 3 ≡ 0 }
     requires compare { bits_of word 23 2 ≡ 2 }
     requires cond { bits_of word 28 4 < 15 }
-    ensures clz { Fits clz word → Means clz word result }
-    ensures none { NoneFits (clz ∷ []) word → result ≡ Err DecodeFault.Undefined }
+    ensures { Decides (clz ∷ []) word result }
 {
     if bits(word, 16, 7) != 0x6f || bits(word, 4, 8) != 0xf1 {
         return Err(DecodeFault::Undefined);

@@ -1,7 +1,7 @@
 ghost use Rattle.std.specs.Prelude.{◌≡◌, ◌<◌, ◌∷◌, []};
 ghost use Rattle.llsc_base.specs.Bits.{bits_of};
 ghost use Rattle.a32_instr.specs.Table.{extend, rev, word_reg, meaning, table};
-ghost use Rattle.a32_decode.specs.Rows.{Fits, Means, NoneFits};
+ghost use Rattle.a32_decode.specs.Rows.{Decides};
 
 use crate::bits::{bit, bits};
 use crate::{block, branch, data_processing, load_store, media, synchronization};
@@ -40,10 +40,7 @@ pub fn decode(word: u32) -> Result<Instr, DecodeFault>
 fn by_register_or_media(word: u32) -> Result<Instr, DecodeFault>
     requires group { bits_of word 25 3 ≡ 3 }
     requires cond { bits_of word 28 4 < 15 }
-    ensures extend { Fits extend word → Means extend word result }
-    ensures rev { Fits rev word → Means rev word result }
-    ensures word_reg { Fits word_reg word → Means word_reg word result }
-    ensures none { NoneFits (extend ∷ rev ∷ word_reg ∷ []) word → result ≡ Err DecodeFault.Undefined }
+    ensures { Decides (extend ∷ rev ∷ word_reg ∷ []) word result }
 {
     if !bit(word, 4) {
         return load_store::by_register(word);

@@ -3,7 +3,7 @@ ghost use Rattle.std.specs.Prelude.{◌≡◌, ◌<◌, ◌∷◌, ◌&&◌, []}
 ghost use Rattle.llsc_base.specs.Bits.{bits_of};
 ghost use Rattle.a32_instr.specs.Fields.{index_fits, index_of, half_fits, half_kind, half_unpredictable};
 ghost use Rattle.a32_instr.specs.Table.{half_imm, half_reg};
-ghost use Rattle.a32_decode.specs.Rows.{Fits, Means, NoneFits};
+ghost use Rattle.a32_decode.specs.Rows.{Decides};
 
 use crate::bits::{bit, bits, condition, register};
 use crate::load_store::{index, is_index};
@@ -18,9 +18,7 @@ pub fn half(word: u32) -> Result<Instr, DecodeFault>
     requires extra { bits_of word 7 1 ≡ 1 }
     requires no_number { bits_of word 4 1 ≡ 1 }
     requires cond { bits_of word 28 4 < 15 }
-    ensures half_imm { Fits half_imm word → Means half_imm word result }
-    ensures half_reg { Fits half_reg word → Means half_reg word result }
-    ensures none { NoneFits (half_imm ∷ half_reg ∷ []) word → result ≡ Err DecodeFault.Undefined }
+    ensures { Decides (half_imm ∷ half_reg ∷ []) word result }
 {
     if bit(word, 22) {
         return immediate(word);
@@ -36,8 +34,7 @@ fn immediate(word: u32) -> Result<Instr, DecodeFault>
     requires extra { bits_of word 7 1 ≡ 1 }
     requires no_number { bits_of word 4 1 ≡ 1 }
     requires cond { bits_of word 28 4 < 15 }
-    ensures half_imm { Fits half_imm word → Means half_imm word result }
-    ensures none { NoneFits (half_imm ∷ []) word → result ≡ Err DecodeFault.Undefined }
+    ensures { Decides (half_imm ∷ []) word result }
 {
     if !is_form(word) {
         return Err(DecodeFault::Undefined);
@@ -60,8 +57,7 @@ fn by_register(word: u32) -> Result<Instr, DecodeFault>
     requires extra { bits_of word 7 1 ≡ 1 }
     requires no_number { bits_of word 4 1 ≡ 1 }
     requires cond { bits_of word 28 4 < 15 }
-    ensures half_reg { Fits half_reg word → Means half_reg word result }
-    ensures none { NoneFits (half_reg ∷ []) word → result ≡ Err DecodeFault.Undefined }
+    ensures { Decides (half_reg ∷ []) word result }
 {
     if bits(word, 8, 4) != 0 {
         return Err(DecodeFault::Undefined);

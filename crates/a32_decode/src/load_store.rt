@@ -3,7 +3,7 @@ ghost use Rattle.std.specs.Prelude.{◌≡◌, ◌<◌, ◌∷◌, ◌==◌, []}
 ghost use Rattle.llsc_base.specs.Bits.{bits_of};
 ghost use Rattle.a32_instr.specs.Fields.{index_fits, index_of, word_unpredictable};
 ghost use Rattle.a32_instr.specs.Table.{word_imm, word_reg};
-ghost use Rattle.a32_decode.specs.Rows.{Fits, Means, NoneFits};
+ghost use Rattle.a32_decode.specs.Rows.{Decides};
 
 use crate::bits::{bit, bits, condition, register};
 use crate::data_processing::kind_of_shift;
@@ -15,8 +15,7 @@ use llsc_base::DecodeFault;
 pub fn immediate(word: u32) -> Result<Instr, DecodeFault>
     requires group { bits_of word 25 3 ≡ 2 }
     requires cond { bits_of word 28 4 < 15 }
-    ensures word_imm { Fits word_imm word → Means word_imm word result }
-    ensures none { NoneFits (word_imm ∷ []) word → result ≡ Err DecodeFault.Undefined }
+    ensures { Decides (word_imm ∷ []) word result }
 {
     if !is_index(bits(word, 24, 1), bits(word, 21, 1)) {
         return Err(DecodeFault::Undefined);
@@ -37,8 +36,7 @@ pub fn by_register(word: u32) -> Result<Instr, DecodeFault>
     requires group { bits_of word 25 3 ≡ 3 }
     requires by_number { bits_of word 4 1 ≡ 0 }
     requires cond { bits_of word 28 4 < 15 }
-    ensures word_reg { Fits word_reg word → Means word_reg word result }
-    ensures none { NoneFits (word_reg ∷ []) word → result ≡ Err DecodeFault.Undefined }
+    ensures { Decides (word_reg ∷ []) word result }
 {
     if !is_index(bits(word, 24, 1), bits(word, 21, 1)) {
         return Err(DecodeFault::Undefined);

@@ -2,7 +2,7 @@
 ghost use Rattle.std.specs.Prelude.{◌≡◌, ◌<◌, ◌∷◌, []};
 ghost use Rattle.llsc_base.specs.Bits.{bits_of};
 ghost use Rattle.a32_instr.specs.Table.{extend, rev};
-ghost use Rattle.a32_decode.specs.Rows.{Fits, Means, NoneFits};
+ghost use Rattle.a32_decode.specs.Rows.{Decides};
 
 use crate::bits::{bit, bits, condition, register};
 use crate::pc::one_of_2_is_pc;
@@ -15,9 +15,7 @@ pub fn media(word: u32) -> Result<Instr, DecodeFault>
     requires group { bits_of word 25 3 ≡ 3 }
     requires media { bits_of word 4 1 ≡ 1 }
     requires cond { bits_of word 28 4 < 15 }
-    ensures extend { Fits extend word → Means extend word result }
-    ensures rev { Fits rev word → Means rev word result }
-    ensures none { NoneFits (extend ∷ rev ∷ []) word → result ≡ Err DecodeFault.Undefined }
+    ensures { Decides (extend ∷ rev ∷ []) word result }
 {
     if bits(word, 4, 4) == 7 {
         return extended(word);
@@ -31,8 +29,7 @@ fn extended(word: u32) -> Result<Instr, DecodeFault>
     requires group { bits_of word 25 3 ≡ 3 }
     requires extends { bits_of word 4 4 ≡ 7 }
     requires cond { bits_of word 28 4 < 15 }
-    ensures extend { Fits extend word → Means extend word result }
-    ensures none { NoneFits (extend ∷ []) word → result ≡ Err DecodeFault.Undefined }
+    ensures { Decides (extend ∷ []) word result }
 {
     if bits(word, 23, 2) != 1 || !bit(word, 21) {
         return Err(DecodeFault::Undefined);
@@ -60,8 +57,7 @@ fn extended(word: u32) -> Result<Instr, DecodeFault>
 fn reversed(word: u32) -> Result<Instr, DecodeFault>
     requires group { bits_of word 25 3 ≡ 3 }
     requires cond { bits_of word 28 4 < 15 }
-    ensures rev { Fits rev word → Means rev word result }
-    ensures none { NoneFits (rev ∷ []) word → result ≡ Err DecodeFault.Undefined }
+    ensures { Decides (rev ∷ []) word result }
 {
     if bits(word, 16, 9) != 0xbf || bits(word, 4, 8) != 0xf3 {
         return Err(DecodeFault::Undefined);

@@ -3,7 +3,7 @@ ghost use Rattle.std.specs.Prelude.{◌≡◌, ◌<◌, ◌∷◌, []};
 ghost use Rattle.llsc_base.specs.Bits.{bits_of};
 ghost use Rattle.a32_instr.specs.Fields.{long_kind};
 ghost use Rattle.a32_instr.specs.Table.{mul, mla, mls, long};
-ghost use Rattle.a32_decode.specs.Rows.{Fits, Means, NoneFits};
+ghost use Rattle.a32_decode.specs.Rows.{Decides};
 
 use crate::bits::{bit, bits, condition, register};
 use crate::pc::{one_of_3_is_pc, one_of_4_is_pc};
@@ -16,11 +16,7 @@ pub fn multiplication(word: u32) -> Result<Instr, DecodeFault>
     requires group { bits_of word 24 4 ≡ 0 }
     requires product { bits_of word 4 4 ≡ 9 }
     requires cond { bits_of word 28 4 < 15 }
-    ensures mul { Fits mul word → Means mul word result }
-    ensures mla { Fits mla word → Means mla word result }
-    ensures mls { Fits mls word → Means mls word result }
-    ensures long { Fits long word → Means long word result }
-    ensures none { NoneFits (mul ∷ mla ∷ mls ∷ long ∷ []) word → result ≡ Err DecodeFault.Undefined }
+    ensures { Decides (mul ∷ mla ∷ mls ∷ long ∷ []) word result }
 {
     if bit(word, 23) {
         return product_of_64(word);
@@ -40,8 +36,7 @@ fn product(word: u32) -> Result<Instr, DecodeFault>
     requires group { bits_of word 21 7 ≡ 0 }
     requires product { bits_of word 4 4 ≡ 9 }
     requires cond { bits_of word 28 4 < 15 }
-    ensures mul { Fits mul word → Means mul word result }
-    ensures none { NoneFits (mul ∷ []) word → result ≡ Err DecodeFault.Undefined }
+    ensures { Decides (mul ∷ []) word result }
 {
     if bits(word, 12, 4) != 0 {
         return Err(DecodeFault::Undefined);
@@ -67,8 +62,7 @@ fn product_added(word: u32) -> Result<Instr, DecodeFault>
     requires group { bits_of word 21 7 ≡ 1 }
     requires product { bits_of word 4 4 ≡ 9 }
     requires cond { bits_of word 28 4 < 15 }
-    ensures mla { Fits mla word → Means mla word result }
-    ensures none { NoneFits (mla ∷ []) word → result ≡ Err DecodeFault.Undefined }
+    ensures { Decides (mla ∷ []) word result }
 {
     let rd = register(word, 16);
     let rn = register(word, 0);
@@ -93,8 +87,7 @@ fn product_subtracted(word: u32) -> Result<Instr, DecodeFault>
     requires group { bits_of word 22 6 ≡ 1 }
     requires product { bits_of word 4 4 ≡ 9 }
     requires cond { bits_of word 28 4 < 15 }
-    ensures mls { Fits mls word → Means mls word result }
-    ensures none { NoneFits (mls ∷ []) word → result ≡ Err DecodeFault.Undefined }
+    ensures { Decides (mls ∷ []) word result }
 {
     if bits(word, 20, 2) != 2 {
         return Err(DecodeFault::Undefined);
@@ -121,8 +114,7 @@ fn product_of_64(word: u32) -> Result<Instr, DecodeFault>
     requires group { bits_of word 23 5 ≡ 1 }
     requires product { bits_of word 4 4 ≡ 9 }
     requires cond { bits_of word 28 4 < 15 }
-    ensures long { Fits long word → Means long word result }
-    ensures none { NoneFits (long ∷ []) word → result ≡ Err DecodeFault.Undefined }
+    ensures { Decides (long ∷ []) word result }
 {
     let hi = register(word, 16);
     let lo = register(word, 12);

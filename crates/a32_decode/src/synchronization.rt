@@ -3,7 +3,7 @@ ghost use Rattle.std.specs.Prelude.{◌≡◌, ◌<◌, ◌∷◌, []};
 ghost use Rattle.llsc_base.specs.Bits.{bits_of};
 ghost use Rattle.a32_instr.specs.Fields.{barrier_kind, exclusive_size, no_pair, status_clashes};
 ghost use Rattle.a32_instr.specs.Table.{load_ex, store_ex, clrex, barrier};
-ghost use Rattle.a32_decode.specs.Rows.{Fits, Means, NoneFits};
+ghost use Rattle.a32_decode.specs.Rows.{Decides};
 
 use crate::bits::{bit, bits, condition, register};
 use crate::pc::{one_of_2_is_pc, one_of_3_is_pc};
@@ -16,9 +16,7 @@ pub fn exclusive(word: u32) -> Result<Instr, DecodeFault>
     requires group { bits_of word 24 4 ≡ 1 }
     requires exclusive { bits_of word 4 4 ≡ 9 }
     requires cond { bits_of word 28 4 < 15 }
-    ensures load_ex { Fits load_ex word → Means load_ex word result }
-    ensures store_ex { Fits store_ex word → Means store_ex word result }
-    ensures none { NoneFits (load_ex ∷ store_ex ∷ []) word → result ≡ Err DecodeFault.Undefined }
+    ensures { Decides (load_ex ∷ store_ex ∷ []) word result }
 {
     if bits(word, 8, 4) != 15 || !bit(word, 23) {
         return Err(DecodeFault::Undefined);
@@ -36,8 +34,7 @@ fn load(word: u32) -> Result<Instr, DecodeFault>
     requires load { bits_of word 20 1 ≡ 1 }
     requires exclusive { bits_of word 4 8 ≡ 0xf9 }
     requires cond { bits_of word 28 4 < 15 }
-    ensures load_ex { Fits load_ex word → Means load_ex word result }
-    ensures none { NoneFits (load_ex ∷ []) word → result ≡ Err DecodeFault.Undefined }
+    ensures { Decides (load_ex ∷ []) word result }
 {
     if bits(word, 0, 4) != 15 {
         return Err(DecodeFault::Undefined);
@@ -63,8 +60,7 @@ fn store(word: u32) -> Result<Instr, DecodeFault>
     requires store { bits_of word 20 1 ≡ 0 }
     requires exclusive { bits_of word 4 8 ≡ 0xf9 }
     requires cond { bits_of word 28 4 < 15 }
-    ensures store_ex { Fits store_ex word → Means store_ex word result }
-    ensures none { NoneFits (store_ex ∷ []) word → result ≡ Err DecodeFault.Undefined }
+    ensures { Decides (store_ex ∷ []) word result }
 {
     let size = bits(word, 21, 2);
     let rn = register(word, 16);
@@ -86,9 +82,7 @@ fn store(word: u32) -> Result<Instr, DecodeFault>
 #[inline]
 pub fn unconditional(word: u32) -> Result<Instr, DecodeFault>
     requires { bits_of word 28 4 ≡ 15 }
-    ensures clrex { Fits clrex word → Means clrex word result }
-    ensures barrier { Fits barrier word → Means barrier word result }
-    ensures none { NoneFits (clrex ∷ barrier ∷ []) word → result ≡ Err DecodeFault.Undefined }
+    ensures { Decides (clrex ∷ barrier ∷ []) word result }
 {
     if bits(word, 8, 20) != 0x57ff0 {
         return Err(DecodeFault::Undefined);
@@ -108,8 +102,7 @@ fn memory_barrier(word: u32) -> Result<Instr, DecodeFault>
     requires space { bits_of word 28 4 ≡ 15 }
     requires group { bits_of word 8 20 ≡ 0x57ff0 }
     requires barrier { bits_of word 6 2 ≡ 1 }
-    ensures barrier { Fits barrier word → Means barrier word result }
-    ensures none { NoneFits (barrier ∷ []) word → result ≡ Err DecodeFault.Undefined }
+    ensures { Decides (barrier ∷ []) word result }
 {
     let kind = bits(word, 4, 2);
     if kind == 3 {
