@@ -9,7 +9,8 @@ ghost use Rattle.slice_pool.specs.Over.{HasTurned, IsGoneFrom, IsUpto};
 use crate::queue::{Line, Puts, Seat, Waiting};
 use a32_step::Conditional;
 use guest_core::Code;
-use guest_thread::{Finished, GuestEnd, Paused, go_on};
+use guest_family::go_on;
+use guest_thread::{Finished, GuestEnd, Paused};
 use shared_memory::SharedMemory;
 use std::sync::Wait;
 
