@@ -7,6 +7,7 @@ use Rattle.llsc_base.specs.Images.{Program}
 use Rattle.llsc_base.specs.Sizes.{Numbers}
 use Rattle.history.specs.Accesses.{entry_of, history_of}
 use Rattle.history.specs.Entry.{is_access, thread_of}
+use Rattle.history.specs.Legal.{IsLegal}
 use Rattle.history.specs.Monitor.{at_rest_by}
 use Rattle.history.specs.declared.entry.Access.{Access}
 use Rattle.history.specs.declared.entry.Entry.{Entry}
@@ -18,7 +19,7 @@ use Rattle.a32_step.specs.Machine.{Machine, a32}
 use Rattle.guest_calls.specs.Pairs.{pair_of, pairs_in, pairs_of}
 use Rattle.guest_calls.specs.Run.{Pair, by_itself, by_limit, EndsOn, Ends}
 use Rattle.guest_thread.specs.Ended.{HasEnded}
-use Rattle.guest_thread.specs.Outcome.{IsOutcome}
+use Rattle.guest_thread.specs.Outcome.{AreEndsOn}
 use Rattle.guest_thread.specs.Start.{thread_start}
 use Rattle.guest_thread.specs.declared.ends.GuestEnd.{GuestEnd}
 use Rattle.run_checker.specs.Verdict.{Judges}
@@ -75,12 +76,12 @@ alone program budget start _ _ _ _ never (by_itself pairs stop steps output ends
 alone program budget start _ _ _ _ never (by_limit pairs machine steps output place value reached less asks) = absurd (never place.addr refl)
 
 pub merge_good : (program : Program) (size : Numbers) (budget : ℕ) (history : List Entry) (ends : List GuestEnd) (merged : List Access)
-    → IsOutcome a32 program size budget history ends
+    → IsLegal size program.bytes history → AreEndsOn a32 program size budget history ends
     → ((t addr : ℕ) (end : GuestEnd) → slice_get ends t ≡ Some end → end.stop ≢ TagLimit addr)
     → IsMerge size history merged → Judges a32 program size budget merged verdict.Good
-merge_good program size budget history ends merged outcome never merge =
+merge_good program size budget history ends merged legal all never merge =
     legal_good a32 program size budget merged
-    (merge_legal size program.bytes history (history_of merged) merge (IsArmLegal-from_accesses_of (at_rest_by size.granule program.bytes size.threads) history outcome.legal.accesses))
+    (merge_legal size program.bytes history (history_of merged) merge (IsArmLegal-from_accesses_of (at_rest_by size.granule program.bytes size.threads) history legal.accesses))
     (λ t known. ended t known)
   where
     ended : (t : ℕ) → t < size.threads → HasEnded a32 program size budget merged t
@@ -89,14 +90,14 @@ merge_good program size budget history ends merged outcome never merge =
         end_at : (t : ℕ) → t < size.threads → (end : GuestEnd) × (slice_get ends t ≡ Some end)
         end_at t known = elim (slice_get_cases ends t).1 [
           | inl here ↦ (here.0, here.2)
-          | inr past ↦ absurd (let many : length ends ≡ size.threads = outcome.ends.many in omega (arith, past.0, known, many))
+          | inr past ↦ absurd (let many : length ends ≡ size.threads = all.many in omega (arith, past.0, known, many))
         ]
 
         by : ((end : GuestEnd) × (slice_get ends t ≡ Some end)) → HasEnded a32 program size budget merged t
         by found =
             let end = found.0 in
-            let each = outcome.ends.each t end found.1 in
-            let number : end.thread ≡ t = outcome.ends.numbers t end found.1 in
+            let each = all.each t end found.1 in
+            let number : end.thread ≡ t = all.numbers t end found.1 in
             let pairs : pairs_of end.thread history ≡ pairs_in t merged =
             ap (λ n. pairs_of n history) number ∙ pairs_are size t history ∙ ap (map pair_in) (sym (merge t)) ∙ sym (pairs_are size t (history_of merged)) in
             record {

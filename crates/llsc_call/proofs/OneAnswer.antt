@@ -1,5 +1,5 @@
 -- A request has one answer for the bytes of its files.
-use Rattle.std.proofs.Common.{◌≡◌, ◌⊎◌, ℕ, inl, inr, false, arith, List, [], ◌∷◌, Option, Some, None, Result, Ok, Err, sym, ◌∙◌, ap, subst}
+use Rattle.std.proofs.Common.{◌≡◌, ◌⊎◌, ℕ, inl, inr, Bool, true, false, if◌then◌else◌, arith, List, [], ◌∷◌, Option, Some, None, Result, Ok, Err, sym, ◌∙◌, ap, subst}
 use Rattle.llsc_base.specs.Sizes.{Numbers}
 use Rattle.llsc_base.specs.Images.{Program}
 use Rattle.history.specs.Accesses.{history_of}
@@ -30,11 +30,11 @@ use Rattle.llsc_call.specs.Run.{IsOutcomeBy, ReportsRun, UnlessRun}
 use Rattle.llsc_call.specs.Load.{TellsLoad, load_program, load_refusal, load_size, load_text}
 use Rattle.llsc_texts.specs.Assembly.{asm_answer}
 use Rattle.llsc_texts.specs.Disassembly.{dis_answer}
-use Rattle.llsc_report.specs.Status.{status_of, status_of_all}
+use Rattle.llsc_report.specs.Status.{have_left, status_of, status_of_all}
 use Rattle.llsc_call.specs.Trace.{IsRecorded, Traces}
 use Rattle.llsc_call.specs.Check.{files_refusal, verdict_status, verdict_text, IsJudged, JudgesRead}
 use Rattle.llsc_words.specs.Request.{Request, Solo, Run, Pool, Record, Assemble, Disassemble, Trace, Check, Load}
-use Rattle.llsc_call.specs.Answer.{Answers, IsReported, merges}
+use Rattle.llsc_call.specs.Answer.{Answers, IsReported, prints_any_merge}
 
 -- answers have one status and one text
 abbrev pub AreOne : (ℕ → List ℕ → Type 0) → Type 0
@@ -129,36 +129,44 @@ unless_run_one None story answers one status other text more a b = one status ot
 untold_one : {N : Type 0} {answers : ℕ → List ℕ → Type 0} → AreOne answers → AreOne (λ status text. N × answers status text)
 untold_one one status other text more a b = one status other text more a.1 b.1
 
+-- records have one status, and refusals one text
+abbrev AreAlike : (ℕ → List ℕ → Type 0) → Type 0
+AreAlike answers = (status other : ℕ) (text more : List ℕ) → answers status text → answers other more → (status ≡ other) × (status ≡ 4 → text ≡ more)
+
+abbrev zero_or_one : Bool → ℕ
+zero_or_one b = if b then 0 else 1
+
+never_4 : (b : Bool) → zero_or_one b ≡ 4 → ⊥
+never_4 true four = cc
+never_4 false four = cc
+
 -- a record, by its history
-record_status : (history : List Entry) (program : Program) (size : Numbers) (budget : ℕ) (status other : ℕ) (text more : List ℕ)
-    → IsRecordOf history program size budget status text → IsRecordOf history program size budget other more → status ≡ other
-record_status history program size budget status other text more a b = by a.1.1.1 b.1.1.1
+record_alike : (history : List Entry) (program : Program) (size : Numbers) (budget : ℕ) → AreAlike (IsRecordOf history program size budget)
+record_alike history program size budget status other text more a b = by a.1.1.1 b.1.1.1
   where
     ends : a.0 ≡ b.0
     ends = one_list_on a32 program size budget history a.0 b.0 a.1.0.ends b.1.0.ends
 
-    by : PrintsMerge history size budget a.0 status text ⊎ IsTooLongFor history status text → PrintsMerge history size budget b.0 other more ⊎ IsTooLongFor history other more → status ≡ other
-    by (inl one) (inl two) = one.1.1.1.0 ∙ ap status_of_all ends ∙ sym two.1.1.1.0
-    by (inr one) (inr two) = one.1.0 ∙ sym two.1.0
+    by : PrintsMerge history size budget a.0 status text ⊎ IsTooLongFor history status text → PrintsMerge history size budget b.0 other more ⊎ IsTooLongFor history other more
+        → (status ≡ other) × (status ≡ 4 → text ≡ more)
+    by (inl one) (inl two) = (one.1.1.1.0 ∙ ap status_of_all ends ∙ sym two.1.1.1.0, λ four. absurd (never_4 (have_left a.0) (sym one.1.1.1.0 ∙ four)))
+    by (inr one) (inr two) = (one.1.0 ∙ sym two.1.0, λ four. one.1.1 ∙ sym two.1.1)
     by (inl one) (inr two) = absurd (omega (arith, one.0, two.0))
     by (inr one) (inl two) = absurd (omega (arith, one.0, two.0))
 
-records_one : (program : Program) (size : Numbers) (budget : ℕ) (story : Option (List Entry)) (status other : ℕ) (text more : List ℕ)
-    → RecordsRun story program size budget status text → RecordsRun story program size budget other more → status ≡ other
-records_one program size budget None status other text more a b = absurd a
-records_one program size budget (Some history) status other text more a b = record_status history program size budget status other text more a b
+records_alike : (program : Program) (size : Numbers) (budget : ℕ) (story : Option (List Entry)) → AreAlike (RecordsRun story program size budget)
+records_alike program size budget None status other text more a b = absurd a
+records_alike program size budget (Some history) status other text more a b = record_alike history program size budget status other text more a b
 
-record_unless : (against : Option (List ℕ)) (story : Option (List Entry)) (program : Program) (size : Numbers) (budget : ℕ) (status other : ℕ) (text more : List ℕ)
-    → UnlessRun against story (RecordsRun story program size budget) status text → UnlessRun against story (RecordsRun story program size budget) other more → status ≡ other
-record_unless (Some name) story program size budget status other text more a b = a.1.0 ∙ sym b.1.0
-record_unless None story program size budget status other text more a b = records_one program size budget story status other text more a b
+record_unless : (against : Option (List ℕ)) (story : Option (List Entry)) (program : Program) (size : Numbers) (budget : ℕ)
+    → AreAlike (UnlessRun against story (RecordsRun story program size budget))
+record_unless (Some name) story program size budget status other text more a b = (a.1.0 ∙ sym b.1.0, λ four. a.1.1 ∙ sym b.1.1)
+record_unless None story program size budget status other text more a b = records_alike program size budget story status other text more a b
 
-pub one_status : (format : Format) (size : Numbers) (budget : ℕ) (file : List ℕ) (story : Option (List Entry)) (status other : ℕ) (text more : List ℕ)
-    → AnswersRecord format size budget file story status text → AnswersRecord format size budget file story other more → status ≡ other
-one_status format size budget file story status other text more a b =
-    record_unless (program_refusal format size file) story (image_of format file size) size budget status other text more a b
+pub one_status : (format : Format) (size : Numbers) (budget : ℕ) (file : List ℕ) (story : Option (List Entry)) → AreAlike (AnswersRecord format size budget file story)
+one_status format size budget file story = record_unless (program_refusal format size file) story (image_of format file size) size budget
 
-pub answers_one : (asked : Request) (files : List (List ℕ)) (story : Option (List Entry)) → merges asked ≡ false → AreOne (Answers asked files story)
+pub answers_one : (asked : Request) (files : List (List ℕ)) (story : Option (List Entry)) → prints_any_merge asked ≡ false → AreOne (Answers asked files story)
 answers_one (Solo name format mem budget) (file ∷ []) story plain =
     let size = solo_size mem in
     untold_one (unless_one (IsReported (image_of format file size) size budget) (program_refusal format size file) (report_one (image_of format file size) size budget))

@@ -49,9 +49,9 @@ Answers (Load seed threads rounds budget) [] story status text = AnswersLoad see
 Answers _ _ story status text = ⊥
 
 -- a request's threads run freely and record what they do, so that any merge of what they did may be its answer
-abbrev pub merges : Request → Bool
-merges (Record name format size budget) = true
-merges _ = false
+abbrev pub prints_any_merge : Request → Bool
+prints_any_merge (Record name format size budget) = true
+prints_any_merge _ = false
 
 -- these are bytes that the files of these names may hold, one for each
 abbrev pub AreFiles : (List ℕ → Option (List ℕ)) → (names files : List (List ℕ)) → Type 0

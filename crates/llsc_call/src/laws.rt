@@ -3,11 +3,12 @@ ghost use Rattle.std.specs.Prelude.{◌≡◌, ◌≢◌, ◌⊎◌, ℕ, false,
 ghost use Rattle.llsc_base.specs.Images.{Program};
 ghost use Rattle.llsc_base.specs.Sizes.{Numbers};
 ghost use Rattle.history.specs.Accesses.{history_of};
+ghost use Rattle.history.specs.Legal.{IsLegal};
 ghost use Rattle.history.specs.declared.entry.Access.{Access};
 ghost use Rattle.history.specs.declared.entry.Entry.{Entry};
 ghost use Rattle.guest_thread.specs.End.{IsEndIn};
 ghost use Rattle.guest_thread.specs.BegunOutcome.{IsOutcomeFrom};
-ghost use Rattle.guest_thread.specs.Outcome.{IsOutcome};
+ghost use Rattle.guest_thread.specs.Outcome.{AreEndsOn, IsOutcome};
 ghost use Rattle.rv32_guest.specs.Machine.{rv32};
 ghost use Rattle.guest_thread.specs.Start.{thread_start};
 ghost use Rattle.guest_thread.specs.declared.ends.GuestEnd.{GuestEnd};
@@ -17,7 +18,7 @@ ghost use Rattle.guest_machine.specs.Traces.{IsTraceRecord};
 ghost use Rattle.guest_machine.specs.Turns.{IsTrace};
 ghost use Rattle.run_checker.specs.Verdict.{Judges};
 ghost use Rattle.run_merge.specs.Merge.{IsMerge};
-ghost use Rattle.llsc_call.specs.Answer.{Answers, merges};
+ghost use Rattle.llsc_call.specs.Answer.{Answers, prints_any_merge};
 ghost use Rattle.llsc_call.specs.Exclusives.{AreStoresExact};
 ghost use Rattle.llsc_call.specs.Load.{AnswersLoad, CountsEveryRound, load_program, load_size, load_text};
 ghost use Rattle.llsc_files.specs.Programs.{image_of};
@@ -38,7 +39,7 @@ use run_checker::Verdict;
 /// status and one text. Of a record alone it has one for each merge of that history.
 pub fn answers_are_one()
     ensures { (asked : Request) (files : List (List ℕ)) (story : Option (List Entry)) (status other : ℕ) (text more : List ℕ) →
-        merges asked ≡ false → Answers asked files story status text → Answers asked files story other more → (status ≡ other) × (text ≡ more) }
+        prints_any_merge asked ≡ false → Answers asked files story status text → Answers asked files story other more → (status ≡ other) × (text ≡ more) }
 {}
 
 /// What a run prints, where its status is 0 or 1, is the report of an outcome of its threads, those that begin by themselves and
@@ -90,10 +91,11 @@ pub fn store_exclusives_are_exact()
         IsOutcome rv32 program size budget history ends → AreStoresExact size program.bytes history }
 {}
 
-/// A record has one status for the bytes of its file and for the history of its threads, whichever merge is printed.
+/// A record has one status for the bytes of its file and for the history of its threads, whichever merge is printed, and where that is
+/// 4 one text.
 pub fn records_have_one_status()
     ensures { (format : Format) (size : Numbers) (budget : ℕ) (file : List ℕ) (story : Option (List Entry)) (status other : ℕ) (text more : List ℕ) →
-        AnswersRecord format size budget file story status text → AnswersRecord format size budget file story other more → status ≡ other }
+        AnswersRecord format size budget file story status text → AnswersRecord format size budget file story other more → (status ≡ other) × (status ≡ 4 → text ≡ more) }
 {}
 
 /// What `record` prints, where its status is 0 or 1, is a record of a merge of one history of its threads, legal and complete, from the
@@ -106,11 +108,11 @@ pub fn records_have_one_history()
         × (KeepsVersions size history × PrintsMerge history size budget ends status text))) }
 {}
 
-/// A merge of the history of a program's threads is a good record, where none of them was stopped at a store since a class of rows had
-/// had all of its writes: so `check` says `good` of what `record` printed.
+/// A merge of a legal history of a program's threads is a good record, where none of them was stopped at a store since a class of rows
+/// had had all of its writes: so `check` says `good` of what `record` printed.
 pub fn merges_are_good()
     ensures { (program : Program) (size : Numbers) (budget : ℕ) (history : List Entry) (ends : List GuestEnd) (merged : List Access) →
-        IsOutcome a32 program size budget history ends →
+        IsLegal size program.bytes history → AreEndsOn a32 program size budget history ends →
         ((t addr : ℕ) (end : GuestEnd) → slice_get ends t ≡ Some end → end.stop ≢ Stop.TagLimit addr) →
         IsMerge size history merged → Judges a32 program size budget merged Verdict.Good }
 {}

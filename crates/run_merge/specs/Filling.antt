@@ -1,12 +1,13 @@
 -- The tables of a merge, filled.
 use Rattle.std.specs.Prelude.{ℕ, ◌+◌, ◌≤◌, ◌<◌, List, length, get_or, slice_index}
 use Rattle.llsc_base.specs.Sizes.{Numbers}
+use Rattle.run_record.specs.Limits.{most_accesses}
 use Rattle.run_merge.specs.Tables.{class_at}
 use Rattle.run_merge.specs.declared.logs.Stamped.{Stamped}
 
 -- how wide a class is at most
 abbrev pub most_width : ℕ
-most_width = 1000001
+most_width = most_accesses + 1
 
 -- each stamp is below that
 abbrev pub AreSmall : List Stamped → Type 0

@@ -9,9 +9,11 @@ use Rattle.history.specs.declared.entry.Access.{Access}
 use Rattle.history.specs.declared.entry.Deed.TheVariants as deed
 use Rattle.history.specs.declared.entry.Entry.{Entry}
 use Rattle.history.specs.declared.entry.Entry.TheVariants.{Read, Write, Fail}
+use Rattle.run_record.specs.Limits.{most_accesses}
 use Rattle.run_merge.specs.declared.logs.Stamped.{Stamped}
 
--- an access of a history as a record keeps it
+-- an access of a history as a record keeps it; the last line is that of a Clear, and what it says of entries that are no accesses
+-- nobody asks
 abbrev pub access_of : Entry → Access
 access_of (Read thread place value true) = record { thread = thread; deed = deed.LoadEx; place = place; value = value }
 access_of (Read thread place value false) = record { thread = thread; deed = deed.Load; place = place; value = value }
@@ -46,7 +48,7 @@ log_of size thread history = logged size thread [] history
 
 -- how many of a thread's accesses are kept, as many as a record may have
 unfoldable pub most_logged : ℕ
-most_logged = 1000000
+most_logged = most_accesses
 
 -- the first of a thread's accesses, and how many there are
 pub record IsFirst (all first : List Stamped) (count : ℕ) : Type 0 where

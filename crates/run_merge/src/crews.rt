@@ -15,7 +15,9 @@ use version_memory::{VersionMemory, VersionPass};
 /// The jobs of all threads in order of number, with room for their ends, and a log for each.
 #[derive(Drop)]
 pub struct LogCrew<'i, C, I: Ready> {
+    /// The threads, as `guest_thread::prepare` makes them ready.
     pub crew: Crew<'i, VersionPass, C, I>,
+    /// Logs of nothing, as many as there are threads.
     pub logs: Vec<Log>,
 }
 

@@ -3,6 +3,7 @@ ghost use Rattle.std.specs.Prelude.{◌≡◌, ◌≤◌, ◌<◌, ◌+◌, ◌^
 ghost use Rattle.std.specs.List.{count_by};
 ghost use Rattle.history.specs.Parts.{accesses_of};
 ghost use Rattle.version_memory.specs.Memory.{pass_seen};
+ghost use Rattle.run_record.specs.Limits.{most_accesses};
 ghost use Rattle.run_merge.specs.Merging.{AreLogs, IsMerging};
 ghost use Rattle.run_merge.specs.Taking.{AreKnown};
 ghost use Rattle.run_merge.specs.Filling.{AreSmall, AreWide, IsStack, most_width};
@@ -95,7 +96,7 @@ fn counts_of(mut left: Vec<usize>, base: &[usize], size: &MachineSize, logs: &[L
     requires base { length base.now ≡ size.now.classes }
     requires zero { (k : ℕ) → slice_index left.items k ≡ 0 }
     requires spots { (t : ℕ) (log : Log) → slice_get logs.now t ≡ Some log → (i : ℕ) (d : Stamped) → i < length log.entries.items → spot size.now base.now (get_or log.entries.items i d) < length left.items }
-    requires short { (t : ℕ) (log : Log) → slice_get logs.now t ≡ Some log → length log.entries.items ≤ 1000000 }
+    requires short { (t : ℕ) (log : Log) → slice_get logs.now t ≡ Some log → length log.entries.items ≤ most_accesses }
     requires few { length logs.now ≤ 16 }
     ensures len { length result.items ≡ length left.items }
     ensures left { (k : ℕ) → slice_index result.items k ≡ sum_by (λ log. count_by (is_read_at size.now base.now k) log.entries.items) logs.now }
@@ -116,7 +117,7 @@ pub(crate) fn begun(
 ) -> Result<Merging, AllocError>
     requires logs { AreLogs size.now (pass_seen pass.now) logs.now }
     requires known { AreKnown size.now.threads (pass_seen pass.now) }
-    requires few { length (accesses_of (pass_seen pass.now)) ≤ 1000000 }
+    requires few { length (accesses_of (pass_seen pass.now)) ≤ most_accesses }
     ensures { IfOk result (λ merging. IsMerging size.now (pass_seen pass.now) merging) }
 {
     let classes = size.classes() as usize;

@@ -6,32 +6,34 @@ ghost use Rattle.run_merge.specs.Logs.{IsFirst};
 ghost use Rattle.run_merge.specs.declared.logs.Stamped.{Stamped};
 
 use history::Access;
+use run_record::MOST_ACCESSES;
 use std::alloc::{AllocError, Global};
-
-/// How many accesses a log keeps, as many as a record may have.
-const MOST_LOGGED: usize = 1_000_000;
 
 /// An access, and how many writes the class of its place had had before. A failed store-exclusive and a CLREX have stamp 0, which
 /// says nothing.
 #[derive(Clone, Copy, Debug, PartialEq, Eq)]
 pub struct Stamped {
+    /// What the thread did.
     pub access: Access,
+    /// The stores of the class before it, store-exclusives that stored among them.
     pub stamp: u64,
 }
 
 /// The first 1,000,000 accesses of a thread in order, and how many it made.
 #[derive(Drop)]
 pub struct Log {
+    /// The first of its accesses, at most 1,000,000.
     pub entries: Vec<Stamped>,
+    /// How many accesses it made, whether or not they are kept.
     pub count: u64,
 }
 
 impl Log {
-    /// A log of nothing, with room for 1,000,000 accesses.
+    /// A log of nothing, with room for as many accesses as a record may have.
     pub(crate) fn new(alloc: Global) -> Result<Log, AllocError>
         ensures { IfOk result IsUnused }
     {
-        let entries = Vec::with_capacity(alloc, MOST_LOGGED)?;
+        let entries = Vec::with_capacity(alloc, MOST_ACCESSES)?;
         Ok(Log { entries, count: 0 })
     }
 
@@ -45,7 +47,7 @@ impl Log {
         ensures room { vec_capacity self.new.entries ≡ vec_capacity self.old.entries }
     {
         let kept = self.entries.as_slice().len();
-        if kept < MOST_LOGGED {
+        if kept < MOST_ACCESSES {
             self.entries.push_reserved(one);
         }
         self.count += 1;

@@ -14,6 +14,7 @@ use crate::logs::Log;
 use crate::merging::Merging;
 use crate::runs::LoggedRun;
 use history::Access;
+use run_record::MOST_ACCESSES;
 use std::alloc::{AllocError, Global};
 use thiserror::Error;
 
@@ -37,12 +38,12 @@ fn sum_of(logs: &[Log]) -> Option<u64>
     let mut total: u64 = 0;
     for t in 0..logs.len() {
         let count = logs[t].count;
-        if count > 1_000_000 {
+        if count > MOST_ACCESSES as u64 {
             return None;
         }
         total += count;
     }
-    if total > 1_000_000 {
+    if total > MOST_ACCESSES as u64 {
         return None;
     }
     Some(total)

@@ -27,14 +27,18 @@ use version_memory::{VersionMemory, VersionPass};
 /// 1,000,000 of them, each load and each store with its stamp there.
 #[derive(Drop)]
 pub struct LoggedRun {
+    /// The size of the memory.
     pub size: MachineSize,
+    /// The pass of all threads, which has seen what they did.
     pub pass: VersionPass,
+    /// How each thread ended.
     pub ends: Vec<GuestEnd>,
+    /// What each thread logged.
     pub logs: Vec<Log>,
     ghost kept: { KeepLogs size (pass_seen pass) logs.items },
 }
 
-/// Runs all threads, each on a host thread, up to their stops, as `guest_machine::run_all` does, and each logs its accesses. Memory
+/// Runs all threads, each on a host thread, up to their stops, as `guest_thread::run_all` does, and each logs its accesses. Memory
 /// has as many bytes as the image. The budget is at most 1,000,000,000,000 steps for each. No memory is taken from the allocator.
 ///
 /// What they did is in what the pass has seen of the history: a thread's accesses there are those of its run, with its end.

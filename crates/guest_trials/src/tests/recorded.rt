@@ -1,5 +1,4 @@
 //! Guests that log their accesses while they run freely, and the merge of their logs.
-ghost use Rattle.std.specs.Prelude.{◌≤◌, IfOk};
 
 use super::programs::{ADDS, SHARES, image_of};
 use a32_step::Cpu;
@@ -26,8 +25,8 @@ fn logged<R: Threads + Wait + Sync>(
     Ok(log_all(rt, &memory, &image, crew, 1000))
 }
 
-/// An access of thread 0 to the word at 0x2000, before any write of its class.
-fn first(deed: Deed, value: u64) -> Stamped {
+/// An access of thread 0 to the word at 0x2000, behind so many writes of its class.
+fn own(deed: Deed, value: u64, stamp: u64) -> Stamped {
     let place = Place {
         addr: 0x2000,
         size: Size::B4,
@@ -38,26 +37,54 @@ fn first(deed: Deed, value: u64) -> Stamped {
         place,
         value,
     };
-    Stamped { access, stamp: 0 }
+    Stamped { access, stamp }
+}
+
+/// Whether one thread of a program logs these two accesses, and the merge has them in order.
+fn is_logged<R: Threads + Wait + Sync>(
+    rt: &R,
+    alloc: Global,
+    words: &[u32],
+    wanted: [Stamped; 2],
+) -> Result<bool, Fail> {
+    let run = logged(rt, alloc, words, 1)?;
+    let merged = merge(alloc, &run)?;
+    let mut same = run.ends.len() == 1 && run.logs.len() == 1;
+    for log in run.logs.iter() {
+        same = same && log.count == 2 && log.entries.as_slice() == wanted.as_slice();
+    }
+    Ok(same && merged.as_slice() == [wanted[0].access, wanted[1].access].as_slice())
 }
 
 #[test]
 fn a_thread_logs_its_accesses(rt: HostRuntime) -> Result<(), Fail> {
-    let run = logged(&rt, rt.alloc(), ADDS, 1)?;
-    let wanted = [first(Deed::LoadEx, 0), first(Deed::StoreEx, 7)];
-    assert!(rt; run.ends.len() == 1 && run.logs.len() == 1);
-    for log in run.logs.iter() {
-        assert!(rt; log.count == 2 && log.entries.as_slice() == wanted.as_slice());
-    }
-    let merged = merge(rt.alloc(), &run)?;
-    assert!(rt; merged.as_slice() == [wanted[0].access, wanted[1].access].as_slice());
+    let added = [own(Deed::LoadEx, 0, 0), own(Deed::StoreEx, 7, 0)];
+    assert!(rt; is_logged(&rt, rt.alloc(), ADDS, added)?);
+    let shared = [own(Deed::Store, 0, 0), own(Deed::Load, 0, 1)];
+    assert!(rt; is_logged(&rt, rt.alloc(), SHARES, shared)?);
     Ok(())
+}
+
+/// Whether each load has the value of the last store before it.
+fn follows_stores(merged: &[Access]) -> bool {
+    let mut last = 0;
+    for access in merged.iter() {
+        match access.deed {
+            Deed::Store => last = access.value,
+            _ => {
+                if access.value != last {
+                    return false;
+                }
+            }
+        }
+    }
+    true
 }
 
 #[test]
 fn logs_of_threads_are_merged(rt: HostRuntime) -> Result<(), Fail> {
     let run = logged(&rt, rt.alloc(), SHARES, 3)?;
     let merged = merge(rt.alloc(), &run)?;
-    assert!(rt; merged.len() == 6);
+    assert!(rt; merged.len() == 6 && follows_stores(merged.as_slice()));
     Ok(())
 }
