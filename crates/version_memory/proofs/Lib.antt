@@ -5,3 +5,4 @@ mod Waited
 mod Exactly
 mod Betweens
 mod Counted
+mod Contended

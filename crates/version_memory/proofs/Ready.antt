@@ -86,7 +86,7 @@ pub ready-claimed : (plan : Plan) (table home home' : TableId) (origin : Origin)
     → claimed (ask origin p value) st old n new → IsReady plan table home' new
 ready-claimed plan table home home' origin p value n st old new ready same told = elim (cases_eq n st.first) [
   | inl hit ↦ ready-goes plan table home home' origin old new _ _ ready same (told.0 hit).goes
-  | inr miss ↦ ready-goes plan table home home' origin old new _ _ ready same (told.1 miss)
+  | inr miss ↦ ready-goes plan table home home' origin old new _ _ ready same (told.1 miss).goes
 ]
 
 pub ready-claimed_ex : (plan : Plan) (table home home' : TableId) (origin : Origin) (p : Place) (value n : ℕ) (st : Step (Unit {0})) (old new : Mine) → IsReady plan table home old → home' ≡ home

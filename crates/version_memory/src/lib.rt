@@ -8,9 +8,10 @@
 //! `start_child`, and of a thread that waits for its start `know_own` and `look_at_start`. `seats` splits and joins, `making`
 //! makes a memory, and `pauses` says how long a thread waits whose store-exclusives failed.
 //!
-//! Its calls are in `sharing`, those by which threads start others in `starting`, those of exclusive accesses that wait for
-//! nobody in `now`, and those of accesses that give their stamps in `stamps`. `specs/Stands` says where an entry stands in what a pass has seen, and what was so before it;
-//! `specs/Exact` says when a store-exclusive has failed; [`worked`] has small cases, what holds and what doesn't.
+//! Its calls are in `sharing`, those by which threads start others in `starting`, those that wait for nobody in `now`, and those
+//! of accesses that give their stamps in `stamps`. `specs/Stands` says where an entry stands in what a pass has seen, and what
+//! was so before it; `specs/Exact` says when a store-exclusive has failed, and when a store that is tried once is not done;
+//! [`worked`] has small cases, what holds and what doesn't.
 #![tactic(auto)]
 
 mod exclusive;

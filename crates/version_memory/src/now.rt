@@ -1,22 +1,24 @@
-//! Exclusive accesses that wait for nobody.
-ghost use Rattle.std.specs.Prelude.{◌≡◌, ◌+◌, ◌^◌, ◌<◌, ◌≤◌, ℕ, IsTrue, false, true};
+//! Accesses that wait for nobody.
+ghost use Rattle.std.specs.Prelude.{◌≡◌, ◌+◌, ◌^◌, ◌<◌, ◌≤◌, ℕ, [], IfErr, IfOk, IsTrue, false, true};
 ghost use Rattle.std.specs.Bool.{OnFalse, OnTrue};
 ghost use Rattle.llsc_base.specs.Memory.{is_aligned, size_bytes};
 ghost use Rattle.history.specs.Operation.{entries_of_operation, fail, load_missed, load_watched, store};
 ghost use Rattle.history.specs.declared.entry.Cause.{Cause};
 ghost use Rattle.history.specs.Started.{MayAct};
-ghost use Rattle.shared_memory.specs.Seen.{IsSingle, Sees};
-ghost use Rattle.version_rule.specs.Exact.{IsUndisturbed};
-ghost use Rattle.version_memory.specs.Exact.{HasFailedAt};
+ghost use Rattle.shared_memory.specs.Seen.{IsSingle, IsUsedUp, Sees};
+ghost use Rattle.version_rule.specs.Exact.{IsSpent, IsUndisturbed};
+ghost use Rattle.version_memory.specs.Exact.{HasFailedAt, IsContended};
 ghost use Rattle.version_memory.specs.Memory.{memory_id, memory_origin, pass_home, pass_numbers, pass_seen};
-ghost use Rattle.version_memory.specs.Stands.{Stands};
+ghost use Rattle.version_memory.specs.Stands.{HasRoom, Stands};
 
 use crate::exclusive::load_ex_cell;
 use crate::memory::VersionMemory;
 use crate::passes::{Reserved, VersionPass};
+use crate::plain::{Tried, try_store};
 use history::Entry;
 use llsc_base::Place;
 use row_bytes::take;
+use shared_memory::Spent;
 use std::marker::Brand;
 
 impl VersionMemory {
@@ -86,5 +88,44 @@ impl VersionMemory {
         ensures numbers { pass_numbers pass.new ≡ pass_numbers pass.old }
     {
         self.store_ex_stamped(pass, place, value).is_some()
+    }
+
+    /// A store of a value below 2 to the 8, 16, 32 or 64 by the place's size, which is tried once and waits for nobody, and
+    /// whether it is done: it is unless a write of another thread in the class of the place is in flight, or comes first. Then
+    /// nothing is stored, and the caller may try again.
+    ///
+    /// # Errors
+    ///
+    /// [`Spent`] exactly where the class has had as many writes as it may have, and none of them is in flight. Then nothing is
+    /// stored.
+    pub fn store_now(&self, pass: &mut VersionPass, place: Place, value: u64) -> Result<bool, Spent>
+        requires memory { pass_home pass.old ≡ memory_id self.now }
+        requires single { (t : ℕ) × IsSingle t (pass_numbers pass.old) × (MayAct (memory_origin self.now).first t (pass_seen pass.old)) }
+        requires aligned { IsTrue (is_aligned place) }
+        requires inside { place.addr + size_bytes place.size ≤ (memory_origin self.now).size.mem }
+        requires fits { value < 256 ^ size_bytes place.size }
+        ensures done { IfOk result (λ done. OnTrue done ((t : ℕ) → IsSingle t (pass_numbers pass.old) → Sees (memory_origin self.now) t (pass_seen pass.old) (entries_of_operation t (store place value false)) (pass_seen pass.new))) }
+        ensures room { IfOk result (λ done. OnTrue done ((t : ℕ) → IsSingle t (pass_numbers pass.old) → HasRoom (memory_origin self.now).size place (Entry.Begin t place) (pass_seen pass.old) (pass_seen pass.new))) }
+        ensures contended { IfOk result (λ done. OnFalse done (IsContended (memory_origin self.now).size place (pass_seen pass.old) (pass_seen pass.new))) }
+        ensures not_yet { IfOk result (λ done. OnFalse done ((t : ℕ) → IsSingle t (pass_numbers pass.old) → Sees (memory_origin self.now) t (pass_seen pass.old) [] (pass_seen pass.new))) }
+        ensures spent { IfErr result (λ s. IsUsedUp (memory_origin self.now) place s.class s.writes (pass_seen pass.new)) }
+        ensures exact { IfErr result (λ _. IsSpent (memory_origin self.now).size place (pass_seen pass.new)) }
+        ensures refused { IfErr result (λ _. (t : ℕ) → IsSingle t (pass_numbers pass.old) → Sees (memory_origin self.now) t (pass_seen pass.old) [] (pass_seen pass.new)) }
+        ensures memory { pass_home pass.new ≡ pass_home pass.old }
+        ensures numbers { pass_numbers pass.new ≡ pass_numbers pass.old }
+    {
+        let target = self.target(place, value);
+        let limit = self.size.limit();
+        match try_store::<Brand>(&self.table.shared, &mut pass.seat, target, limit) {
+            Tried::Waits => Ok(false),
+            Tried::Spent => Err(Spent {
+                class: self.class_at(place),
+                writes: limit,
+            }),
+            Tried::Done(_) => {
+                pass.reserved = self.reserved_after(pass.reserved, place);
+                Ok(true)
+            }
+        }
     }
 }

@@ -1,8 +1,9 @@
 //! The steps of loads and stores.
-ghost use Rattle.std.specs.Prelude.{◌≡◌, ◌*◌, ◌/◌, ◌%◌, ◌<◌, ℕ, None, IfSome, [], ◌∷◌, false};
+ghost use Rattle.std.specs.Prelude.{◌≡◌, ◌≢◌, ◌*◌, ◌/◌, ◌%◌, ◌<◌, ℕ, None, IfSome, [], ◌∷◌, false};
 ghost use Rattle.std.specs.Bool.{OnFalse, OnTrue};
-ghost use Rattle.llsc_base.specs.Memory.{cell_of};
+ghost use Rattle.llsc_base.specs.Memory.{cell_of, row_of};
 ghost use Rattle.row_bytes.specs.Cell.{value_in_cell};
+ghost use Rattle.history.specs.Class.{edges_of};
 ghost use Rattle.version_rule.specs.declared.hands.Doing.TheVariants.{Rest, Claimed, Holding, Written};
 ghost use Rattle.version_rule.specs.Exact.{IsSpent, IsVersion};
 ghost use Rattle.version_rule.specs.Hands.{hand, reserve_after};
@@ -11,6 +12,7 @@ ghost use Rattle.version_rule.specs.Kept.{origin_of};
 ghost use Rattle.shared_memory.specs.Told.{Goes, ask};
 ghost use Rattle.version_rule.specs.Told.{Decides, HasFoundTag};
 ghost use Rattle.shared_memory.specs.Targets.{IsPlace, IsTarget};
+ghost use Rattle.version_memory.specs.Exact.{IsContended};
 ghost use Rattle.version_memory.specs.Passes.{IsReady};
 ghost use Rattle.version_memory.specs.Stands.{IsStamped};
 ghost use Rattle.version_memory.specs.Stored.{HasStored};
@@ -71,6 +73,7 @@ fn claim<J: Asks>(
     requires room { version < 2 * shared.now.key.size.limit }
     ensures claimed { OnTrue result (Decides (origin_of shared.now.key) seat.old.me (Entry.Begin seat.old.me.0.lead target.place ∷ []) (IsVersion shared.now.key.size target.place version) (hand (Claimed target.place version false) (reserve_after shared.now.key.size target.place seat.old.me.0.doing.reserve)) seat.new.me) }
     ensures not_yet { OnFalse result (Goes (origin_of shared.now.key) seat.old.me [] seat.old.me.0.doing seat.new.me) }
+    ensures moved { OnFalse result (edges_of shared.now.key.size (row_of shared.now.key.size.granule target.place) seat.new.me.0.seen ≢ version) }
     ensures ready { IsReady shared.now.key shared.now.table_id seat.new.table_id seat.new.me }
     ensures home { seat.new.table_id ≡ seat.old.table_id }
 {
@@ -157,7 +160,7 @@ pub fn write_held<J: Asks>(
 }
 
 /// What came of a try to store.
-enum Tried {
+pub enum Tried {
     /// A write of the class was in flight, or came first.
     Waits,
     /// The class has had all of its writes.
@@ -168,7 +171,7 @@ enum Tried {
 
 /// One try to store.
 #[inline]
-fn try_store<J: Asks>(
+pub fn try_store<J: Asks>(
     shared: &VersionShared,
     seat: &mut VersionSeat,
     target: Target,
@@ -180,6 +183,7 @@ fn try_store<J: Asks>(
     requires target { IsTarget shared.now.key target }
     requires limit { limit ≡ shared.now.key.size.limit }
     ensures waits { result ≡ Tried.Waits → Goes (origin_of shared.now.key) seat.old.me [] seat.old.me.0.doing seat.new.me }
+    ensures contended { result ≡ Tried.Waits → IsContended shared.now.key.size target.place seat.old.me.0.seen seat.new.me.0.seen }
     ensures spent { result ≡ Tried.Spent → Goes (origin_of shared.now.key) seat.old.me [] seat.old.me.0.doing seat.new.me × IsSpent shared.now.key.size target.place seat.new.me.0.seen }
     ensures done { (stamp : ℕ) → result ≡ Tried.Done stamp → HasStored (origin_of shared.now.key) target.place target.value stamp seat.old.me seat.new.me }
     ensures ready { IsReady shared.now.key shared.now.table_id seat.new.table_id seat.new.me }

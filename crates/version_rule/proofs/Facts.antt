@@ -9,10 +9,12 @@ use Rattle.llsc_base.specs.Memory.{cell_of, is_aligned, row_of, size_bytes}
 use Rattle.llsc_base.specs.declared.access.Place.{Place}
 use Rattle.llsc_base.proofs.Cells.{cell_of-lt, class_of-lt}
 use Rattle.history.specs.ArmLegal.{IsSound}
+use Rattle.history.specs.Class.{edges_of}
 use Rattle.history.specs.Cause.{flight_of, is_begin, is_begin_of_another, since_watch, writes_in_class}
 use Rattle.history.specs.Follow.{flight_at}
 use Rattle.history.specs.Reservation.{reservation_of}
 use Rattle.history.specs.Standing.{Standing}
+use Rattle.history.proofs.Classes.{edges_of-standing}
 use Rattle.history.proofs.Flags.{overtaken-standing, stirred-standing, writes_in_class-standing}
 use Rattle.history.proofs.Legality.{flight_of-standing}
 use Rattle.history.proofs.Steps.{reservation_of-standing}
@@ -49,6 +51,9 @@ module _ (plan : Plan) where
 
     pub writes-is : (p : Place) → writes_in_class plan.size (row_of plan.size.granule p) k.history ≡ k.standing.writes (class_at plan.size p)
     writes-is p = sym (writes_in_class-standing plan.size (row_of plan.size.granule p) plan.image.value.bytes k.history) ∙ ap (λ (s : Standing). s.writes (class_at plan.size p)) (sym k.tells.standing_is)
+
+    pub edges-is : (p : Place) → edges_of plan.size (row_of plan.size.granule p) k.history ≡ k.standing.edges (class_at plan.size p)
+    edges-is p = sym (edges_of-standing plan.size (row_of plan.size.granule p) plan.image.value.bytes k.history) ∙ ap (λ (s : Standing). s.edges (class_at plan.size p)) (sym k.tells.standing_is)
 
     pub reserved-is : (t : ℕ) → reservation_of plan.size t k.history ≡ k.standing.reserved t
     reserved-is t = reservation_of-standing plan.size t plan.image.value.bytes k.history ∙ ap (λ (s : Standing). s.reserved t) (sym k.tells.standing_is)

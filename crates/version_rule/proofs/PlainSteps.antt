@@ -1,5 +1,5 @@
 -- The steps of loads and stores.
-use Rattle.std.proofs.Common.{◌≡◌, ℕ, ◌+◌, ◌*◌, ◌%◌, ◌^◌, ◌<◌, ◌≤◌, ◌==◌, Bool, true, false, List, [], ◌∷◌, set, slice_index, refl, ap, sym, ◌∙◌, subst, inl, inr, arith, append-nil}
+use Rattle.std.proofs.Common.{◌≡◌, ℕ, ◌+◌, ◌*◌, ◌%◌, ◌^◌, ◌<◌, ◌≤◌, ◌==◌, Bool, true, false, List, [], ◌∷◌, ◌++◌, set, slice_index, refl, ap, sym, ◌∙◌, subst, inl, inr, arith, append-nil}
 use mathlib.Core.Option.{none}
 use prog.Atomic.{either}
 use Rattle.std.proofs.lemmas.Bool.{cases_eq, eq-eqb, ne_eqb}
@@ -8,6 +8,7 @@ use Rattle.llsc_base.specs.declared.access.Place.{Place}
 use Rattle.llsc_base.proofs.Cells.{class_of-lt, is_aligned-in_cell}
 use Rattle.row_bytes.specs.Cell.{cell_with, value_in_cell}
 use Rattle.row_bytes.proofs.Cells.{value_in_cell-lt}
+use Rattle.history.specs.Class.{edges_of}
 use Rattle.history.specs.Standing.{joined}
 use Rattle.history.specs.Follow.{MayJoin}
 use Rattle.history.specs.declared.entry.Entry.{Entry}
@@ -16,6 +17,8 @@ use Rattle.atomic_table.specs.Table.{Allows, keeps, step}
 use Rattle.history.specs.Started.{MayAct}
 use Rattle.shared_memory.specs.Seen.{IsSingle}
 use Rattle.shared_memory.specs.Passes.{marked, moved}
+use Rattle.shared_memory.specs.declared.views.View.{View}
+use Rattle.version_rule.specs.declared.hands.Hand.{Hand}
 use Rattle.version_rule.specs.declared.hands.Doing.{Doing}
 use Rattle.version_rule.specs.declared.hands.Doing.TheVariants.{Rest, Claimed, Holding, Written}
 use Rattle.shared_memory.specs.declared.plans.Plan.{Plan}
@@ -27,12 +30,17 @@ use Rattle.version_rule.specs.Kept.{Kept, KeptBy, origin_of}
 use Rattle.shared_memory.specs.Told.{Goes, ask, loaded}
 use Rattle.version_rule.specs.Told.{Decides, Mine, changed, claimed, released, tag_found, taken}
 use Rattle.version_rule.proofs.Classes.{IsOrderly}
-use Rattle.version_rule.proofs.Facts.{as-found, cell-below, cell-is, known, sound, spent, tag-is, writes-is}
+use Rattle.version_rule.proofs.Facts.{as-found, cell-below, cell-is, edges-is, known, sound, spent, tag-is, writes-is}
 use Rattle.version_rule.proofs.Laid.{AreRelaid, laid-cell, laid-same, laid-tag}
 use Rattle.version_rule.proofs.Moves.{decides, moves-none, moves-one, told-none, told-one}
 use Rattle.version_rule.proofs.Own.{own-change, own-claim, own-read, own-release, own-take}
 
 module _ (plan : Plan) where
+  -- the tag of a class is how many edges it has had, by what a seat has seen that has just looked
+  tag-edges : (words : List ℕ) (views : List (View Hand)) (k : Kept plan words views) (p : Place) → 0 < plan.size.classes
+      → edges_of plan.size (row_of plan.size.granule p) (k.history ++ []) ≡ slice_index words (tag_word (class_at plan.size p))
+  tag-edges words views k p some_class = ap (edges_of plan.size (row_of plan.size.granule p)) (append-nil k.history) ∙ edges-is plan words views k p ∙ sym (tag-is plan words views k p some_class)
+
   -- a load of a cell
   pub loads : (slots seat : ℕ) (me : Mine) (p : Place) → IsSingle me.0.lead (marked me.0.numbers) → MayAct plan.first me.0.lead me.0.seen → me.0.doing.doing ≡ Rest
       → is_aligned p ≡ true → p.addr + size_bytes p.size ≤ plan.size.mem
@@ -72,6 +80,7 @@ module _ (plan : Plan) where
         as-found plan s.words i (set s.views seat (moved v k.history [] v.doing)) (moves-none plan s.words s.views k seat v at single v.doing knows),
         record {
           goes = told-none plan s.words s.views k seat v at single v.doing me.1 knows;
+          edges = tag-edges s.words s.views k p some_class;
           most = subst (λ (n : ℕ). n ≤ 2 * plan.size.limit) (sym tag) (k.classes.most (class_at plan.size p));
           spent = λ is. subst (λ (l : List Entry). IsSpent plan.size p l) (sym (append-nil k.history)) (spent plan s.words s.views k p (sym tag ∙ is));
         },
@@ -120,7 +129,10 @@ module _ (plan : Plan) where
           tt,
           subst (λ b. Kept plan (set s.words i (either b (version + 1) n)) (set s.views seat stays)) (sym (ne_eqb n version miss))
               (as-found plan s.words i (set s.views seat stays) (moves-none plan s.words s.views k seat v at single v.doing all)),
-          ((λ hit. absurd (miss hit)), λ not. told-none plan s.words s.views k seat v at single v.doing me.1 all),
+          (
+            (λ hit. absurd (miss hit)),
+            λ not. record { goes = told-none plan s.words s.views k seat v at single v.doing me.1 all; edges = tag-edges s.words s.views k p some_class },
+          ),
         )
       ]
 

@@ -2,6 +2,7 @@
 use Rattle.std.specs.Prelude.{◌≡◌, ◌≢◌, ◌*◌, ◌%◌, ◌<◌, ◌≤◌, ℕ, Bool, true, false, List, [], ◌∷◌, ◌++◌}
 use Rattle.llsc_base.specs.Memory.{row_of}
 use Rattle.row_bytes.specs.Cell.{value_in_cell}
+use Rattle.history.specs.Class.{edges_of}
 use Rattle.history.specs.Started.{is_started}
 use Rattle.history.specs.declared.entry.Entry.{Entry}
 use Rattle.history.specs.declared.entry.Entry.TheVariants.{Read, Write, Fail, Clear, Watch, Miss, Begin, End, Start}
@@ -30,21 +31,26 @@ pub record Decides (origin : Origin) (old : Mine) (entries : List Entry) (about 
 
 -- ---- loads and stores
 
--- a load of the tag of a place's class, which is never above twice the limit, and there says that the class has had all of
--- its writes
+-- a look at the tag of a place's class, which is how many Begins and Ends the class has had
+pub record HasLooked (q : Ask) (old : Mine) (tag : ℕ) (new : Mine) : Type 0 where
+  pub goes : Goes q.origin old [] old.0.doing new
+  pub edges : edges_of q.origin.size (row_of q.origin.size.granule q.place) new.0.seen ≡ tag
+
+-- a load of the tag, which is never above twice the limit, and there says that the class has had all of its writes
 pub record HasFoundTag (q : Ask) (old : Mine) (tag : ℕ) (new : Mine) : Type 0 where
   pub goes : Goes q.origin old [] old.0.doing new
+  pub edges : edges_of q.origin.size (row_of q.origin.size.granule q.place) new.0.seen ≡ tag
   pub most : tag ≤ 2 * q.origin.size.limit
   pub spent : tag ≡ 2 * q.origin.size.limit → IsSpent q.origin.size q.place new.0.seen
 
 abbrev pub tag_found : Ask → Step (Unit {0}) → Mine → ℕ → Mine → Type 0
 tag_found q st old n new = HasFoundTag q old n new
 
--- a store begins where the tag is still the version that was expected
+-- a store begins where the tag is still the version that was expected, and else has looked at it
 abbrev pub claimed : Ask → Step (Unit {0}) → Mine → ℕ → Mine → Type 0
 claimed q st old n new =
     (n ≡ st.first → Decides q.origin old (Begin old.0.lead q.place ∷ []) (IsVersion q.origin.size q.place st.first) (hand (Claimed q.place st.first false) (reserve_after q.origin.size q.place old.0.doing.reserve)) new)
-    × (n ≢ st.first → Goes q.origin old [] old.0.doing new)
+    × (n ≢ st.first → HasLooked q old n new)
 
 -- a write that holds its class loads the cell
 abbrev pub taken : Ask → Step (Unit {0}) → Mine → ℕ → Mine → Type 0

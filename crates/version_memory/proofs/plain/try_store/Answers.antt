@@ -3,6 +3,7 @@ use Rattle.version_rule.specs.declared.hands.Hand.{Hand}
 use Rattle.version_rule.specs.Kept.{origin_of}
 use Rattle.shared_memory.proofs.Sequences.{goes-then_by}
 use Rattle.version_memory.specs.Stored.{HasStored}
+use Rattle.version_memory.proofs.Contended.{contended-moved, contended-odd}
 use Rattle.version_memory.proofs.Ready.{ready-goes}
 use Rattle.version_memory.proofs.Whole.{stored}
 use Rattle.version_memory.proofs.plain.try_store.Goals as goal
@@ -37,3 +38,12 @@ returns-clause-done g c stamp is =
 
 pub returns-clause-ready : goal.returns-clause-ready
 returns-clause-ready g c = ready-goes _ _ _ _ _ _ _ _ _ c.claim.ensures.ready c.write_held.ensures.home c.write_held.ensures.goes
+
+pub returns-then-tag-ne0-clause-contended : goal.returns-then-tag-ne0-clause-contended
+returns-then-tag-ne0-clause-contended g c is =
+    let found = c.look_at_tag-tag.ensures.found in
+    contended-odd (origin_of c.args.shared.now.key) c.args.target.place c.args.target.value c.look_at_tag-tag.result c.args.seat.now.me c.look_at_tag-tag.new.seat.me found c.if-tag-ne0.true
+
+pub returns-then-not-claim-clause-contended : goal.returns-then-not-claim-clause-contended
+returns-then-not-claim-clause-contended g c is =
+    contended-moved (origin_of c.args.shared.now.key) c.args.target.place c.args.target.value c.look_at_tag-tag.result c.args.seat.now.me c.look_at_tag-tag.new.seat.me c.look_at_tag-tag.ensures.found c.claim.new.seat.me c.if-not-claim.ensures.not_yet c.if-not-claim.ensures.moved
