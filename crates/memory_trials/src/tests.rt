@@ -1,6 +1,7 @@
 //! What each memory that threads share answers.
 mod accesses;
 mod crossed;
+mod handles;
 mod logged;
 mod many_threads;
 mod names;

@@ -1,0 +1,39 @@
+-- Which numbers handles hold that were split, or have taken in others.
+use Rattle.std.proofs.Common.{◌≡◌, ◌≢◌, ◌==◌, ◌&&◌, ◌||◌, inl, inr, not, nat_lt, ℕ, ◌-◌, ◌<◌, ◌≤◌, Bool, true, false, sym, ap, ◌∙◌, arith}
+use Rattle.std.proofs.lemmas.Bool.{and_parts, cases_Bool, eq-eqb, ltb-false, ltb-true, ne_eqb, or_cases, or_left, or_right}
+use Rattle.std.specs.Cmp.Derive.{both_true}
+use Rattle.shared_memory.specs.Seen.{IsOneOf, all_but, joint}
+use Rattle.memory_handle.specs.Numbers.{AreFrom}
+
+false_true : not true ≡ true → ⊥
+false_true same = cc
+
+-- who is one of all but one was one of all
+pub had-but : (t u : ℕ) (old new : ℕ → Bool) → new ≡ all_but t old → IsOneOf u new → IsOneOf u old
+had-but t u old new is has = (and_parts (old u) (not (u == t)) (sym (ap (λ f. f u) is) ∙ has)).0
+
+-- the last was given away
+pub from-split : (first upto : ℕ) (old new : ℕ → Bool) → AreFrom first upto old → first < upto → new ≡ all_but (upto - 1) old → AreFrom first (upto - 1) new
+from-split first upto old new are some is = record {
+  here = λ u low high.
+      let other : u ≢ upto - 1 = λ same. absurd (omega (arith, high, same)) in
+      ap (λ f. f u) is ∙ both_true (are.here u low (omega (arith, high))) (ap not (ne_eqb u (upto - 1) other));
+  only = λ u has.
+      let parts = and_parts (old u) (not (u == upto - 1)) (sym (ap (λ f. f u) is) ∙ has) in
+      let was = are.only u parts.0 in
+      let other : u ≢ upto - 1 = λ same. false_true (sym (ap not (eq-eqb u (upto - 1) same)) ∙ parts.1) in
+      (was.0, omega (arith, was.1, other));
+}
+
+-- those that come next were taken in
+pub from-join : (first mid upto : ℕ) (one other new : ℕ → Bool) → AreFrom first mid one → AreFrom mid upto other → first < mid → mid < upto → new ≡ joint one other → AreFrom first upto new
+from-join first mid upto one other new mine yours some more is = record {
+  here = λ u low high. ap (λ f. f u) is ∙ (elim (cases_Bool (nat_lt u mid)) [
+    | inl below ↦ or_left (one u) (other u) (mine.here u low (ltb-true u mid below))
+    | inr above ↦ or_right (one u) (other u) (yours.here u (ltb-false u mid above) high)
+  ]);
+  only = λ u has. elim (or_cases (one u) (other u) (sym (ap (λ f. f u) is) ∙ has)) [
+    | inl left ↦ (let was = mine.only u left in (was.0, omega (arith, was.1, more)))
+    | inr right ↦ (let was = yours.only u right in (omega (arith, was.0, some), was.1))
+  ];
+}

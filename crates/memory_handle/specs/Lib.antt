@@ -1,0 +1,4 @@
+pub mod Numbers
+pub mod Handles
+pub mod Accesses
+pub mod Faults
