@@ -46,8 +46,8 @@ extern "C" {
 #define LLSC_MAX_LIMIT (UINT64_C(1) << 62)   /* writes that a class takes: 1 to 2 to the 62 */
 #define LLSC_MAX_GRANULE 8                   /* a row has 8 << granule bytes: 0 to 8 */
 
-/* What calls answer. An answer other than LLSC_DONE is a refusal: but for LLSC_IN_USE the call has then changed nothing, neither in
-   memory nor in a thread nor where its pointers lead. */
+/* What calls answer. An answer other than LLSC_DONE is a refusal: the call has then changed nothing, neither in memory nor in a
+   thread nor where its pointers lead. */
 enum {
     LLSC_DONE = 0,         /* the call is done */
     LLSC_NO_THREAD = 1,    /* there is no thread: it was never opened, or is closed, ended, or taken in by another */
@@ -60,14 +60,13 @@ enum {
     LLSC_USED = 8,         /* the threads may have made accesses (they were joined), and can't be split any more */
     LLSC_APART = 9,        /* the second threads don't come next behind the first */
     LLSC_NOT_ALL = 10,     /* threads of the memory are missing */
-    LLSC_IN_USE = 11,      /* the memory is in use by other threads still, which nobody meets who keeps what is asked below */
+    LLSC_LENGTH = 11,      /* the bytes are not as many as the memory has */
     LLSC_BUSY = 12,        /* another thread is storing in the class of the row: try again */
     LLSC_SPENT = 13,       /* the class of the row has had as many writes as it takes, and takes no more */
     LLSC_NO_MEMORY = 14,   /* `malloc` had none */
     LLSC_THREAD_HERE = 15, /* there is a thread here already, where one is to be put */
     LLSC_SIZE = 16,        /* a number of the memory is out of range: of its bytes, threads, classes, or the limit */
-    LLSC_GRANULE = 17,     /* the granule is out of range */
-    LLSC_LENGTH = 18       /* the bytes are not as many as the memory has */
+    LLSC_GRANULE = 17      /* the granule is out of range */
 };
 
 /* A guest thread, or several that weren't split yet: those with the numbers from one to another. All zeros is none. Any host
@@ -180,8 +179,7 @@ uint32_t llsc_join(llsc_thread *__restrict t, llsc_thread *__restrict next);
 /* Closes a memory, all of whose threads are in `t`: puts its `len` bytes, as they are left, into `bytes`, and frees it. `t` is all
    zeros then.
 
-   Answers LLSC_NO_THREAD, LLSC_NOT_ALL, LLSC_LENGTH. No run that keeps what is asked above meets LLSC_IN_USE, after which `t` is
-   all zeros, with its bytes lost. */
+   Answers LLSC_NO_THREAD, LLSC_NOT_ALL, LLSC_LENGTH. */
 LLSC_PRIVATE_ANSWERS
 uint32_t llsc_close(llsc_thread *__restrict t, uint8_t *__restrict bytes, size_t len);
 

@@ -1,18 +1,12 @@
 -- What a call does with the handle that a struct of C's holds. This project's own.
-use Rattle.std.specs.Prelude.{◌≡◌, ◌⊎◌, ◌+◌, ◌*◌, ◌<◌, ℕ, true, length, slice_index, List, [], Option, Some}
+use Rattle.std.specs.Prelude.{◌≡◌, ◌⊎◌, ◌+◌, ℕ, true, List, [], Option, Some}
 use Rattle.std.specs.Arc.{arc_value}
 use Rattle.llsc_base.specs.Sizes.{Numbers}
-use Rattle.row_bytes.specs.Cell.{bytes_of_cells, cell_at}
-use Rattle.history.specs.Cause.{KeepsLimit}
-use Rattle.history.specs.Legal.{IsComplete}
-use Rattle.history.specs.Monitor.{at_rest_by, monitor_after}
 use Rattle.history.specs.Operation.{load_missed, load_watched}
-use Rattle.history.specs.Parts.{accesses_of}
-use Rattle.history.specs.Steady.{AreSteady}
-use Rattle.shared_memory.specs.Origin.{IsLegalFrom}
 use Rattle.shared_memory.specs.Seen.{IsFront, longer}
 use Rattle.memory_handle.specs.Accesses.{Makes}
 use Rattle.memory_handle.specs.Handles.{SaysAllOfThreads, handle_origin, handle_seen}
+use Rattle.memory_handle.specs.Left.{IsLeft}
 use Rattle.memory_handle.specs.declared.handles.Handle.{Handle}
 
 -- a struct that held a handle holds one still, to which this was done
@@ -74,16 +68,8 @@ pub record IsJoined (old next new : Option Handle) : Type 0 where
   pub says_mine : SaysAllOfThreads both mine
   pub says_yours : SaysAllOfThreads both yours
 
--- a memory was closed: the history of all of its threads was legal and is complete, keeps its limit and was steady where it is said
--- to, and these bytes are what it leaves
+-- a memory was closed: what all of its threads have seen is its whole history, which leaves these bytes
 pub record IsClosed (old : Option Handle) (bytes : List ℕ) : Type 0 where
   pub handle : Handle
-  pub cells : List ℕ
   pub was : old ≡ Some handle
-  pub legal : IsLegalFrom (handle_origin handle) (handle_seen handle)
-  pub complete : IsComplete (handle_seen handle)
-  pub few : (handle_origin handle).spends ≡ true → KeepsLimit (handle_origin handle).size (handle_seen handle)
-  pub steady : (handle_origin handle).steady ≡ true → AreSteady (handle_origin handle).size (handle_seen handle)
-  pub bytes_are : bytes ≡ bytes_of_cells cells
-  pub count : 8 * length cells ≡ (handle_origin handle).size.mem
-  pub cells_are : (i : ℕ) → i < length cells → slice_index cells i ≡ cell_at (monitor_after (at_rest_by (handle_origin handle).size.granule (handle_origin handle).bytes (handle_origin handle).size.threads) (accesses_of (handle_seen handle))).memory i
+  pub left : IsLeft handle bytes

@@ -26,8 +26,8 @@ pub const USED: u32 = 8;
 pub const APART: u32 = 9;
 /// The struct does not hold all threads of its memory.
 pub const NOT_ALL: u32 = 10;
-/// The memory is in use still. No run meets it.
-pub const IN_USE: u32 = 11;
+/// The length is not that of the memory.
+pub const LENGTH: u32 = 11;
 /// A write of the class of the place is in flight.
 pub const BUSY: u32 = 12;
 /// The class of the place has had all of the writes that it takes.
@@ -40,8 +40,6 @@ pub const THREAD_HERE: u32 = 15;
 pub const SIZE: u32 = 16;
 /// The granule is out of its range.
 pub const GRANULE: u32 = 17;
-/// The length is not that of the memory.
-pub const LENGTH: u32 = 18;
 
 /// The number of each answer, as C has it.
 pub fn answers()
@@ -56,14 +54,13 @@ pub fn answers()
     ensures used { USED ≡ 8 }
     ensures apart { APART ≡ 9 }
     ensures not_all { NOT_ALL ≡ 10 }
-    ensures in_use { IN_USE ≡ 11 }
+    ensures length { LENGTH ≡ 11 }
     ensures busy { BUSY ≡ 12 }
     ensures spent { SPENT ≡ 13 }
     ensures no_memory { NO_MEMORY ≡ 14 }
     ensures thread_here { THREAD_HERE ≡ 15 }
     ensures size { SIZE ≡ 16 }
     ensures granule { GRANULE ≡ 17 }
-    ensures length { LENGTH ≡ 18 }
 {}
 
 /// The answer to a misuse.

@@ -4,12 +4,10 @@ ghost use Rattle.llsc_base.specs.Sizes.{numbers, size_fault};
 ghost use Rattle.llsc_c.specs.Answers.{close_answer, end_answer, open_answer};
 ghost use Rattle.llsc_c.specs.Threads.{IsClosed, IsOpened};
 
-use crate::answers::{
-    DONE, GRANULE, IN_USE, LENGTH, NO_MEMORY, NO_THREAD, NOT_ALL, SIZE, THREAD_HERE,
-};
+use crate::answers::{DONE, GRANULE, LENGTH, NO_MEMORY, NO_THREAD, NOT_ALL, SIZE, THREAD_HERE};
 use crate::threads::{Thread, taken, thread_of};
 use llsc_base::MachineSize;
-use memory_handle::{Handle, write_cells};
+use memory_handle::Handle;
 use std::alloc::Global;
 
 /// Makes a memory of these bytes, and all of its threads, which `thread` holds from now on.
@@ -59,14 +57,13 @@ pub extern "C" fn llsc_open(
 /// Closes the memory whose threads `thread` holds all, and writes its bytes as they are left. `thread` holds none then.
 ///
 /// The answer is [`NO_THREAD`] where `thread` holds none, else [`NOT_ALL`] where it doesn't hold all threads of its memory, else
-/// [`LENGTH`] where `bytes` aren't as many as memory has; and else [`DONE`]. [`IN_USE`], which no run meets, is what would be
-/// said of a memory that another thread has still: then the threads have ended.
+/// [`LENGTH`] where `bytes` aren't as many as memory has; and else [`DONE`].
 #[unsafe(no_mangle)]
 pub extern "C" fn llsc_close(alloc: Global, thread: &mut Thread, bytes: &mut [u8]) -> u32
-    ensures answer { let told = close_answer thread.old.held.handle (length bytes.old) in (result ≡ told) ⊎ ((told ≡ DONE) × (result ≡ IN_USE)) }
+    ensures answer { result ≡ close_answer thread.old.held.handle (length bytes.old) }
     ensures closed { result ≡ DONE → IsClosed thread.old.held.handle bytes.new }
-    ensures none { (result ≡ DONE) ⊎ (result ≡ IN_USE) → thread.new.held.handle ≡ None }
-    ensures kept { result ≢ DONE → result ≢ IN_USE → thread.new.held.handle ≡ thread.old.held.handle }
+    ensures none { result ≡ DONE → thread.new.held.handle ≡ None }
+    ensures kept { result ≢ DONE → thread.new.held.handle ≡ thread.old.held.handle }
     ensures bytes { result ≢ DONE → bytes.new ≡ bytes.old }
 {
     let Some(handle) = taken(alloc, thread) else {
@@ -80,12 +77,7 @@ pub extern "C" fn llsc_close(alloc: Global, thread: &mut Thread, bytes: &mut [u8
         *thread = thread_of(handle);
         return LENGTH;
     }
-    let Ok((rows, story)) = Box::into_inner(handle).close() else {
-        return IN_USE;
-    };
-    drop(story);
-    write_cells(&rows, bytes);
-    drop(rows);
+    Box::into_inner(handle).close(bytes);
     DONE
 }
 

@@ -1,6 +1,6 @@
--- Which numbers handles hold that were split, or have taken in others.
+-- Which numbers handles hold that were split, have taken in others, or have all.
 use Rattle.std.proofs.Common.{◌≡◌, ◌≢◌, ◌==◌, ◌&&◌, ◌||◌, inl, inr, not, nat_lt, ℕ, ◌-◌, ◌<◌, ◌≤◌, Bool, true, false, sym, ap, ◌∙◌, arith}
-use Rattle.std.proofs.lemmas.Bool.{and_parts, cases_Bool, eq-eqb, ltb-false, ltb-true, ne_eqb, or_cases, or_left, or_right}
+use Rattle.std.proofs.lemmas.Bool.{and_parts, cases_Bool, eq-eqb, eqb-true, ltb-false, ltb-true, ne_eqb, or_cases, or_left, or_right}
 use Rattle.std.specs.Cmp.Derive.{both_true}
 use Rattle.shared_memory.specs.Seen.{IsOneOf, all_but, joint}
 use Rattle.memory_handle.specs.Numbers.{AreFrom}
@@ -37,3 +37,11 @@ from-join first mid upto one other new mine yours some more is = record {
     | inr right ↦ (let was = yours.only u right in (omega (arith, was.0, some), was.1))
   ];
 }
+
+-- who has all threads has each
+pub from-all : (first upto threads t : ℕ) (numbers : ℕ → Bool) → AreFrom first upto numbers → (first == 0 && upto == threads) ≡ true → t < threads → IsOneOf t numbers
+from-all first upto threads t numbers are all below =
+    let parts = and_parts (first == 0) (upto == threads) all in
+    let low : first ≡ 0 = eqb-true first 0 parts.0 in
+    let high : upto ≡ threads = eqb-true upto threads parts.1 in
+    are.here t (omega (arith, low)) (omega (arith, high, below))

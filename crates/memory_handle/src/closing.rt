@@ -1,19 +1,10 @@
 //! The memory is closed.
-ghost use Rattle.std.specs.Prelude.{◌≡◌, ◌*◌, ◌<◌, ℕ, true, IfOk, IfErr, slice_index, length};
-ghost use Rattle.row_bytes.specs.Cell.{cell_at};
-ghost use Rattle.history.specs.Cause.{KeepsLimit};
-ghost use Rattle.history.specs.Legal.{IsComplete};
-ghost use Rattle.history.specs.Monitor.{at_rest_by, monitor_after};
-ghost use Rattle.history.specs.Parts.{accesses_of};
-ghost use Rattle.history.specs.Steady.{AreSteady};
-ghost use Rattle.shared_memory.specs.Origin.{IsLegalFrom};
-ghost use Rattle.version_memory.specs.Memory.{story_history};
-ghost use Rattle.memory_handle.specs.Handles.{AreAlike, handle_origin, handle_seen, has_all};
+ghost use Rattle.std.specs.Prelude.{◌≡◌, length, true};
+ghost use Rattle.memory_handle.specs.Handles.{handle_origin, has_all};
+ghost use Rattle.memory_handle.specs.Left.{IsLeft};
 
 use crate::handles::Handle;
-use shared_memory::{Rows, SharedMemory};
-use std::sync::Arc;
-use version_memory::VersionStory;
+use shared_memory::SharedMemory;
 
 impl Handle {
     /// Whether the handle has all threads of its memory.
@@ -24,41 +15,25 @@ impl Handle {
         self.first == 0 && self.upto == self.memory.size().threads()
     }
 
-    /// Memory as it is left, cell by cell, and its history, by the handle of all threads (see [`Handle::has_all`]).
-    ///
-    /// # Errors
-    ///
-    /// The handle, as it was, where another has the memory still. Where it has all threads, none has.
-    pub fn close(self) -> Result<(Rows, VersionStory), Handle>
-        requires { has_all self ≡ true }
-        ensures story { IfOk result (λ left. story_history left.1 ≡ handle_seen self) }
-        ensures legal { IfOk result (λ _. IsLegalFrom (handle_origin self) (handle_seen self)) }
-        ensures complete { IfOk result (λ _. IsComplete (handle_seen self)) }
-        ensures few { IfOk result (λ _. (handle_origin self).spends ≡ true → KeepsLimit (handle_origin self).size (handle_seen self)) }
-        ensures steady { IfOk result (λ _. (handle_origin self).steady ≡ true → AreSteady (handle_origin self).size (handle_seen self)) }
-        ensures count { IfOk result (λ left. 8 * length left.0 ≡ (handle_origin self).size.mem) }
-        ensures rows { IfOk result (λ left. (i : ℕ) → i < length left.0 → slice_index left.0 i ≡ cell_at (monitor_after (at_rest_by (handle_origin self).size.granule (handle_origin self).bytes (handle_origin self).size.threads) (accesses_of (handle_seen self))).memory i) }
-        ensures alike { IfErr result (λ handle. AreAlike self handle) }
-        ensures refused { IfErr result (λ handle. handle.pass ≡ self.pass) }
+    /// Closes the memory, by the handle of all threads (see [`Handle::has_all`]), and writes its bytes as they are left. There
+    /// are as many of them as memory has (see [`Handle::mem`]).
+    pub fn close(self, bytes: &mut [u8])
+        requires all { has_all self ≡ true }
+        requires bytes { length bytes.old ≡ (handle_origin self).size.mem }
+        ensures left { IsLeft self bytes.new }
     {
         let Handle {
             memory,
-            pass,
-            first,
-            upto,
+            mut pass,
+            first: _,
+            upto: _,
             mem,
-            fresh,
+            fresh: _,
         } = self;
-        match Arc::try_unwrap(memory) {
-            Ok(memory) => Ok(memory.close(pass)),
-            Err(memory) => Err(Handle {
-                memory,
-                pass,
-                first,
-                upto,
-                mem,
-                fresh,
-            }),
+        for cell in 0..mem / 8 {
+            let at = 8 * cell as usize;
+            let left = memory.cell_left(&mut pass, cell);
+            bytes[at..at + 8].copy_from_slice(&left.to_le_bytes());
         }
     }
 }

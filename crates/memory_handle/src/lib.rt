@@ -3,16 +3,15 @@
 //! [`Handle::open`] makes a memory and the handle that has all of its threads. [`Handle::split`] takes the last thread out of a
 //! handle, so that each thread comes to have a handle of its own, which may go to another host thread. By it the thread makes its
 //! accesses: [`Handle::load`], [`Handle::store`], [`Handle::load_ex`], [`Handle::store_ex`] and [`Handle::clear_ex`], none of
-//! which waits for another thread. At the end [`Handle::join`] puts handles together again, and [`Handle::close`] gives, by the
-//! handle of all threads, the cells that are left, whose bytes [`write_cells`] writes.
+//! which waits for another thread. At the end [`Handle::join`] puts handles together again, and [`Handle::close`] writes, by the
+//! handle of all threads, the bytes that are left.
 //!
 //! Widths, addresses, values and whether a handle may be split are tested at run time: a call that is refused says by a [`Misuse`]
 //! what was wrong, and has changed nothing. `specs/Faults` says when each comes, `specs/Accesses` what has come of an access that
-//! was made, and `specs/Handles` what a handle holds.
+//! was made, `specs/Handles` what a handle holds, and `specs/Left` what is left at the end.
 #![tactic(auto)]
 
 mod accesses;
-mod bytes;
 mod closing;
 mod handles;
 mod misuse;
@@ -20,6 +19,5 @@ mod opening;
 mod parts;
 mod places;
 
-pub use bytes::write_cells;
 pub use handles::Handle;
 pub use misuse::Misuse;

@@ -6,7 +6,8 @@
 //! and `read_ex`, of which `load_ex_cell` is made; `claim_ex`, with which `store_ex_cell` begins, and
 //! `fail_limited`; `fail_absent`, and CLREX as `clear_reservation`. `stamped` has the three looks of a stamped load. `starts` has
 //! `start_child`, and of a thread that waits for its start `know_own` and `look_at_start`. `seats` splits and joins, `making`
-//! makes a memory, and `pauses` says how long a thread waits whose store-exclusives failed.
+//! makes a memory, `leaving` looks at one that all threads have left, and `pauses` says how long a thread waits whose
+//! store-exclusives failed.
 //!
 //! Its calls are in `sharing`, those by which threads start others in `starting`, those that wait for nobody in `now`, and those
 //! of accesses that give their stamps in `stamps`. `specs/Stands` says where an entry stands in what a pass has seen, and what
@@ -15,6 +16,7 @@
 #![tactic(auto)]
 
 mod exclusive;
+mod leaving;
 mod making;
 mod memory;
 mod now;

@@ -3,4 +3,5 @@ pub mod Knowledge
 pub mod StartWords
 pub mod Kept
 pub mod Exact
+pub mod Left
 pub mod Told

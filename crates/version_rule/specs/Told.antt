@@ -1,6 +1,6 @@
 -- What a step tells its caller. This project's own.
 use Rattle.std.specs.Prelude.{◌≡◌, ◌≢◌, ◌*◌, ◌%◌, ◌<◌, ◌≤◌, ℕ, Bool, true, false, List, [], ◌∷◌, ◌++◌}
-use Rattle.llsc_base.specs.Memory.{row_of}
+use Rattle.llsc_base.specs.Memory.{cell_of, row_of}
 use Rattle.row_bytes.specs.Cell.{value_in_cell}
 use Rattle.history.specs.Class.{edges_of}
 use Rattle.history.specs.Started.{is_started}
@@ -16,6 +16,7 @@ use Rattle.version_rule.specs.declared.hands.Doing.TheVariants.{Rest, Claimed, H
 use Rattle.version_rule.specs.declared.hands.Reserve.TheVariants.{Nothing, Row}
 use Rattle.version_rule.specs.Exact.{IsOvertaken, IsSpent, IsUndisturbed, IsVersion}
 use Rattle.version_rule.specs.Hands.{hand, reserve_after}
+use Rattle.version_rule.specs.Left.{IsOver, cell_left}
 
 -- what a seat of such a memory knows
 abbrev pub Mine : Type 0
@@ -173,3 +174,14 @@ known_own q st old n new = Goes q.origin old [] old.0.doing new × (old.0.lead <
 -- a thread looks whether it was started: its word is 1 only where it was
 abbrev pub start_found : Ask → Step (Unit {0}) → Mine → ℕ → Mine → Type 0
 start_found q st old n new = Goes q.origin old [] old.0.doing new × (n ≡ 1 → is_started old.0.lead new.0.seen ≡ true)
+
+-- ---- memory as all threads have left it
+
+-- a seat that holds every number, and has no call in flight, looks at a cell: what it has seen is the whole history, and stays so
+pub record HasFoundLeft (q : Ask) (old : Mine) (cell : ℕ) (new : Mine) : Type 0 where
+  pub same : new ≡ old
+  pub over : IsOver q.origin old.0.seen
+  pub cell_is : cell ≡ cell_left q.origin old.0.seen (cell_of q.place)
+
+abbrev pub left_found : Ask → Step (Unit {0}) → Mine → ℕ → Mine → Type 0
+left_found q st old n new = HasFoundLeft q old n new

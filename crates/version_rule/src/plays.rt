@@ -225,3 +225,14 @@ impl<J: Asks> Play<(), VersionView> for LookAtStart<J> {
 
     ghost then = { start_found J.ask };
 }
+
+/// A seat that holds every number looks at a cell as all threads have left it.
+pub struct LookAtLeft<J> {
+    of: PhantomData<J>,
+}
+
+impl<J: Asks> Play<(), VersionView> for LookAtLeft<J> {
+    ghost use Rattle.version_rule.specs.Told.{left_found};
+
+    ghost then = { left_found J.ask };
+}

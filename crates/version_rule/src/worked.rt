@@ -1,14 +1,15 @@
-//! Worked cases of when a store-exclusive succeeds, when one has lost, when a store is refused, of versions, and of the words of
-//! started threads.
+//! Worked cases of when a store-exclusive succeeds, when one has lost, when a store is refused, of versions, of what all threads
+//! have left, and of the words of started threads.
 //!
 //! Where there is one class, the next row falls into it, and where there are 4096 it doesn't.
 ghost use Rattle.std.specs.Prelude.{◌≡◌, ◌∷◌, [], false, true};
-ghost use Rattle.history.specs.Worked.{beside, cell_before, next_row, wide_machine, word};
+ghost use Rattle.history.specs.Worked.{beside, cell_before, next_row, small_machine, wide_machine, word};
 ghost use Rattle.version_rule.specs.Exact.{IsOvertaken, IsSpent, IsUndisturbed, IsVersion};
+ghost use Rattle.version_rule.specs.Left.{IsOver, cell_left};
 ghost use Rattle.version_rule.specs.StartWords.{start_mark};
-ghost use Rattle.shared_memory.specs.Worked.{limited_machine};
+ghost use Rattle.shared_memory.specs.Worked.{limited_machine, made};
 
-use history::Entry;
+use history::{Cause, Entry};
 
 /// A thread that holds a reservation on the row is undisturbed by load-exclusives of others, by what they write in another class,
 /// and by what becomes of a write that has begun before, as long as the class may take another write.
@@ -82,4 +83,24 @@ pub fn words_of_started_threads()
     ensures later_on { start_mark 2 (Entry.Start 0 2 4096 7 ∷ Entry.Clear 0 ∷ Entry.Start 0 3 4096 7 ∷ []) ≡ 1 }
     ensures another { start_mark 3 (Entry.Start 0 2 4096 7 ∷ []) ≡ 0 }
     ensures starter { start_mark 0 (Entry.Start 0 2 4096 7 ∷ []) ≡ 0 }
+{}
+
+/// A history is over where it is legal, no call is in flight, no class has had more writes than it may have, and each
+/// store-exclusive that has lost has lost to a write of another thread.
+pub fn histories_that_are_over()
+    ensures nothing { IsOver (made (small_machine 1) true) [] }
+    ensures half_a_store { ¬ IsOver (made (small_machine 1) true) (Entry.Begin 0 word ∷ Entry.Write 0 word 5 false ∷ []) }
+    ensures of_nobody { ¬ IsOver (made (small_machine 1) true) (Entry.Clear 2 ∷ []) }
+    ensures past_the_limit { ¬ IsOver (made (small_machine 1) true) (Entry.Begin 0 word ∷ Entry.Write 0 word 5 false ∷ Entry.End 0 word ∷ Entry.Begin 0 word ∷ Entry.Write 0 word 5 false ∷ Entry.End 0 word ∷ []) }
+    ensures lost_to_nobody { ¬ IsOver (made (small_machine 1) true) (Entry.Watch 0 word ∷ Entry.Read 0 word 0 true ∷ Entry.Fail 0 word 9 Cause.Lost ∷ []) }
+{}
+
+/// A cell is left as the stores leave it, its first byte the least significant, and as it was first where there were none.
+#[tactic(auto, unfolding(llsc_base::specs::Memory::row_of, llsc_base::specs::Memory::number_of, llsc_base::specs::Memory::bytes_of))]
+pub fn cells_that_are_left()
+    ensures first { cell_left (made (small_machine 1) true) [] 1 ≡ 0 }
+    ensures stored { cell_left (made (small_machine 1) true) (Entry.Begin 0 word ∷ Entry.Write 0 word 261 false ∷ Entry.End 0 word ∷ []) 1 ≡ 261 }
+    ensures in_the_high_word { cell_left (made (small_machine 1) true) (Entry.Write 0 beside 1 false ∷ []) 1 ≡ 4294967296 }
+    ensures stored_elsewhere { cell_left (made (small_machine 1) true) (Entry.Write 0 next_row 5 false ∷ []) 1 ≡ 0 }
+    ensures stored_last { cell_left (made (small_machine 1) true) (Entry.Write 0 word 5 false ∷ Entry.Write 1 word 6 true ∷ []) 1 ≡ 6 }
 {}

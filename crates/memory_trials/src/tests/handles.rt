@@ -5,7 +5,7 @@ ghost use Rattle.memory_handle.specs.Handles.{AreAlike, handle_origin};
 
 use super::same;
 use super::tried::{MANY, Shape, USUAL, machine};
-use memory_handle::{Handle, Misuse, write_cells};
+use memory_handle::{Handle, Misuse};
 use std::alloc::Global;
 use std::test::Fail;
 use std::thread::{Threads, join};
@@ -49,10 +49,7 @@ fn left_by(alloc: Global, mut one: Handle, other: Handle) -> Result<Vec<u8>, Fai
     if !one.has_all() {
         return Err(Fail::from("has all"));
     }
-    let Ok((rows, _story)) = one.close() else {
-        return Err(Fail::from("closes"));
-    };
-    write_cells(&rows, bytes.as_mut_slice());
+    one.close(bytes.as_mut_slice());
     Ok(bytes)
 }
 

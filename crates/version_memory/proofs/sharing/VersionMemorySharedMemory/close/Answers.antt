@@ -1,7 +1,7 @@
 use Rattle.std.proofs.Common.{◌≡◌, ◌+◌, ◌/◌, ◌<◌, ℕ, List, length, take, drop, slice_index, ap, ◌∙◌, length-take, arith}
 use Rattle.std.specs.Mem.Slots.{slots_items}
 use Rattle.llsc_base.specs.Sizes.{Numbers}
-use Rattle.version_rule.proofs.Closing.{complete-closed, few-closed, legal-closed, rows-closed, steady-closed}
+use Rattle.version_rule.proofs.Closing.{cells-closed, over-closed}
 use Rattle.shared_memory.proofs.Closing.{part-at}
 use Rattle.version_memory.proofs.sharing.VersionMemorySharedMemory.close.Goals as goal
 
@@ -9,20 +9,20 @@ pub new-rows-requires-clause-none : goal.new-rows-requires-clause-none
 new-rows-requires-clause-none c = c.close_with-closed.ensures.counts.1 ∙ c.args.self.made.slotless
 
 pub returns-clause-legal : goal.returns-clause-legal
-returns-clause-legal c = legal-closed c.args.self.table.shared.key (slots_items c.close_with-closed.result.words) (slots_items c.close_with-closed.result.slots) c.args.pass.seat.id c.args.pass.seat.me.0
-    c.requires.all c.args.pass.between.rest c.close_with-closed.ensures.values.2
+returns-clause-legal c = (over-closed c.args.self.table.shared.key (slots_items c.close_with-closed.result.words) (slots_items c.close_with-closed.result.slots) c.args.pass.seat.id c.args.pass.seat.me.0
+    c.requires.all c.args.pass.between.rest c.close_with-closed.ensures.values.2).legal
 
 pub returns-clause-complete : goal.returns-clause-complete
-returns-clause-complete c = complete-closed c.args.self.table.shared.key (slots_items c.close_with-closed.result.words) (slots_items c.close_with-closed.result.slots) c.args.pass.seat.id c.args.pass.seat.me.0
-    c.requires.all c.args.pass.between.rest c.close_with-closed.ensures.values.2
+returns-clause-complete c = (over-closed c.args.self.table.shared.key (slots_items c.close_with-closed.result.words) (slots_items c.close_with-closed.result.slots) c.args.pass.seat.id c.args.pass.seat.me.0
+    c.requires.all c.args.pass.between.rest c.close_with-closed.ensures.values.2).complete
 
 pub returns-clause-few : goal.returns-clause-few
-returns-clause-few c spends = few-closed c.args.self.table.shared.key (slots_items c.close_with-closed.result.words) (slots_items c.close_with-closed.result.slots) c.args.pass.seat.id c.args.pass.seat.me.0
-    c.requires.all c.args.pass.between.rest c.close_with-closed.ensures.values.2
+returns-clause-few c spends = (over-closed c.args.self.table.shared.key (slots_items c.close_with-closed.result.words) (slots_items c.close_with-closed.result.slots) c.args.pass.seat.id c.args.pass.seat.me.0
+    c.requires.all c.args.pass.between.rest c.close_with-closed.ensures.values.2).few
 
 pub returns-clause-steady : goal.returns-clause-steady
-returns-clause-steady c steady = steady-closed c.args.self.table.shared.key (slots_items c.close_with-closed.result.words) (slots_items c.close_with-closed.result.slots) c.args.pass.seat.id c.args.pass.seat.me.0
-    c.requires.all c.args.pass.between.rest c.close_with-closed.ensures.values.2
+returns-clause-steady c steady = (over-closed c.args.self.table.shared.key (slots_items c.close_with-closed.result.words) (slots_items c.close_with-closed.result.slots) c.args.pass.seat.id c.args.pass.seat.me.0
+    c.requires.all c.args.pass.between.rest c.close_with-closed.ensures.values.2).steady
 
 pub returns-clause-rows : goal.returns-clause-rows
 returns-clause-rows c i h =
@@ -38,4 +38,4 @@ returns-clause-rows c i h =
     ap (λ (xs : List ℕ). slice_index xs i) rows
     ∙ part-at items first count i below
     ∙ ap (λ (n : ℕ). slice_index items (1 + n + i)) classes
-    ∙ rows-closed key items (slots_items c.close_with-closed.result.slots) c.args.pass.seat.id c.args.pass.seat.me.0 c.requires.all c.args.pass.between.rest c.close_with-closed.ensures.values.2 i within
+    ∙ cells-closed key items (slots_items c.close_with-closed.result.slots) c.args.pass.seat.id c.args.pass.seat.me.0 c.requires.all c.args.pass.between.rest c.close_with-closed.ensures.values.2 i within
