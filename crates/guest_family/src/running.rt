@@ -9,9 +9,10 @@ ghost use Rattle.guest_thread.specs.Begun.{stock_of};
 ghost use Rattle.guest_family.specs.Next.{HasNoneLeft, IsAligned, IsNext, after_answer, refusal_of};
 ghost use Rattle.guest_family.specs.UnderWay.{HasEnded, IsUnderWay};
 
+use crate::pieces::go_on;
 use a32_step::{Conditional, Cpu};
 use guest_core::Code;
-use guest_thread::{Finished, Part, Paused, go_on};
+use guest_thread::{Finished, Part, Paused};
 use shared_memory::StartMemory;
 use std::sync::Wait;
 
