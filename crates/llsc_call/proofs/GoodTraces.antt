@@ -13,7 +13,7 @@ use Rattle.guest_machine.specs.Turns.{Takes, begins, makes, stops, IsTrace}
 use Rattle.guest_thread.specs.Accesses.{access_by, monitor_of}
 use Rattle.guest_machine.proofs.AllEnded.{all_ended}
 use Rattle.guest_machine.proofs.Pushed.{made_by}
-use Rattle.run_checker.specs.Verdict.{fits, is_asked, is_load, AreRight, AsksNext, HasWrongValue, IsRight, Judges, LacksReservation, good}
+use Rattle.run_checker.specs.Verdict.{fits, is_asked, is_load, AreRight, AsksNext, HasWrongValue, IsRight, Judges, LacksMark, good}
 use Rattle.run_checker.specs.declared.verdicts.Verdict.TheVariants as verdict
 use Rattle.run_checker.proofs.OwnAsks.{same_place, same_store}
 use Rattle.run_checker.proofs.Right.{right_none, right_push}
@@ -50,7 +50,7 @@ value_by monitor t (StoreEx place value) wrong = exclusive (is_on (row_of monito
 value_by monitor t Clear wrong = let load : false ≡ true = wrong.0 in cc
 
 -- and its thread is marked on the row, where it is a store-exclusive that stores
-reserved_by : (monitor : Monitor) (t : ℕ) (ask : Ask) → LacksReservation monitor (access_by monitor t ask) → ⊥
+reserved_by : (monitor : Monitor) (t : ℕ) (ask : Ask) → LacksMark monitor (access_by monitor t ask) → ⊥
 reserved_by monitor t (Load place) lacks = let stores : deed.Load ≡ deed.StoreEx = lacks.0 in cc
 reserved_by monitor t (LoadEx place) lacks = let stores : deed.LoadEx ≡ deed.StoreEx = lacks.0 in cc
 reserved_by monitor t (Store place value) lacks = let stores : deed.Store ≡ deed.StoreEx = lacks.0 in cc

@@ -13,7 +13,7 @@ use Rattle.guest_thread.specs.ThreadState.{ThreadStateOf, thread_in}
 use Rattle.guest_thread.specs.Start.{thread_start}
 use Rattle.guest_thread.specs.Under.{HasCome, Awaits}
 use Rattle.guest_thread.specs.Accesses.{monitor_of}
-use Rattle.run_checker.specs.Verdict.{is_asked, AsksNext, HasWrongValue, LacksReservation}
+use Rattle.run_checker.specs.Verdict.{is_asked, AsksNext, HasWrongValue, LacksMark}
 use Rattle.run_checker.specs.Serving.{IsServed}
 use Rattle.run_checker.specs.Positions.{BringsOn}
 use Rattle.run_checker.proofs.AskedPairs.{asked_pair}
@@ -34,7 +34,7 @@ module _ {I S : Type 0} (set : InstructionSet I S) {C : Type 0} (machine : C →
       next = next;
       asked = as_asked;
       value = λ has. served.value (subst (λ m. HasWrongValue m access) (sym was) has);
-      reserved = λ lacks. served.reserved (subst (λ m. LacksReservation m access) (sym was) lacks);
+      reserved = λ lacks. served.reserved (subst (λ m. LacksMark m access) (sym was) lacks);
     };
     brought =
         let start = thread_start set program size size.threads access.thread in

@@ -49,8 +49,8 @@ is_load _ = false
 abbrev pub HasWrongValue : Monitor → Access → Type 0
 HasWrongValue monitor access = (is_load access.deed ≡ true) × (access.value ≢ value_at monitor.memory access.place)
 
-abbrev pub LacksReservation : Monitor → Access → Type 0
-LacksReservation monitor access =
+abbrev pub LacksMark : Monitor → Access → Type 0
+LacksMark monitor access =
     (access.deed ≡ deed.StoreEx) × (is_on (row_of monitor.granule access.place) (marked_row monitor access.thread) ≡ false)
 
 module _ {I S : Type 0} (set : InstructionSet I S) where
@@ -64,7 +64,7 @@ module _ {I S : Type 0} (set : InstructionSet I S) where
     pub next : AsksNext program size budget before access.thread ask
     pub asked : is_asked ask access ≡ true
     pub value : HasWrongValue (monitor_of program size before) access → ⊥
-    pub reserved : LacksReservation (monitor_of program size before) access → ⊥
+    pub reserved : LacksMark (monitor_of program size before) access → ⊥
 
   -- Why an access is wrong, the reasons tried in this order: its thread has ended; its thread asks something else next; it
   -- is what its thread asks next, but has a wrong value; or it is, but stores without a reservation.
@@ -75,7 +75,7 @@ module _ {I S : Type 0} (set : InstructionSet I S) where
   IsWrong program size budget before access reason.WrongValue =
       (ask : Ask) × (AsksNext program size budget before access.thread ask × (is_asked ask access ≡ true) × HasWrongValue (monitor_of program size before) access)
   IsWrong program size budget before access reason.NoReservation =
-      (ask : Ask) × (AsksNext program size budget before access.thread ask × (is_asked ask access ≡ true) × LacksReservation (monitor_of program size before) access)
+      (ask : Ask) × (AsksNext program size budget before access.thread ask × (is_asked ask access ≡ true) × LacksMark (monitor_of program size before) access)
   IsWrong program size budget before access reason.Unfinished = ⊥
 
   -- each access of a list is right where it stands

@@ -1,6 +1,6 @@
 //! Worked cases of what an access is compared with, what its thread asks and memory, and the names of reasons.
 ghost use Rattle.std.specs.Prelude.{◌≡◌, ◌∷◌, [], codes, false, true};
-ghost use Rattle.run_checker.specs.Verdict.{HasWrongValue, LacksReservation, is_asked, is_load, is_place, reason_name};
+ghost use Rattle.run_checker.specs.Verdict.{HasWrongValue, LacksMark, is_asked, is_load, is_place, reason_name};
 ghost use Rattle.run_checker.specs.Worked.{access_as, beside, low_byte, next_row, word, zeros_after};
 
 use crate::verdicts::Reason;
@@ -79,16 +79,16 @@ pub fn wrong_values()
     ensures store { ¬ HasWrongValue (zeros_after 0 []) (access_as Deed.Store word 5) }
 {}
 
-/// A store-exclusive that stored lacks its reservation where its thread isn't marked on the row, whose width is by the
+/// A store-exclusive that stored lacks its mark where its thread isn't marked on the row, whose width is by the
 /// granule; one that failed and a plain store need none.
-pub fn reservations_that_are_lacking()
-    ensures unmarked { LacksReservation (zeros_after 0 []) (access_as Deed.StoreEx word 5) }
-    ensures marked_elsewhere { LacksReservation (zeros_after 0 (Entry.Read 0 next_row 0 true ∷ [])) (access_as Deed.StoreEx word 5) }
-    ensures marked { ¬ LacksReservation (zeros_after 0 (Entry.Read 0 word 0 true ∷ [])) (access_as Deed.StoreEx word 5) }
-    ensures marked_beside { ¬ LacksReservation (zeros_after 0 (Entry.Read 0 beside 0 true ∷ [])) (access_as Deed.StoreEx word 5) }
-    ensures wider_row { ¬ LacksReservation (zeros_after 1 (Entry.Read 0 next_row 0 true ∷ [])) (access_as Deed.StoreEx word 5) }
-    ensures failed { ¬ LacksReservation (zeros_after 0 []) (access_as Deed.StoreFail word 5) }
-    ensures plain { ¬ LacksReservation (zeros_after 0 []) (access_as Deed.Store word 5) }
+pub fn marks_that_are_lacking()
+    ensures unmarked { LacksMark (zeros_after 0 []) (access_as Deed.StoreEx word 5) }
+    ensures marked_elsewhere { LacksMark (zeros_after 0 (Entry.Read 0 next_row 0 true ∷ [])) (access_as Deed.StoreEx word 5) }
+    ensures marked { ¬ LacksMark (zeros_after 0 (Entry.Read 0 word 0 true ∷ [])) (access_as Deed.StoreEx word 5) }
+    ensures marked_beside { ¬ LacksMark (zeros_after 0 (Entry.Read 0 beside 0 true ∷ [])) (access_as Deed.StoreEx word 5) }
+    ensures wider_row { ¬ LacksMark (zeros_after 1 (Entry.Read 0 next_row 0 true ∷ [])) (access_as Deed.StoreEx word 5) }
+    ensures failed { ¬ LacksMark (zeros_after 0 []) (access_as Deed.StoreFail word 5) }
+    ensures plain { ¬ LacksMark (zeros_after 0 []) (access_as Deed.Store word 5) }
 {}
 
 /// Each reason has its variant's name.

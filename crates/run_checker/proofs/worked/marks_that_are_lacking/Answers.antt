@@ -1,6 +1,6 @@
 use Rattle.std.proofs.Common.{◌≡◌, true, false, refl}
 use Rattle.llsc_base.specs.Memory.{row_of}
-use Rattle.run_checker.proofs.worked.reservations_that_are_lacking.Goals as goal
+use Rattle.run_checker.proofs.worked.marks_that_are_lacking.Goals as goal
 
 pub returns-clause-marked_elsewhere : goal.returns-clause-marked_elsewhere
 unfolding row_of
