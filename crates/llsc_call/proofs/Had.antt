@@ -50,7 +50,7 @@ stands (Pool name format size workers slice budget) file = program_refusal forma
 stands (Record name format size budget) file = program_refusal format size file
 stands (Assemble name format) file = text_refusal file
 stands (Disassemble name format mem) file = program_refusal format (solo_size mem) file
-stands (Trace name format threads mem granule seed budget) file = program_refusal format (machine_of threads mem granule) file
+stands (Trace name format threads mem granule seed budget) file = program_refusal format (machine_of mem threads granule) file
 stands (Check name recorded format mem) file = too_long most_program file
 stands (Load seed threads rounds budget) file = None
 
@@ -82,7 +82,7 @@ refused_first held (Assemble name format) file against may is =
 refused_first held (Disassemble name format mem) file against may is =
     (file ∷ [], ((may, tt), (refl, is_refused (program_refusal format (solo_size mem) file) (record { status = 0; text = disassembly (image_of format file (solo_size mem)) }) against is)))
 refused_first held (Trace name format threads mem granule seed budget) file against may is =
-    let size = machine_of threads mem granule in
+    let size = machine_of mem threads granule in
     (file ∷ [], ((may, tt), (refl, unless_refused (Traces (image_of format file size) size seed budget) (program_refusal format size file) against is)))
 refused_first held (Check name recorded format mem) file against may is =
     let other = held_bytes (held recorded) in (
@@ -117,7 +117,7 @@ refused_barred held (Disassemble name format mem) against is =
     refused_first held (Disassemble name format mem) file against (are_held (held name)) (unsized A32 format (solo_size mem) file against is)
 refused_barred held (Trace name format threads mem granule seed budget) against is =
     let file = held_bytes (held name) in
-    refused_first held (Trace name format threads mem granule seed budget) file against (are_held (held name)) (unsized A32 format (machine_of threads mem granule) file against is)
+    refused_first held (Trace name format threads mem granule seed budget) file against (are_held (held name)) (unsized A32 format (machine_of mem threads granule) file against is)
 refused_barred held (Assemble name format) against is = absurd cc
 refused_barred held (Check name recorded format mem) against is = absurd cc
 refused_barred held (Load seed threads rounds budget) against is = absurd cc
@@ -188,7 +188,7 @@ first_unread host old new (Disassemble name format mem) f none read =
 first_unread host old new (Trace name format threads mem granule seed budget) f none read =
     let asked : Request = Trace name format threads mem granule seed budget in
     one_unread host old new asked name most_program f (refl, none)
-    (λ may. refused_first (host.file old) asked may.0 (codes "FileTooLong") may.1.0 (long A32 format (machine_of threads mem granule) may.0 none may.1.1)) read
+    (λ may. refused_first (host.file old) asked may.0 (codes "FileTooLong") may.1.0 (long A32 format (machine_of mem threads granule) may.0 none may.1.1)) read
 first_unread host old new (Check name recorded format mem) f none read =
     let asked : Request = Check name recorded format mem in
     one_unread host old new asked name most_program f (inl refl)

@@ -95,7 +95,7 @@ judged_one program size run status other text more a b =
 read_one : (format : Format) (mem : ℕ) (file : List ℕ) (read : Result RunRecord RecordFault) → AreOne (JudgesRead format mem file read)
 read_one format mem file (Err fault) = λ status other text more a b. (a.0 ∙ sym b.0, a.1 ∙ sym b.1)
 read_one format mem file (Ok run) =
-    let size = machine_of run.threads mem run.granule in
+    let size = machine_of mem run.threads run.granule in
     unless_one (IsJudged (image_of format file size) size run) (program_refusal format size file) (judged_one (image_of format file size) size run)
 
 -- a run, by its history
@@ -178,7 +178,7 @@ answers_one (Record name format size budget) files story plain = absurd (let e :
 answers_one (Assemble name format) (file ∷ []) story plain = untold_one (is_one (asm_answer format file))
 answers_one (Disassemble name format mem) (file ∷ []) story plain = untold_one (is_one (dis_answer format mem file))
 answers_one (Trace name format threads mem granule seed budget) (file ∷ []) story plain =
-    let size = machine_of threads mem granule in
+    let size = machine_of mem threads granule in
     untold_one (unless_one (Traces (image_of format file size) size seed budget) (program_refusal format size file) (trace_one (image_of format file size) size seed budget))
 answers_one (Check name second format mem) (file ∷ recorded ∷ []) story plain =
     untold_one (unless_one (JudgesRead format mem file (record_of recorded)) (files_refusal file recorded) (read_one format mem file (record_of recorded)))

@@ -77,7 +77,7 @@ IsDue held (Pool file format size workers slice budget) name = (name ≡ file) �
 IsDue held (Record file format size budget) name = (name ≡ file) × (size_refusal size ≡ None)
 IsDue held (Assemble file format) name = name ≡ file
 IsDue held (Disassemble file format mem) name = (name ≡ file) × (size_refusal (solo_size mem) ≡ None)
-IsDue held (Trace file format threads mem granule seed budget) name = (name ≡ file) × (size_refusal (machine_of threads mem granule) ≡ None)
+IsDue held (Trace file format threads mem granule seed budget) name = (name ≡ file) × (size_refusal (machine_of mem threads granule) ≡ None)
 IsDue held (Check file recorded format mem) name =
     (name ≡ file) ⊎ ((name ≡ recorded) × ((bytes : List ℕ) × (AreBytes (held file) bytes × (too_long most_program bytes ≡ None))))
 IsDue held (Load seed threads rounds budget) name = ⊥

@@ -50,7 +50,7 @@ IsJudged program size run status text =
 -- fault there
 abbrev pub JudgesRun : Format → ℕ → List ℕ → RunRecord → ℕ → List ℕ → Type 0
 JudgesRun format mem file run status text =
-    let size = machine_of run.threads mem run.granule in
+    let size = machine_of mem run.threads run.granule in
     Unless (program_refusal format size file) (IsJudged (image_of format file size) size run) status text
 
 -- a record's fault is refused before anything that the program has

@@ -44,7 +44,7 @@ machine_wanted (Run file format set first spare size budget) = Some size
 machine_wanted (Pool file format size workers slice budget) = Some size
 machine_wanted (Record file format size budget) = Some size
 machine_wanted (Disassemble file format mem) = Some (solo_size mem)
-machine_wanted (Trace file format threads mem granule seed budget) = Some (machine_of threads mem granule)
+machine_wanted (Trace file format threads mem granule seed budget) = Some (machine_of mem threads granule)
 machine_wanted _ = None
 
 -- what stands against a request before its files are read: that there is no such machine

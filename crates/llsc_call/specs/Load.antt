@@ -21,7 +21,7 @@ use Rattle.a32_step.specs.Machine.{a32}
 
 -- the machine of so many threads on which a load runs
 abbrev pub load_size : ℕ → Numbers
-load_size threads = machine_of threads default_mem 0
+load_size threads = machine_of default_mem threads 0
 
 -- the program of a load on that machine
 abbrev pub load_program : (seed threads rounds : ℕ) → Program

@@ -31,5 +31,5 @@ Traces program size seed budget status text =
 -- file
 abbrev pub AnswersTrace : Format → (threads mem granule seed budget : ℕ) → List ℕ → ℕ → List ℕ → Type 0
 AnswersTrace format threads mem granule seed budget file status text =
-    let size = machine_of threads mem granule in
+    let size = machine_of mem threads granule in
     Unless (program_refusal format size file) (Traces (image_of format file size) size seed budget) status text

@@ -32,13 +32,13 @@ fn machine_named(request: Request<'_>) -> Option<MachineNumbers>
 {
     match request {
         Request::Solo { mem, .. } | Request::Disassemble { mem, .. } => {
-            Some(numbers_of(1, mem, LEAST_GRANULE))
+            Some(numbers_of(mem, 1, LEAST_GRANULE))
         }
         Request::Run { numbers, .. } => Some(numbers.whole_machine()),
         Request::Pool { numbers, .. } => Some(numbers.machine),
         Request::Record { numbers, .. } => Some(numbers.machine),
         Request::Trace { numbers, .. } => {
-            Some(numbers_of(numbers.threads, numbers.mem, numbers.granule))
+            Some(numbers_of(numbers.mem, numbers.threads, numbers.granule))
         }
         Request::Assemble { .. } | Request::Check { .. } | Request::Load { .. } => None,
     }

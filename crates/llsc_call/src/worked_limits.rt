@@ -8,7 +8,7 @@ ghost use Rattle.llsc_files.specs.Refusals.{machine_of, most_program, solo_size,
 /// A machine has 4096 classes, of 4,611,686,018,427,387,904 writes each; that of `solo` has one thread and rows of eight bytes,
 /// and that of `load` so many bytes and rows of eight bytes.
 pub fn machines_of_commands()
-    ensures machine { machine_of 3 65536 5 ≡ record { mem = 65536; threads = 3; classes = 4096; limit = 4611686018427387904; granule = 5 } }
+    ensures machine { machine_of 65536 3 5 ≡ record { mem = 65536; threads = 3; classes = 4096; limit = 4611686018427387904; granule = 5 } }
     ensures solo { solo_size 69632 ≡ record { mem = 69632; threads = 1; classes = 4096; limit = 4611686018427387904; granule = 0 } }
     ensures load { load_size 7 ≡ record { mem = 1048576; threads = 7; classes = 4096; limit = 4611686018427387904; granule = 0 } }
 {}

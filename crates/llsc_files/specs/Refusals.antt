@@ -30,12 +30,12 @@ most_program = 33554432
 
 -- the machine of so many threads with so much memory and rows of this granule: 4096 classes, and writes without a bound that
 -- a run could reach
-abbrev pub machine_of : (threads mem granule : ℕ) → Numbers
-machine_of threads mem granule = record (numbers mem threads 4096 (2 ^ 62)) { granule = granule }
+abbrev pub machine_of : (mem threads granule : ℕ) → Numbers
+machine_of mem threads granule = record (numbers mem threads 4096 (2 ^ 62)) { granule = granule }
 
 -- the machine of one thread, with rows of eight bytes
 abbrev pub solo_size : ℕ → Numbers
-solo_size mem = machine_of 1 mem 0
+solo_size mem = machine_of mem 1 0
 
 -- what stands against a file of more bytes than so many: its length
 abbrev pub too_long : ℕ → List ℕ → Option (List ℕ)

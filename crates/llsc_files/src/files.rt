@@ -16,17 +16,17 @@ use std::alloc::Global;
 /// The number of the least granule, by which a row has eight bytes.
 pub const LEAST_GRANULE: u64 = 0;
 
-/// The numbers of a machine of so many threads, with so much memory and rows of this granule; its classes and their writes
-/// are those of a run where none are given.
-pub fn numbers_of(threads: u64, mem: u64, granule: u64) -> MachineNumbers
-    ensures { machine_by result ≡ machine_of threads mem granule }
+/// The numbers of a machine with so much memory, so many threads, and rows of this granule; its classes and their writes are
+/// those of a run where none are given.
+pub fn numbers_of(mem: u64, threads: u64, granule: u64) -> MachineNumbers
+    ensures { machine_by result ≡ machine_of mem threads granule }
 {
     MachineNumbers {
-        threads,
         mem,
-        granule,
+        threads,
         classes: RUN_CLASSES,
         limit: RUN_LIMIT,
+        granule,
     }
 }
 

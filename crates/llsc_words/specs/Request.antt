@@ -170,15 +170,15 @@ abbrev pub machine_by : MachineNumbers → Numbers
 machine_by n = record (numbers n.mem n.threads n.classes n.limit) { granule = n.granule }
 
 -- the machine that a run, a pool or a record asks for, with the threads that begin by themselves
-abbrev pub machine_of : (threads mem granule classes limit : Option ℕ) → Option MachineNumbers
-machine_of (Some threads) (Some mem) (Some granule) (Some classes) (Some limit) =
-    Some (record { threads = threads; mem = mem; granule = granule; classes = classes; limit = limit })
+abbrev pub machine_of : (mem threads classes limit granule : Option ℕ) → Option MachineNumbers
+machine_of (Some mem) (Some threads) (Some classes) (Some limit) (Some granule) =
+    Some (record { mem = mem; threads = threads; classes = classes; limit = limit; granule = granule })
 machine_of _ _ _ _ _ = None
 
 abbrev pub machine_for : Given → Option MachineNumbers
 machine_for given =
-    machine_of (number_or run_threads given.threads) (number_or default_mem given.mem) (number_or run_granule given.granule)
-    (number_or run_classes given.classes) (number_or run_limit given.limit)
+    machine_of (number_or default_mem given.mem) (number_or run_threads given.threads) (number_or run_classes given.classes)
+    (number_or run_limit given.limit) (number_or run_granule given.granule)
 
 -- the threads of a run's machine are those that begin by themselves and those that each of them may start, whatever number that is
 abbrev pub run_by : Option (List ℕ) → Format → SetName → Option MachineNumbers → (spare budget : Option ℕ) → Option Request

@@ -58,11 +58,11 @@ fn machine(given: &Given) -> Option<MachineNumbers>
     ensures { result ≡ machine_for (seen given.now) }
 {
     Some(MachineNumbers {
-        threads: number_or(RUN_THREADS, given.threads)?,
         mem: number_or(DEFAULT_MEM, given.mem)?,
-        granule: number_or(RUN_GRANULE, given.granule)?,
+        threads: number_or(RUN_THREADS, given.threads)?,
         classes: number_or(RUN_CLASSES, given.classes)?,
         limit: number_or(RUN_LIMIT, given.limit)?,
+        granule: number_or(RUN_GRANULE, given.granule)?,
     })
 }
 

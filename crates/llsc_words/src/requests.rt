@@ -6,19 +6,19 @@ ghost use Rattle.llsc_words.specs.Request.{machine_by, size_of_run};
 use crate::formats::Format;
 use crate::sets::SetName;
 
-/// The numbers that make a machine.
+/// The numbers that make a machine, in the order of `MachineSize`'s.
 #[derive(Clone, Copy)]
 pub struct MachineNumbers {
-    /// The guest threads.
-    pub threads: u64,
     /// The bytes of memory.
     pub mem: u64,
-    /// The number of the granule, by which rows have their width.
-    pub granule: u64,
+    /// The guest threads.
+    pub threads: u64,
     /// The classes that rows are dealt out to.
     pub classes: u64,
     /// The most writes of a class, for a memory that counts them.
     pub limit: u64,
+    /// The number of the granule, by which rows have their width.
+    pub granule: u64,
 }
 
 /// The numbers of a run.

@@ -62,7 +62,7 @@ split_pairs before after access =
     ∙ pairs_parts access.thread (history_of before) (entry_of access ∷ history_of after)
     ∙ ap (λ l. pairs_in access.thread before ++ l) (first_by access.deed access.thread access.place access.value (history_of after))
 
--- ---- what Arm allows has the right value, and a reservation
+-- ---- what Arm allows has the right value, and a mark
 
 known_by : (monitor : Monitor) (made : Deed) (thread : ℕ) (place : Place) (value : ℕ) → MayAccess monitor (entry_by made thread place value) → thread < length monitor.marks
 known_by monitor deed.Load thread place value may = may.0.known

@@ -67,7 +67,7 @@ module _ {I S : Type 0} (set : InstructionSet I S) where
     pub reserved : LacksMark (monitor_of program size before) access → ⊥
 
   -- Why an access is wrong, the reasons tried in this order: its thread has ended; its thread asks something else next; it
-  -- is what its thread asks next, but has a wrong value; or it is, but stores without a reservation.
+  -- is what its thread asks next, but has a wrong value; or it is, but stores where its thread has no mark.
   abbrev pub IsWrong : Program → Numbers → ℕ → List Access → Access → Reason → Type 0
   IsWrong program size budget before access reason.AfterStop = HasEnded set program size budget before access.thread
   IsWrong program size budget before access reason.NotAsked =

@@ -47,7 +47,7 @@ fn judge_file(alloc: Global, format: Format, mem: u64, file: Vec<u8>, run: &RunR
     requires record_ { IsRecord run.now }
     ensures { Gives (JudgesRun format mem file.items run.now) result }
 {
-    let numbers = numbers_of(u64::from(run.threads), mem, u64::from(run.granule));
+    let numbers = numbers_of(mem, u64::from(run.threads), u64::from(run.granule));
     match load(alloc, numbers, format, file) {
         Ok(loaded) => judge(alloc, &loaded.size, &loaded.image, run),
         Err(refusal) => Outcome::from(refusal),

@@ -15,7 +15,7 @@ pub fn outcome(alloc: Global, format: Format, mem: u64, file: Vec<u8>) -> Outcom
     requires { too_long most_program file.items ≡ None }
     ensures { Gives (AnswersDis format mem file.items) result }
 {
-    let numbers = numbers_of(1, mem, LEAST_GRANULE);
+    let numbers = numbers_of(mem, 1, LEAST_GRANULE);
     let loaded = match load(alloc, numbers, format, file) {
         Ok(loaded) => loaded,
         Err(refusal) => return Outcome::from(refusal),

@@ -79,7 +79,7 @@ fn prepare(alloc: Global, numbers: &LoadNumbers) -> Result<Loaded, Refusal>
     ensures loaded { IfOk result (IsPrepared numbers.now.seed numbers.now.threads numbers.now.rounds) }
     ensures refused { IfErr result (IsRefusal (load_refusal numbers.now.threads numbers.now.rounds)) }
 {
-    let machine_numbers = numbers_of(numbers.threads, DEFAULT_MEM, LEAST_GRANULE);
+    let machine_numbers = numbers_of(DEFAULT_MEM, numbers.threads, LEAST_GRANULE);
     let size = machine(alloc, machine_numbers)?;
     let unit = unit(alloc, numbers)?;
     let Ok(image) = image_of(alloc, &unit, &size) else {

@@ -33,7 +33,7 @@ pub fn outcome(alloc: Global, format: Format, mem: u64, budget: u64, file: Vec<u
     requires short { too_long most_program file.items ≡ None }
     ensures { Gives (AnswersSolo format mem budget file.items) result }
 {
-    let numbers = numbers_of(1, mem, LEAST_GRANULE);
+    let numbers = numbers_of(mem, 1, LEAST_GRANULE);
     match load(alloc, numbers, format, file) {
         Ok(loaded) => run(alloc, &loaded.size, &loaded.image, budget),
         Err(refusal) => Outcome::from(refusal),

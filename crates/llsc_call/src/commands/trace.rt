@@ -49,7 +49,7 @@ pub fn outcome(alloc: Global, format: Format, numbers: TraceNumbers, file: Vec<u
     requires short { too_long most_program file.items ≡ None }
     ensures { Gives (AnswersTrace format numbers.threads numbers.mem numbers.granule numbers.seed numbers.budget file.items) result }
 {
-    let machine = numbers_of(numbers.threads, numbers.mem, numbers.granule);
+    let machine = numbers_of(numbers.mem, numbers.threads, numbers.granule);
     match load(alloc, machine, format, file) {
         Ok(loaded) => run(
             alloc,
