@@ -11,7 +11,11 @@ use guest_core::Ready;
 pub struct Conditional {
     pub cond: Cond,
     pub instr: Instr,
+    /// Nothing. With its address of four bytes an instruction so has 32, and its slot is found by a shift.
+    fill: [u32; 2],
 }
+
+const _: () = prove!(size_of::<Conditional>() == 28);
 
 impl Ready for Conditional {
     ghost use Rattle.std.specs.Prelude.{◌≡◌};
@@ -31,6 +35,7 @@ impl Ready for Conditional {
         Conditional {
             cond: Cond::ALWAYS,
             instr: Instr::Nop { cond: Cond::ALWAYS },
+            fill: [0, 0],
         }
     }
 
@@ -41,6 +46,7 @@ impl Ready for Conditional {
         Some(Conditional {
             cond: condition(&instr),
             instr,
+            fill: [0, 0],
         })
     }
 
