@@ -9,7 +9,7 @@ use Rattle.a32_asm.specs.Lines.{lines_of, label_of, is_ascii, before_comment, he
 use Rattle.a32_asm.specs.Layout.{Layout, next_spot, line_size, may_stand}
 use Rattle.a32_asm.specs.Statements.{Piece, piece_of, line_piece}
 use Rattle.a32_asm.specs.Assembled.{Before, first, site_of, is_known, is_too_long, first_fault, behind_line, outcome, added, followed, unit_from, most_text}
-use Rattle.a32_asm.specs.Seen.{lines_left, bytes_left, spot_behind, piece_seen}
+use Rattle.a32_asm.specs.inner.Seen.{lines_left, bytes_left, spot_behind, piece_seen}
 use Rattle.a32_asm.specs.declared.lines.Line.{Line}
 use Rattle.a32_asm.specs.declared.pieces.Added.{Added}
 use Rattle.a32_syntax.specs.declared.kinds.AsmKind.TheVariants as kind

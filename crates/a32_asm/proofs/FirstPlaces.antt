@@ -5,7 +5,7 @@ use Rattle.std.specs.List.Sorted.{IsPermutation}
 use Rattle.std.proofs.lemmas.List.Elements.{All-from_recursion, recursion_from_All}
 use Rattle.std.proofs.lemmas.List.Sorted.{All-permutation, IsPermutation-sym}
 use Rattle.a32_asm.specs.declared.places.LabelPlace.{LabelPlace}
-use Rattle.a32_asm.specs.Places.{Rise}
+use Rattle.a32_asm.specs.inner.Places.{Rise}
 
 -- ---- what holds of each place
 

@@ -13,7 +13,7 @@ use Rattle.std.proofs.lemmas.Slice.Eq.{bytes_eq-Decides}
 use Rattle.a32_forms.specs.Cuts.{before_code}
 use Rattle.a32_asm.specs.declared.places.LabelPlace.{LabelPlace}
 use Rattle.a32_asm.specs.Layout.{place_in}
-use Rattle.a32_asm.specs.Places.{name_at, label_at, order_of, is_before, AreBefore}
+use Rattle.a32_asm.specs.inner.Places.{name_at, label_at, order_of, is_before, AreBefore}
 use Rattle.a32_asm.proofs.CutTexts.{again, whole}
 use Rattle.a32_asm.proofs.FirstPlaces.{none_found}
 use Rattle.a32_asm.proofs.SortedPlaces.{same_names, has_name, place_found}

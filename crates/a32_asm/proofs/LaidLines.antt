@@ -10,9 +10,9 @@ use Rattle.a32_asm.specs.declared.lines.Line.{Line}
 use Rattle.a32_asm.specs.declared.places.LabelPlace.{LabelPlace}
 use Rattle.a32_asm.specs.Lines.{lines_of, label_of, has_label, front_of, is_ascii, before_comment, head_of, statement_of}
 use Rattle.a32_asm.specs.Layout.{layout_of, Label, place, start, place_in, indent_of, labels_here, labels_of, labels_from, next_spot, end_from, line_size}
-use Rattle.a32_asm.specs.Labels.{place_named}
-use Rattle.a32_asm.specs.Places.{label_at, Rise}
-use Rattle.a32_asm.specs.Seen.{lines_left, text_left, bytes_left, spot_behind, places_here, layout_seen}
+use Rattle.a32_asm.specs.inner.Labels.{place_named}
+use Rattle.a32_asm.specs.inner.Places.{label_at, Rise}
+use Rattle.a32_asm.specs.inner.Seen.{lines_left, text_left, bytes_left, spot_behind, places_here, layout_seen}
 use Rattle.a32_asm.proofs.LineLabels.{label_named, label_within}
 
 -- ---- the labels of lines

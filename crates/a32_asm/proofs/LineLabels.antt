@@ -6,8 +6,8 @@ use Rattle.a32_forms.specs.Text.{is_wordy, is_blank, front_word, after_word, aft
 use Rattle.a32_asm.specs.declared.layout.Spot.{Spot}
 use Rattle.a32_asm.specs.Lines.{before_comment, begins_with, has_label, front_of, label_of}
 use Rattle.a32_asm.specs.Layout.{place, indent_of, labels_here, labels_of, line_size}
-use Rattle.a32_asm.specs.Places.{label_at}
-use Rattle.a32_asm.specs.Seen.{places_here}
+use Rattle.a32_asm.specs.inner.Places.{label_at}
+use Rattle.a32_asm.specs.inner.Seen.{places_here}
 use Rattle.a32_asm.proofs.CutTexts.{pieces, before_fits}
 
 -- ---- the blanks in front

@@ -14,7 +14,7 @@ use Rattle.std.proofs.lemmas.Map.Text.{is_eq-slice_cmp}
 use Rattle.std.proofs.lemmas.Slice.Eq.{bytes_eq-Decides}
 use Rattle.a32_asm.specs.declared.places.LabelPlace.{LabelPlace}
 use Rattle.a32_asm.specs.Layout.{Label, place_in}
-use Rattle.a32_asm.specs.Places.{name_at, label_at, order_of, Rise}
+use Rattle.a32_asm.specs.inner.Places.{name_at, label_at, order_of, Rise}
 use Rattle.a32_asm.proofs.FirstPlaces.{ordered, same_first}
 
 order_total : (text : List ℕ) → IsTotalOrder (order_of text)

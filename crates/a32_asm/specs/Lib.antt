@@ -3,6 +3,4 @@ pub mod Layout
 pub mod Statements
 pub mod Assembled
 pub mod Shown
-pub mod Seen
-pub mod Places
-pub mod Labels
+pub mod inner

@@ -3,7 +3,7 @@ ghost use Rattle.a32_syntax.specs.Kinds.{kind_name};
 ghost use Rattle.elf32.specs.Units.{IsWithin};
 ghost use Rattle.a32_asm.specs.Assembled.{first, unit_from, unit_of};
 ghost use Rattle.a32_asm.specs.Lines.{lines_of};
-ghost use Rattle.a32_asm.specs.Seen.{bytes_left, layout_seen};
+ghost use Rattle.a32_asm.specs.inner.Seen.{bytes_left, layout_seen};
 
 use crate::drafts::Draft;
 use crate::layout::{START, TextLayout, lay_out, next_spot};

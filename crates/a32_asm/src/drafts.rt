@@ -1,6 +1,6 @@
 //! A program while its text is read.
 ghost use Rattle.std.specs.Prelude.{◌≡◌, ◌++◌, [], OnOk};
-ghost use Rattle.a32_asm.specs.Seen.{added_piece};
+ghost use Rattle.a32_asm.specs.inner.Seen.{added_piece};
 
 use crate::pieces::Added;
 use elf32::{Bytes, Unit, Words};

@@ -2,7 +2,7 @@
 ghost use Rattle.std.specs.Prelude.{◌≡◌, ℕ, List, map};
 ghost use Rattle.std.specs.List.Sorted.{IsSorted};
 ghost use Rattle.a32_forms.specs.Cuts.{before_code};
-ghost use Rattle.a32_asm.specs.Places.{order_of};
+ghost use Rattle.a32_asm.specs.inner.Places.{order_of};
 
 use crate::places::{LabelPlace, compare_names, order_of, text_at};
 use a32_forms::before_code;
@@ -17,8 +17,8 @@ pub struct SortedLabels<'a> {
 
 impl<'a> SortedLabels<'a> {
     ghost use Rattle.a32_asm.specs.Layout.{place_in};
-    ghost use Rattle.a32_asm.specs.Places.{label_at, AreBefore, Rise};
-    ghost use Rattle.a32_asm.specs.Labels.{place_named};
+    ghost use Rattle.a32_asm.specs.inner.Places.{label_at, AreBefore, Rise};
+    ghost use Rattle.a32_asm.specs.inner.Labels.{place_named};
 
     /// The labels at places of a text, which are given as the text has them.
     pub fn new(text: &'a [u8], mut places: Vec<LabelPlace>) -> SortedLabels<'a>

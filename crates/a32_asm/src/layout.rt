@@ -5,7 +5,7 @@ ghost use Rattle.a32_forms.specs.Text.{parts};
 ghost use Rattle.a32_forms.specs.Forms.{chosen};
 ghost use Rattle.a32_asm.specs.Lines.{lines_of};
 ghost use Rattle.a32_asm.specs.Layout.{may_stand, space_of, behind, offset_of, place, address_at, address_of, layout_of};
-ghost use Rattle.a32_asm.specs.Seen.{spot_behind, places_here, layout_seen};
+ghost use Rattle.a32_asm.specs.inner.Seen.{spot_behind, places_here, layout_seen};
 
 use crate::heads::Head;
 use crate::labels::SortedLabels;

@@ -4,7 +4,7 @@ ghost use Rattle.std.specs.Option.{option_map};
 ghost use Rattle.a32_forms.specs.Cuts.{before_code};
 ghost use Rattle.a32_asm.specs.Lines.{lines_of, before_comment, is_ascii, begins_with, has_label, front_of, label_of, statement_of, directive, head_of, operands_of};
 ghost use Rattle.a32_asm.specs.Layout.{indent_of, line_size};
-ghost use Rattle.a32_asm.specs.Seen.{lines_left, text_left, bytes_left, size_left};
+ghost use Rattle.a32_asm.specs.inner.Seen.{lines_left, text_left, bytes_left, size_left};
 
 use crate::heads::Head;
 use a32_forms::{after_blanks, after_word, before_code, from_code, front_word, is_name};

@@ -4,7 +4,7 @@ ghost use Rattle.std.specs.Option.{option_map};
 ghost use Rattle.a32_asm.specs.Layout.{may_stand};
 ghost use Rattle.a32_asm.specs.Statements.{piece_of};
 ghost use Rattle.a32_asm.specs.Assembled.{site_of, is_known, is_too_long, first_fault};
-ghost use Rattle.a32_asm.specs.Seen.{layout_seen, piece_seen};
+ghost use Rattle.a32_asm.specs.inner.Seen.{layout_seen, piece_seen};
 
 use crate::layout::{Spot, TextLayout, stands};
 use crate::lines::Line;

@@ -9,7 +9,7 @@ ghost use Rattle.a32_asm.specs.Assembled.{site_of};
 ghost use Rattle.a32_asm.specs.Layout.{address_of};
 ghost use Rattle.a32_asm.specs.Lines.{operands_of};
 ghost use Rattle.a32_forms.specs.Text.{front_word};
-ghost use Rattle.a32_asm.specs.Seen.{layout_seen, added_piece, piece_seen};
+ghost use Rattle.a32_asm.specs.inner.Seen.{layout_seen, added_piece, piece_seen};
 
 use crate::heads::Head;
 use crate::layout::{Spot, TextLayout};

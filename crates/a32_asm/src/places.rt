@@ -3,7 +3,7 @@ ghost use Rattle.std.specs.Prelude.{◌≡◌, ◌≤◌, ◌∷◌, [], None, d
 ghost use Rattle.std.specs.Cmp.Lexicographic.{slice_cmp};
 ghost use Rattle.std.specs.Ordering.{nat_cmp};
 ghost use Rattle.a32_forms.specs.Cuts.{before_code};
-ghost use Rattle.a32_asm.specs.Places.{order_of, NamesOn};
+ghost use Rattle.a32_asm.specs.inner.Places.{order_of, NamesOn};
 
 use std::cmp::Ordering;
 

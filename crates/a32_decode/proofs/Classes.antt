@@ -10,7 +10,7 @@ use Rattle.a32_instr.specs.declared.instructions.Instr.{Instr}
 use Rattle.a32_instr.specs.declared.instructions.Instr.TheVariants.{Clrex}
 use Rattle.llsc_base.specs.declared.decoding.DecodeFault.{DecodeFault}
 use Rattle.a32_instr.proofs.Apart.{rows_clash, clash_is_apart, is_conditional, unconditional_apart, fixed_unconditional}
-use Rattle.a32_decode.specs.Rows.{Fits, NoneFits, FollowsRows, Decides}
+use Rattle.a32_decode.specs.inner.Rows.{Fits, NoneFits, FollowsRows, Decides}
 use Rattle.a32_decode.proofs.Rows.{chosen}
 
 -- the words that have a value in some of their bits, as a row that asks for nothing else

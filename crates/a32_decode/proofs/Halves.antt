@@ -5,7 +5,7 @@ use Rattle.llsc_base.specs.Bits.{bits_of}
 use Rattle.a32_instr.specs.Fields.{half_fits, index_fits}
 use Rattle.a32_instr.specs.Table.{half_imm, half_reg}
 use Rattle.a32_instr.proofs.Apart.{further_of}
-use Rattle.a32_decode.specs.Rows.{Fits}
+use Rattle.a32_decode.specs.inner.Rows.{Fits}
 
 -- bit 6 or bit 5 of a halfword or a signed byte is set
 is_no_half : (word l : ℕ) → bits_of word 4 4 ≡ 9 → IsTrue (half_fits l (bits_of word 6 1) (bits_of word 5 1)) → ⊥

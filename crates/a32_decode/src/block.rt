@@ -3,7 +3,7 @@ ghost use Rattle.std.specs.Prelude.{◌≡◌, ◌<◌, ◌^◌, ◌/◌, ◌%�
 ghost use Rattle.llsc_base.specs.Bits.{bits_of};
 ghost use Rattle.a32_instr.specs.Fields.{block_unpredictable};
 ghost use Rattle.a32_instr.specs.Table.{block};
-ghost use Rattle.a32_decode.specs.Rows.{Decides};
+ghost use Rattle.a32_decode.specs.inner.Rows.{Decides};
 
 use crate::bits::{bit, bits, condition, register};
 use a32_instr::{Instr, Reg};

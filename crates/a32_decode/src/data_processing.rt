@@ -3,7 +3,7 @@ ghost use Rattle.std.specs.Prelude.{◌≡◌, ◌<◌, ◌==◌, ◌&&◌, ◌�
 ghost use Rattle.llsc_base.specs.Bits.{bits_of};
 ghost use Rattle.a32_instr.specs.Fields.{alu_fits, alu_op, alu_unpredictable, shift_kind};
 ghost use Rattle.a32_instr.specs.Table.{alu_imm, alu_by_num, alu_by_reg, half_imm, half_reg, movw, movt, nop, yields, mul, mla, mls, long, clz, branch_reg, load_ex, store_ex};
-ghost use Rattle.a32_decode.specs.Rows.{Decides, rows_of_registers};
+ghost use Rattle.a32_decode.specs.inner.Rows.{Decides, rows_of_registers};
 
 use crate::bits::{bit, bits, condition, register};
 use crate::pc::{one_of_2_is_pc, one_of_4_is_pc};

@@ -1,7 +1,7 @@
 ghost use Rattle.std.specs.Prelude.{◌≡◌, ◌<◌, ◌∷◌, []};
 ghost use Rattle.llsc_base.specs.Bits.{bits_of};
 ghost use Rattle.a32_instr.specs.Table.{extend, rev, word_reg, meaning, table};
-ghost use Rattle.a32_decode.specs.Rows.{Decides};
+ghost use Rattle.a32_decode.specs.inner.Rows.{Decides};
 
 use crate::bits::{bit, bits};
 use crate::{block, branch, data_processing, load_store, media, synchronization};

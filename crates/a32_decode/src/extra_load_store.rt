@@ -3,7 +3,7 @@ ghost use Rattle.std.specs.Prelude.{◌≡◌, ◌<◌, ◌∷◌, ◌&&◌, []}
 ghost use Rattle.llsc_base.specs.Bits.{bits_of};
 ghost use Rattle.a32_instr.specs.Fields.{index_fits, index_of, half_fits, half_kind, half_unpredictable};
 ghost use Rattle.a32_instr.specs.Table.{half_imm, half_reg};
-ghost use Rattle.a32_decode.specs.Rows.{Decides};
+ghost use Rattle.a32_decode.specs.inner.Rows.{Decides};
 
 use crate::bits::{bit, bits, condition, register};
 use crate::load_store::{index, is_index};

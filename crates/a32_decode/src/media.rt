@@ -2,7 +2,7 @@
 ghost use Rattle.std.specs.Prelude.{◌≡◌, ◌<◌, ◌∷◌, []};
 ghost use Rattle.llsc_base.specs.Bits.{bits_of};
 ghost use Rattle.a32_instr.specs.Table.{extend, rev};
-ghost use Rattle.a32_decode.specs.Rows.{Decides};
+ghost use Rattle.a32_decode.specs.inner.Rows.{Decides};
 
 use crate::bits::{bit, bits, condition, register};
 use crate::pc::one_of_2_is_pc;

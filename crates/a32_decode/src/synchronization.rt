@@ -3,7 +3,7 @@ ghost use Rattle.std.specs.Prelude.{◌≡◌, ◌<◌, ◌∷◌, []};
 ghost use Rattle.llsc_base.specs.Bits.{bits_of};
 ghost use Rattle.a32_instr.specs.Fields.{barrier_kind, exclusive_size, no_pair, status_clashes};
 ghost use Rattle.a32_instr.specs.Table.{load_ex, store_ex, clrex, barrier};
-ghost use Rattle.a32_decode.specs.Rows.{Decides};
+ghost use Rattle.a32_decode.specs.inner.Rows.{Decides};
 
 use crate::bits::{bit, bits, condition, register};
 use crate::pc::{one_of_2_is_pc, one_of_3_is_pc};

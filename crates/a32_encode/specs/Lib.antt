@@ -1,3 +1,4 @@
 pub mod Word
 pub mod Encoding
 pub mod Faults
+pub mod inner

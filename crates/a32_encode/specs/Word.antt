@@ -1,7 +1,7 @@
 -- The one word that can be an instruction's: the sum of its fixed bits and its fields, each at its place (DDI 0406C A5.1 to
 -- A5.7). It computes the encoding in `Encoding.antt`, and is no part of what is promised: `src/laws.rt` says by the table what
 -- an encoding is.
-use Rattle.std.specs.Prelude.{ℕ, ◌+◌, ◌*◌, ◌/◌, ◌%◌, ◌^◌, Bool, true, false, ℤ, pos, unsigned_abs}
+use Rattle.std.specs.Prelude.{ℕ, ◌+◌, ◌*◌, ◌/◌, ◌%◌, ◌^◌, ℤ, pos, unsigned_abs}
 use Rattle.std.specs.Int.{int_rem_euclid}
 use Rattle.a32_instr.specs.declared.instructions.AluOp.{AluOp}
 use Rattle.a32_instr.specs.declared.instructions.AluOp.TheVariants.{And, Eor, Sub, Rsb, Add, Adc, Sbc, Rsc, Tst, Teq, Cmp, Cmn, Orr, Mov, Bic, Mvn}
@@ -127,10 +127,3 @@ word_of (LoadEx cond size rn rt) = cond * 2 ^ 28 + 0x1900F9F + size_bits size * 
 word_of (StoreEx cond size rn rd rt) = cond * 2 ^ 28 + 0x1800F90 + size_bits size * 2 ^ 21 + rn * 2 ^ 16 + rd * 2 ^ 12 + rt
 word_of Clrex = 0xF57FF01F
 word_of (Barrier kind option) = 0xF57FF040 + barrier_bits kind * 2 ^ 4 + option
-
--- loads and stores that are not exclusive (DDI 0406C A5.2.8, A5.3, A5.5)
-abbrev pub is_transfer : Instr → Bool
-is_transfer (Word cond load byte index rn rt offset) = true
-is_transfer (Half cond kind index rn rt offset) = true
-is_transfer (Block cond load before up wback rn list) = true
-is_transfer i = false

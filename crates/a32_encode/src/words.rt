@@ -1,7 +1,8 @@
 //! The one word that can be an instruction's.
 ghost use Rattle.std.specs.Prelude.{◌≡◌, IsTrue};
-ghost use Rattle.a32_instr.specs.Classes.{is_data, is_multiply};
-ghost use Rattle.a32_encode.specs.Word.{is_transfer, word_of};
+ghost use Rattle.a32_instr.specs.inner.Classes.{is_data, is_multiply};
+ghost use Rattle.a32_encode.specs.Word.{word_of};
+ghost use Rattle.a32_encode.specs.inner.Word.{is_transfer};
 
 use crate::fields::{
     barrier_kind, bit, condition, distance, exclusive_size, half_kind, half_offset,

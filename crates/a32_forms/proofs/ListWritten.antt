@@ -3,7 +3,8 @@ use Rattle.std.proofs.Common.{◌≡◌, ℕ, suc, ◌+◌, ◌-◌, ◌<◌, �
 use Rattle.std.specs.Prelude.{filter}
 use Rattle.a32_instr.specs.Block.{is_listed, registers_of}
 use Rattle.a32_forms.specs.Names.{register_name}
-use Rattle.a32_forms.specs.Registers.{list_text, separator}
+use Rattle.a32_forms.specs.Registers.{list_text}
+use Rattle.a32_forms.specs.inner.Registers.{separator}
 use Rattle.a32_forms.proofs.ListsAgain.{up, listed}
 
 -- registers as they are written where others may stand in front

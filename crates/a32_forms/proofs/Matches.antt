@@ -6,7 +6,7 @@ use Rattle.std.proofs.Math.Seq.{get_or-append_seam}
 use Rattle.std.proofs.lemmas.List.Sums.{count_by_more_yes, sum_by-append, sum_by-cons}
 use Rattle.std.proofs.lemmas.Bool.{and_parts, leb-true}
 use Rattle.a32_forms.specs.Text.{Part, parts}
-use Rattle.a32_forms.specs.Fronts.{parts_from}
+use Rattle.a32_forms.specs.inner.Fronts.{parts_from}
 use Rattle.a32_forms.specs.Cuts.{before_code, from_code}
 use Rattle.a32_forms.specs.Forms.{Fields, Took, and_then_takes, chosen_from, form_in, forms_in, or_later, takes, takes_from, takes_sign}
 use Rattle.a32_forms.specs.Written.{has_number}

@@ -1,13 +1,12 @@
 pub mod Text
 pub mod Cuts
-pub mod Fronts
 pub mod Numbers
 pub mod Names
 pub mod Registers
 pub mod Forms
 pub mod Written
 pub mod Within
-pub mod Took
 pub mod Fits
 pub mod Shown
 pub mod Apart
+pub mod inner

@@ -1,5 +1,5 @@
 -- Lists of registers, as a number with bit r set for each register r.
-use Rattle.std.specs.Prelude.{ℕ, ◌+◌, ◌-◌, ◌^◌, ◌==◌, ◌&&◌, nat_le, if◌then◌else◌, Bool, true, false, List, [], ◌∷◌, ◌++◌, Option, Some, None, codes}
+use Rattle.std.specs.Prelude.{ℕ, ◌+◌, ◌-◌, ◌^◌, ◌==◌, ◌&&◌, nat_le, if◌then◌else◌, Bool, false, List, [], ◌∷◌, ◌++◌, Option, Some, None, codes}
 use Rattle.std.specs.List.{slice_split}
 use Rattle.std.specs.Option.{option_map, option_and_then}
 use Rattle.a32_forms.specs.Text.{Part, Word, Mark}
@@ -46,8 +46,3 @@ unfoldable pub list_text : List ℕ → List ℕ
 list_text [] = []
 list_text (register ∷ []) = register_name register
 list_text (register ∷ next ∷ registers) = register_name register ++ (codes ", " ++ list_text (next ∷ registers))
-
--- what stands in front of a register that is shown: nothing at the first
-abbrev pub separator : Bool → List ℕ
-separator true = []
-separator false = codes ", "

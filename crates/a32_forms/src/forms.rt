@@ -3,7 +3,7 @@ ghost use Rattle.std.specs.Prelude.{◌≡◌, ◌<◌, length, IfSome, IsTrue};
 ghost use Rattle.std.specs.Option.{option_map};
 ghost use Rattle.a32_forms.specs.Text.{parts};
 ghost use Rattle.a32_forms.specs.Forms.{chosen, form_in, forms_in, takes, takes_at_word, takes_name, takes_or_not, takes_part, takes_registers, takes_sign, takes_word, took};
-ghost use Rattle.a32_forms.specs.Took.{took_of};
+ghost use Rattle.a32_forms.specs.inner.Took.{took_of};
 ghost use Rattle.a32_forms.specs.Within.{are_within, has_room, have_room};
 ghost use Rattle.a32_forms.specs.Written.{has_number};
 

@@ -2,7 +2,8 @@
 ghost use Rattle.std.specs.Prelude.{◌≡◌, ◌+◌, ◌<◌, ◌≤◌, ◌++◌, length};
 ghost use Rattle.a32_instr.specs.Block.{is_listed, registers_of};
 ghost use Rattle.a32_forms.specs.Names.{register_name};
-ghost use Rattle.a32_forms.specs.Registers.{list_text, separator};
+ghost use Rattle.a32_forms.specs.Registers.{list_text};
+ghost use Rattle.a32_forms.specs.inner.Registers.{separator};
 
 use crate::shown_names::register_name;
 use llsc_base::Line;

@@ -1,6 +1,6 @@
 //! The words of a text, and what stands between them.
 ghost use Rattle.std.specs.Prelude.{◌≡◌, ◌<◌, ◌∷◌, length};
-ghost use Rattle.a32_forms.specs.Fronts.{parts_from};
+ghost use Rattle.a32_forms.specs.inner.Fronts.{parts_from};
 ghost use Rattle.a32_forms.specs.Text.{Word, after_blanks, after_word, front_word, is_blank, is_letter, is_name, is_wordy, parts};
 
 use number_text::is_digit;

@@ -1,6 +1,5 @@
 pub mod Fields
 pub mod Table
-pub mod Classes
 pub mod State
 pub mod Condition
 pub mod Sum
@@ -13,3 +12,4 @@ pub mod Block
 pub mod Branch
 pub mod Exclusive
 pub mod Effect
+pub mod inner

@@ -9,9 +9,9 @@ use Rattle.llsc_base.specs.Effects.{asks, calls, completes, stops}
 use Rattle.a32_step.specs.declared.phases.Progress.{Progress}
 use Rattle.a32_step.specs.declared.phases.Progress.TheVariants as progress
 use Rattle.guest_core.specs.Machine.{PassesTests}
-use Rattle.a32_step.specs.Progress.{progress_of}
-use Rattle.a32_step.specs.ExecutionState.{ExecutionState, Stage, HasRoom, Between, Inside, Awaiting, Calling, Stopped, moves, resting, settled, wanted_at}
-use Rattle.a32_step.specs.Acting.{IsSilent, IsGiven, begins, none_made, one_more, StandsAt, IsActed, IsReplied, had_before, replied, unmade, barred, asked_first, with_reply}
+use Rattle.a32_step.specs.inner.Progress.{progress_of}
+use Rattle.a32_step.specs.inner.ExecutionState.{ExecutionState, Stage, HasRoom, Between, Inside, Awaiting, Calling, Stopped, moves, resting, settled, wanted_at}
+use Rattle.a32_step.specs.inner.Acting.{IsSilent, IsGiven, begins, none_made, one_more, StandsAt, IsActed, IsReplied, had_before, replied, unmade, barred, asked_first, with_reply}
 
 -- the first of some replies, if there is one
 first_had : (had : List ℕ) (reply : ℕ) → slice_get had 0 ≡ Some reply → had ≡ reply ∷ drop 1 had

@@ -11,13 +11,13 @@ use Rattle.llsc_base.specs.Effects.{asks, stops, barred}
 use Rattle.a32_step.specs.declared.execution.blocks.Transfer.{Transfer}
 use Rattle.a32_step.specs.declared.phases.Progress.{Progress}
 use Rattle.a32_step.specs.declared.phases.Progress.TheVariants as progress
-use Rattle.a32_step.specs.ExecutionState.{ExecutionState, Awaiting, Inside, Stopped, moves, resting}
+use Rattle.a32_step.specs.inner.ExecutionState.{ExecutionState, Awaiting, Inside, Stopped, moves, resting}
 use Rattle.llsc_base.specs.declared.access.BarredWord.{BarredWord}
-use Rattle.a32_step.specs.Progress.{progress_of}
-use Rattle.a32_step.specs.Acting.{IsActed, IsGiven, begins, word_ask}
+use Rattle.a32_step.specs.inner.Progress.{progress_of}
+use Rattle.a32_step.specs.inner.Acting.{IsActed, IsGiven, begins, word_ask}
 use Rattle.a32_step.proofs.Acting.{acted_by, given_same, stands_over}
 use Rattle.guest_core.specs.Ports.{IsAskIn}
-use Rattle.llsc_base.specs.Words.{AreWords}
+use Rattle.llsc_base.specs.inner.Words.{AreWords}
 use Rattle.a32_step.proofs.Blocks.{ask_sound}
 use Rattle.a32_compute.specs.Lists.{AreLeft}
 use Rattle.a32_compute.proofs.Lists.{less, next_listed}

@@ -9,17 +9,18 @@ use Rattle.llsc_base.specs.Effects.{asks, calls, completes, stops}
 use Rattle.a32_instr.specs.Effect.{acts, condition_of, effect_of}
 use Rattle.guest_core.specs.declared.phases.Passage.{Passage}
 use Rattle.guest_core.specs.declared.phases.Passage.TheVariants.{Complete, AtStart}
-use Rattle.a32_step.specs.ExecutionState.{ExecutionState, resting, machine_in}
-use Rattle.a32_step.specs.ExecutionState as stage
+use Rattle.a32_step.specs.inner.ExecutionState.{ExecutionState, resting, machine_in}
+use Rattle.a32_step.specs.inner.ExecutionState as stage
 use Rattle.a32_step.specs.Machine.{Machine, instr_at, next_effect, after_next, a32}
 use Rattle.guest_core.specs.Machine.{between, IsReady, moved_on, given, begins_of, IsHeld}
 use Rattle.guest_core.specs.Ports.{Leads, goes, refused, stays}
-use Rattle.a32_step.specs.Acting.{IsGiven, begins, none_made, one_more, StandsAt, IsActed}
-use Rattle.a32_step.specs.Passages.{Comes, EndsAt, IsCarriedOn}
-use Rattle.guest_core.specs.Passages.{starts, replied, in_hand, passage_of}
+use Rattle.a32_step.specs.inner.Acting.{IsGiven, begins, none_made, one_more, StandsAt, IsActed}
+use Rattle.a32_step.specs.inner.Passages.{Comes, EndsAt, IsCarriedOn}
+use Rattle.guest_core.specs.Passages.{starts, replied}
+use Rattle.guest_core.specs.inner.Passages.{in_hand, passage_of}
 use Rattle.a32_step.specs.declared.phases.Progress.{Progress}
 use Rattle.a32_step.specs.declared.phases.Progress.TheVariants as progress
-use Rattle.a32_step.specs.Progress.{progress_of}
+use Rattle.a32_step.specs.inner.Progress.{progress_of}
 use Rattle.a32_step.proofs.Acting.{acted_same}
 use Rattle.a32_step.proofs.ExecutionStates.{is_resting}
 use Rattle.a32_step.proofs.Replied.{inside, first_effect, first_after}

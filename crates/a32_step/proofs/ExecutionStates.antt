@@ -8,11 +8,13 @@ use Rattle.llsc_base.specs.Effects.{asks, calls, completes, stops}
 use Rattle.a32_instr.specs.Effect.{acts}
 use Rattle.a32_step.specs.declared.phases.Progress.{Progress}
 use Rattle.guest_core.specs.declared.phases.Wanted.{Wanted}
-use Rattle.a32_step.specs.Progress.{progress_of}
-use Rattle.a32_step.specs.Machine.{Phase, Machine, next_effect, next_in, after_in, after_next, HasBegun}
+use Rattle.a32_step.specs.inner.Progress.{progress_of}
+use Rattle.a32_step.specs.Machine.{Machine, next_effect, after_next}
+use Rattle.a32_step.specs.inner.Machine.{Phase, next_in, after_in, HasBegun}
 use Rattle.guest_core.specs.Phase as phase
-use Rattle.a32_step.specs.ExecutionState.{ExecutionState, Stage, Between, Inside, Awaiting, Calling, Stopped, HasRoom, IsAwaited, IsCalled, moves, settled, wanted_at, phase_of, machine_in}
-use Rattle.guest_core.specs.Machine.{between, given, moved_on, wanted_of, IsAwaiting, IsCalling, IsInside}
+use Rattle.a32_step.specs.inner.ExecutionState.{ExecutionState, Stage, Between, Inside, Awaiting, Calling, Stopped, HasRoom, IsAwaited, IsCalled, moves, settled, wanted_at, phase_of, machine_in}
+use Rattle.guest_core.specs.Machine.{between, given, moved_on, wanted_of, IsAwaiting, IsCalling}
+use Rattle.guest_core.specs.inner.Machine.{IsInside}
 
 -- one that is awaited has room
 pub room_of : (stage : Stage) (replies : List ℕ) → IsAwaited stage → HasRoom stage replies → length replies < 16

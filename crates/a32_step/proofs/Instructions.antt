@@ -17,7 +17,8 @@ use Rattle.a32_instr.specs.declared.instructions.HalfKind.TheVariants.{Strh, Ldr
 use Rattle.a32_instr.specs.declared.arithmetic.Computed.{Computed}
 use Rattle.a32_instr.specs.State.{State, register, advanced, writes}
 use Rattle.llsc_base.specs.Effects.{completes, loaded_part}
-use Rattle.llsc_base.specs.Words.{low32, AreWords}
+use Rattle.llsc_base.specs.Words.{low32}
+use Rattle.llsc_base.specs.inner.Words.{AreWords}
 use Rattle.a32_instr.specs.Fields.{is_compare}
 use Rattle.a32_instr.specs.Shift.{top_bit, rotated_right}
 use Rattle.a32_instr.specs.DataProcessing.{operand_of, computed, with_flags, alu_done}

@@ -7,7 +7,8 @@ use Rattle.a32_instr.specs.State.{State, Effect, advanced}
 use Rattle.llsc_base.specs.Effects.{asks, calls, completes, stops}
 use Rattle.a32_instr.specs.Effect.{acts, condition_of, effect_of}
 use Rattle.guest_core.specs.Phase.{Inside}
-use Rattle.a32_step.specs.Machine.{Machine, begins, instr_at, after_instr, next_effect, after_next}
+use Rattle.a32_step.specs.Machine.{Machine, instr_at, next_effect, after_next}
+use Rattle.a32_step.specs.inner.Machine.{begins, after_instr}
 use Rattle.guest_core.specs.Machine.{between, moved_on, given}
 use Rattle.a32_step.specs.Replied.{IsAsk, replied, replied_in_turn, AsksForEach, IsAskedForEach}
 

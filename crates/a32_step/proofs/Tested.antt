@@ -12,8 +12,9 @@ use Rattle.a32_instr.specs.Condition.{passes}
 use Rattle.a32_instr.specs.Effect.{acts, condition_of}
 use Rattle.a32_instr.specs.Table.{table, meaning}
 use Rattle.guest_core.specs.declared.phases.Wanted.{Wanted}
-use Rattle.llsc_base.specs.Words.{AreWords}
-use Rattle.a32_step.specs.Machine.{Phase, Machine, begins, decoded, instr_of_word, next_in, next_effect}
+use Rattle.llsc_base.specs.inner.Words.{AreWords}
+use Rattle.a32_step.specs.Machine.{Machine, decoded, instr_of_word, next_effect}
+use Rattle.a32_step.specs.inner.Machine.{Phase, begins, next_in}
 use Rattle.guest_core.specs.Phase.{Between, Inside, Awaiting, Calling, Stopped}
 pub use Rattle.guest_core.specs.Machine.{GoesOn, GoesOnWith}
 use Rattle.guest_core.specs.Machine.{wanted_of, IsReady, IsTested, PassesTests, IsOwn}

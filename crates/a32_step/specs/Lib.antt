@@ -1,9 +1,3 @@
 pub mod Machine
 pub mod Replied
-pub mod Inside
-pub mod Progress
-pub mod Classes
-pub mod ExecutionState
-pub mod Slots
-pub mod Passages
-pub mod Acting
+pub mod inner

@@ -1,5 +1,5 @@
 -- The thread of an A32 guest, which may be in the middle of an instruction.
-use Rattle.std.specs.Prelude.{◌≡◌, ℕ, [], ◌∷◌, false, Option, Some, None, Result, Ok, Err}
+use Rattle.std.specs.Prelude.{ℕ, [], ◌∷◌, false, Option, Some, None, Result, Ok, Err}
 use Rattle.llsc_base.specs.Images.{Program, word_at}
 use Rattle.a32_instr.specs.declared.instructions.Instr.{Instr}
 use Rattle.llsc_base.specs.declared.decoding.DecodeFault.{DecodeFault}
@@ -9,12 +9,7 @@ use Rattle.llsc_base.specs.declared.outside.Stop.TheVariants as stop
 use Rattle.a32_instr.specs.State.{State, Effect, answered}
 use Rattle.a32_instr.specs.Table.{table, meaning}
 use Rattle.a32_instr.specs.Effect.{acts, effect_of}
-use Rattle.guest_core.specs.Phase.{PhaseOf}
-use Rattle.guest_core.specs.Machine.{MachineOf, InstructionSet, begins_of, next_in_of, next_of, after_found_of, after_in_of, after_of, start_in, IsInside}
-
--- where it stands in its instruction
-abbrev pub Phase : Type 0
-Phase = PhaseOf Instr
+use Rattle.guest_core.specs.Machine.{MachineOf, InstructionSet, next_of, after_of, start_in}
 
 -- the thread of an A32 guest
 abbrev pub Machine : Type 0
@@ -54,28 +49,11 @@ a32 = record {
   call_of = λ call. call;
 }
 
-abbrev pub begins : Program → State → Result Instr Stop → Effect
-begins = begins_of a32
-
-abbrev pub next_in : Program → Machine → Phase → Effect
-next_in = next_in_of a32
-
 abbrev pub next_effect : Program → Machine → Effect
 next_effect = next_of a32
 
-abbrev pub after_instr : Program → Machine → Result Instr Stop → Machine
-after_instr = after_found_of a32
-
-abbrev pub after_in : Program → Machine → Phase → Machine
-after_in = after_in_of a32
-
 abbrev pub after_next : Program → Machine → Machine
 after_next = after_of a32
-
--- a machine that is inside an instruction goes on as another one does
-abbrev pub HasBegun : Program → Machine → Machine → Type 0
-HasBegun program old new =
-    IsInside new.phase × (next_effect program new ≡ next_effect program old) × (after_next program new ≡ after_next program old)
 
 abbrev pub start_of : ℕ → ℕ → ℕ → ℕ → Machine
 start_of = start_in a32

@@ -2,10 +2,11 @@
 ghost use Rattle.std.specs.Prelude.{◌≡◌, ◌≤◌, ◌%◌, ◌+◌, ◌^◌, length, slice_index, IfSome, IfNone, IsTrue, Ok, []};
 ghost use Rattle.a32_instr.specs.declared.instructions.Instr.{Instr};
 ghost use Rattle.a32_instr.specs.State.{answered};
-ghost use Rattle.llsc_base.specs.Words.{AreWords};
-ghost use Rattle.guest_core.specs.Passages.{in_hand, passage_of};
+ghost use Rattle.llsc_base.specs.inner.Words.{AreWords};
+ghost use Rattle.guest_core.specs.inner.Passages.{in_hand, passage_of};
 ghost use Rattle.guest_core.specs.Phase as phase;
-ghost use Rattle.a32_step.specs.Machine.{start_of, next_effect, after_next, after_instr, begins, instr_at, HasBegun};
+ghost use Rattle.a32_step.specs.Machine.{start_of, next_effect, after_next, instr_at};
+ghost use Rattle.a32_step.specs.inner.Machine.{after_instr, begins, HasBegun};
 ghost use Rattle.guest_core.specs.Machine.{given, wanted_of, between, Follows, IsReady, IsTested, IsAwaiting, IsCalling};
 
 use crate::conditional::Conditional;
@@ -31,7 +32,7 @@ pub struct Cpu {
 
 impl Model for Cpu {
     ghost use Rattle.a32_step.specs.Machine.{Machine};
-    ghost use Rattle.a32_step.specs.ExecutionState.{machine_in};
+    ghost use Rattle.a32_step.specs.inner.ExecutionState.{machine_in};
 
     ghost Value = { Machine };
 

@@ -5,12 +5,12 @@ ghost use Rattle.a32_instr.specs.State.{State, register, with_register, advanced
 ghost use Rattle.llsc_base.specs.Effects.{stops};
 ghost use Rattle.a32_instr.specs.Condition.{passes};
 ghost use Rattle.a32_instr.specs.Effect.{acts};
-ghost use Rattle.a32_step.specs.Progress.{progress_of, stop_of};
-ghost use Rattle.llsc_base.specs.Words.{AreWords};
-ghost use Rattle.a32_step.specs.Classes.{instr_class, IsApart};
-ghost use Rattle.a32_step.specs.Acting.{IsActed};
-ghost use Rattle.a32_step.specs.ExecutionState.{Between, Inside, Awaiting, Calling, Stopped, IsAwaited, IsCalled, resting, moves, settled, wanted_at};
-ghost use Rattle.a32_step.specs.Inside.{stage_held};
+ghost use Rattle.a32_step.specs.inner.Progress.{progress_of, stop_of};
+ghost use Rattle.llsc_base.specs.inner.Words.{AreWords};
+ghost use Rattle.a32_step.specs.inner.Classes.{instr_class, IsApart};
+ghost use Rattle.a32_step.specs.inner.Acting.{IsActed};
+ghost use Rattle.a32_step.specs.inner.ExecutionState.{Between, Inside, Awaiting, Calling, Stopped, IsAwaited, IsCalled, resting, moves, settled, wanted_at};
+ghost use Rattle.a32_step.specs.inner.Inside.{stage_held};
 ghost use Rattle.guest_core.specs.Machine.{wanted_of};
 
 use crate::phases::{Hold, Point, Progress};
@@ -57,11 +57,11 @@ pub struct Execution {
 }
 
 impl Model for Execution {
-    ghost use Rattle.a32_step.specs.ExecutionState.{ExecutionState};
+    ghost use Rattle.a32_step.specs.inner.ExecutionState.{ExecutionState};
 
     ghost Value = { ExecutionState };
 
-    ghost use Rattle.a32_step.specs.Inside.{execution_state_of, IsSound};
+    ghost use Rattle.a32_step.specs.inner.Inside.{execution_state_of, IsSound};
 
     ghost view = { execution_state_of };
 

@@ -27,7 +27,7 @@ impl Model for Slot {
     ghost use Rattle.std.proofs.Common.{ap, sym};
     ghost use Rattle.a32_instr.specs.Effect.{condition_of};
     ghost use Rattle.a32_instr.specs.Table.{meaning, table};
-    ghost use Rattle.a32_step.specs.Slots.{Met};
+    ghost use Rattle.a32_step.specs.inner.Slots.{Met};
 
     ghost Value = { Met };
 

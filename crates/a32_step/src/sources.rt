@@ -61,7 +61,7 @@ pub struct Nobody {
 
 impl Source for Nobody {
     ghost use Rattle.std.specs.Prelude.{true};
-    ghost use Rattle.a32_step.specs.Acting.{IsSilent};
+    ghost use Rattle.a32_step.specs.inner.Acting.{IsSilent};
 
     ghost replies = { λ old ask reply new. IsSilent old ask reply new };
 

@@ -5,7 +5,7 @@ use Rattle.std.proofs.lemmas.Bool.{both_ways, and_parts, eqb-true, and_from, ltb
 use Rattle.a32_forms.specs.Forms.{b, r, Chosen, form_in, forms_in, number_at}
 use Rattle.a32_forms.specs.Within.{are_within_from, is_within}
 use Rattle.a32_forms.specs.Written.{has_number}
-use Rattle.a32_syntax.specs.Bounds.{IsWithin, IsRegister}
+use Rattle.a32_syntax.specs.inner.Bounds.{IsWithin, IsRegister}
 use Rattle.llsc_base.specs.declared.access.Size.TheVariants.{B4, B8}
 use Rattle.a32_syntax.specs.declared.operations.Operation.{Operation}
 use Rattle.a32_syntax.specs.declared.operations.Operation.TheVariants.{Movw, Movt, Mul, Mla, Clz, Extend, BranchReg}

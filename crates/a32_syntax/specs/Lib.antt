@@ -2,9 +2,8 @@ pub mod Kinds
 pub mod Mnemonics
 pub mod Operands
 pub mod Meaning
-pub mod Bounds
 pub mod Shown
 pub mod Formed
 pub mod Worked
 pub mod WorkedShown
-pub mod Classes
+pub mod inner

@@ -1,7 +1,7 @@
 //! Loads and stores.
 ghost use Rattle.std.specs.Prelude.{◌≡◌, ◌≤◌, ◌<◌, ◌^◌, Ok};
 ghost use Rattle.a32_forms.specs.Forms.{number_at};
-ghost use Rattle.a32_syntax.specs.Bounds.{IsRegister, IsWithin};
+ghost use Rattle.a32_syntax.specs.inner.Bounds.{IsRegister, IsWithin};
 ghost use Rattle.a32_syntax.specs.Meaning.{at_base, block, half, half_indexed, indexed, is_added, offset_number, plain_or_pre, shifted_offset, word, word_indexed};
 ghost use Rattle.a32_syntax.specs.Operands.{half_operands, operands_of, word_operands};
 

@@ -1,7 +1,7 @@
 //! Instructions of data processing.
 ghost use Rattle.std.specs.Prelude.{◌≡◌, ◌+◌, ◌≤◌, true};
 ghost use Rattle.a32_forms.specs.Forms.{number_at};
-ghost use Rattle.a32_syntax.specs.Bounds.{IsRegister, IsWithin};
+ghost use Rattle.a32_syntax.specs.inner.Bounds.{IsRegister, IsWithin};
 ghost use Rattle.a32_syntax.specs.Meaning.{alu, alu_with, amount_of, by_amount, second_operand};
 ghost use Rattle.a32_syntax.specs.Operands.{operands_of, three_operands, two_operands};
 

@@ -1,7 +1,7 @@
 //! Exclusives and barriers.
 ghost use Rattle.std.specs.Prelude.{◌≡◌};
 ghost use Rattle.a32_forms.specs.Forms.{number_at};
-ghost use Rattle.a32_syntax.specs.Bounds.{IsWithin};
+ghost use Rattle.a32_syntax.specs.inner.Bounds.{IsWithin};
 ghost use Rattle.a32_syntax.specs.Meaning.{barrier, load_exclusive, store_exclusive};
 ghost use Rattle.a32_syntax.specs.Operands.{load_exclusive_operands, operands_of, store_exclusive_operands};
 

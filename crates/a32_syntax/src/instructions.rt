@@ -2,7 +2,7 @@
 ghost use Rattle.std.specs.Prelude.{◌≡◌};
 ghost use Rattle.a32_forms.specs.Forms.{number_at};
 ghost use Rattle.a32_forms.specs.Text.{parts};
-ghost use Rattle.a32_syntax.specs.Bounds.{IsWithin};
+ghost use Rattle.a32_syntax.specs.inner.Bounds.{IsWithin};
 ghost use Rattle.a32_syntax.specs.Meaning.{instruction_of, means, within};
 ghost use Rattle.a32_syntax.specs.Operands.{operands_of};
 
@@ -92,7 +92,7 @@ fn means<L: Labels>(
 /// `Operand` where the operands have none of the mnemonic's forms, or fields that no instruction has; `Label` where a
 /// label has no address; `Range` where a number is above its field or can't be had by a turn, or a branch can't reach
 /// its target.
-#[tactic(auto, unfolding(crate::specs::Bounds::IsWithin))]
+#[tactic(auto, unfolding(crate::specs::inner::Bounds::IsWithin))]
 pub fn instruction_of<L: Labels>(
     mnemonic: Mnemonic,
     operands: &[u8],

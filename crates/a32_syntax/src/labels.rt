@@ -1,7 +1,7 @@
 //! Instructions that may name a label.
 ghost use Rattle.std.specs.Prelude.{◌≡◌, ℕ, List, Option};
 ghost use Rattle.a32_forms.specs.Forms.{number_at};
-ghost use Rattle.a32_syntax.specs.Bounds.{IsWithin};
+ghost use Rattle.a32_syntax.specs.inner.Bounds.{IsWithin};
 ghost use Rattle.a32_syntax.specs.Meaning.{branch, movt, movw};
 ghost use Rattle.a32_syntax.specs.Operands.{operands_of};
 

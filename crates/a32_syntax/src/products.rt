@@ -1,7 +1,7 @@
 //! Multiplications.
 ghost use Rattle.std.specs.Prelude.{◌≡◌};
 ghost use Rattle.a32_forms.specs.Forms.{number_at};
-ghost use Rattle.a32_syntax.specs.Bounds.{IsWithin};
+ghost use Rattle.a32_syntax.specs.inner.Bounds.{IsWithin};
 ghost use Rattle.a32_syntax.specs.Operands.{operands_of};
 
 use crate::operations::Operation;

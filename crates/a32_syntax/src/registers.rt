@@ -1,7 +1,7 @@
 //! Registers of operands.
 ghost use Rattle.std.specs.Prelude.{◌≡◌};
 ghost use Rattle.a32_forms.specs.Forms.{number_at};
-ghost use Rattle.a32_syntax.specs.Bounds.{IsRegister};
+ghost use Rattle.a32_syntax.specs.inner.Bounds.{IsRegister};
 
 use a32_forms::Chosen;
 use a32_instr::Reg;

@@ -1,9 +1,9 @@
 //! What is shown of an instruction: its mnemonic, and one of the forms of its operands with numbers.
 ghost use Rattle.std.specs.Prelude.{◌≡◌, ◌<◌, ◌≤◌, ◌^◌, ◌+◌, ◌+ℤ◌, ◌*ℤ◌, pos, IsTrue, false, length, ◌∷◌, []};
 ghost use Rattle.a32_instr.specs.Branch.{target_of};
-ghost use Rattle.a32_instr.specs.Classes.{is_data, is_multiply};
+ghost use Rattle.a32_instr.specs.inner.Classes.{is_data, is_multiply};
 ghost use Rattle.a32_instr.specs.DataProcessing.{one_if};
-ghost use Rattle.a32_syntax.specs.Classes.{is_single_transfer, is_exclusive_or_barrier};
+ghost use Rattle.a32_syntax.specs.inner.Classes.{is_single_transfer, is_exclusive_or_barrier};
 ghost use Rattle.a32_syntax.specs.Shown.{access_numbers, half_form, load_exclusive_numbers, showing, showing_of, store_exclusive_numbers, word_form};
 
 use crate::operations::{Mnemonic, Operation};

@@ -10,7 +10,8 @@ use Rattle.llsc_base.specs.declared.outside.Stop.TheVariants.{Exit}
 use Rattle.a32_instr.specs.Effect.{acts, effect_of}
 use Rattle.a32_instr.specs.State.{State}
 use Rattle.llsc_base.specs.Effects.{asks, calls, completes, stops}
-use Rattle.a32_step.specs.Machine.{Machine, next_effect, after_next, begins, after_instr, instr_at, a32}
+use Rattle.a32_step.specs.Machine.{Machine, next_effect, after_next, instr_at, a32}
+use Rattle.a32_step.specs.inner.Machine.{begins, after_instr}
 use Rattle.guest_core.specs.Machine.{given, between, moved_on, returned_of}
 use Rattle.guest_core.specs.Phase.{Inside}
 use Rattle.guest_calls.specs.Calls.{exits, answers, writes_bytes}

@@ -9,7 +9,8 @@ use Rattle.llsc_base.proofs.Values.{length-values_below}
 use Rattle.elf32.specs.declared.faults.ElfFault.{ElfFault}
 use Rattle.elf32.specs.Headers.{header_size, entry_field, entry_address, headers_of, segments_of}
 use Rattle.elf32.specs.Faults.{program_fault, is_past, is_unstored, is_writable_code, overlap}
-use Rattle.elf32.specs.Image.{IsPlaced, byte_at, span_of}
+use Rattle.elf32.specs.Image.{byte_at, span_of}
+use Rattle.elf32.specs.inner.Image.{IsPlaced}
 use Rattle.elf32.proofs.Sound.{all-placed, all-spans, spans-apart}
 
 -- what its image rests on: it has a header, four tests hold of no segment, and the entry is the address of a word

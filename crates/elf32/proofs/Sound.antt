@@ -9,7 +9,8 @@ use Rattle.llsc_base.specs.Images.{IsSpan, AreApart}
 use Rattle.elf32.specs.declared.headers.ProgramHeader.{ProgramHeader}
 use Rattle.elf32.specs.Headers.{end_of, is_segment, runs, writes}
 use Rattle.elf32.specs.Faults.{is_past, is_unstored, is_writable_code, overlap, share}
-use Rattle.elf32.specs.Image.{IsPlaced, span_of}
+use Rattle.elf32.specs.Image.{span_of}
+use Rattle.elf32.specs.inner.Image.{IsPlaced}
 
 not_true : (b : Bool) → (b ≡ true → ⊥) → b ≡ false
 not_true true never = absurd (never refl)

@@ -4,7 +4,8 @@ use Rattle.std.specs.Prelude.{All}
 use Rattle.std.proofs.lemmas.List.Elements.{All-tail}
 use Rattle.elf32.specs.declared.headers.ProgramHeader.{ProgramHeader}
 use Rattle.elf32.specs.Faults.{overlap, share}
-use Rattle.elf32.specs.Image.{IsPlaced, byte_at, stores}
+use Rattle.elf32.specs.Image.{byte_at, stores}
+use Rattle.elf32.specs.inner.Image.{IsPlaced}
 use Rattle.elf32.proofs.Sound.{overlap-first, overlap-others}
 
 swapped : (p q : Bool) (x y z : ℕ) → (p ≡ true → q ≡ true → ⊥)

@@ -1,6 +1,6 @@
 -- The header of a 32-bit ELF file and its program headers (System V gABI, ELF Header and Program Header), as far as they
 -- are looked at. Numbers have their least significant byte first.
-use Rattle.std.specs.Prelude.{ℕ, ◌≤◌, length, zero, suc, ◌+◌, ◌-◌, ◌*◌, ◌/◌, ◌%◌, ◌==◌, ◌&&◌, not, Bool, List, [], ◌∷◌, ◌++◌, drop, filter}
+use Rattle.std.specs.Prelude.{ℕ, zero, suc, ◌+◌, ◌-◌, ◌*◌, ◌/◌, ◌%◌, ◌==◌, ◌&&◌, not, Bool, List, [], ◌∷◌, ◌++◌, drop, filter}
 use Rattle.byteorder.specs.Endian.{little_number}
 use Rattle.elf32.specs.declared.headers.ProgramHeader.{ProgramHeader}
 
@@ -80,9 +80,3 @@ end_of header = header.address + header.memory_size
 -- the address of the first instruction: e_entry, whose lowest bit says Thumb and is no part of the address
 abbrev pub entry_address : List ℕ → ℕ
 entry_address file = entry_field file - entry_field file % 2
-
--- a file has its header, and in it at most 64 program headers in a table that ends within the file
-pub record HasTable (file : List ℕ) : Type 0 where
-  pub header : header_size ≤ length file
-  pub count : table_count file ≤ 64
-  pub inside : table_offset file + entry_size * table_count file ≤ length file

@@ -1,17 +1,11 @@
 -- The image of an ELF file: what its segments make of memory (System V gABI, Program Header: Segment Types, PT_LOAD).
-use Rattle.std.specs.Prelude.{ℕ, ◌≤◌, ◌+◌, ◌-◌, ◌&&◌, nat_le, nat_lt, if◌then◌else◌, Bool, List, [], ◌∷◌, map, slice_index}
+use Rattle.std.specs.Prelude.{ℕ, ◌+◌, ◌-◌, ◌&&◌, nat_le, nat_lt, if◌then◌else◌, Bool, List, [], ◌∷◌, map, slice_index}
 use Rattle.llsc_base.specs.Sizes.{Numbers}
 use Rattle.llsc_base.specs.Flat.{values_below}
 use Rattle.llsc_base.specs.Images.{Program}
 use Rattle.llsc_base.specs.declared.images.Span.{Span}
 use Rattle.elf32.specs.declared.headers.ProgramHeader.{ProgramHeader}
 use Rattle.elf32.specs.Headers.{segments_of, runs, writes, end_of, entry_address}
-
--- a segment has no more bytes in the file than in memory, they lie in a file of so many bytes, and its memory in so much
-pub record IsPlaced (count : ℕ) (mem : ℕ) (segment : ProgramHeader) : Type 0 where
-  pub short : segment.file_size ≤ segment.memory_size
-  pub stored : segment.offset + segment.file_size ≤ count
-  pub inside : end_of segment ≤ mem
 
 -- a segment has a byte of the file for an address
 abbrev pub stores : ProgramHeader → ℕ → Bool

@@ -3,3 +3,4 @@ pub mod Headers
 pub mod Image
 pub mod Units
 pub mod Written
+pub mod inner

@@ -2,7 +2,8 @@
 ghost use Rattle.std.specs.Prelude.{◌≡◌, ◌≤◌, None, false, length};
 ghost use Rattle.std.specs.List.{list_any};
 ghost use Rattle.elf32.specs.Faults.{has_bad_table, has_code_at, header_fault, is_bad_entry, is_dynamic, is_past, is_unstored, is_writable_code, overlap, program_fault, share};
-ghost use Rattle.elf32.specs.Headers.{HasTable, entry_address, header_size, headers_of, runs, segments_of};
+ghost use Rattle.elf32.specs.Headers.{entry_address, header_size, headers_of, runs, segments_of};
+ghost use Rattle.elf32.specs.inner.Headers.{HasTable};
 
 use crate::faults::ElfFault;
 use crate::fields::{entry_field, file_type, machine, table_count, table_entry_size, table_offset};

@@ -3,7 +3,8 @@ ghost use Rattle.std.specs.Prelude.{◌≡◌, ◌+◌, ◌-◌, ◌<◌, ◌≤
 ghost use Rattle.llsc_base.specs.Flat.{values_below};
 ghost use Rattle.elf32.specs.Faults.{overlap};
 ghost use Rattle.elf32.specs.Headers.{end_of};
-ghost use Rattle.elf32.specs.Image.{IsPlaced, byte_at, span_of, stores};
+ghost use Rattle.elf32.specs.Image.{byte_at, span_of, stores};
+ghost use Rattle.elf32.specs.inner.Image.{IsPlaced};
 
 use crate::headers::ProgramHeader;
 use llsc_base::Span;

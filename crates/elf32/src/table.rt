@@ -1,6 +1,7 @@
 //! The table of program headers of a file, and the segments among them.
 ghost use Rattle.std.specs.Prelude.{◌≡◌, filter, length, ◌≤◌};
-ghost use Rattle.elf32.specs.Headers.{HasTable, headers_of, is_segment};
+ghost use Rattle.elf32.specs.Headers.{headers_of, is_segment};
+ghost use Rattle.elf32.specs.inner.Headers.{HasTable};
 
 use crate::fields::{table_count, table_offset};
 use crate::headers::ProgramHeader;

@@ -3,4 +3,4 @@ pub mod Machine
 pub mod Ports
 pub mod Known
 pub mod Passages
-pub mod Sound
+pub mod inner

@@ -111,14 +111,6 @@ IsReady (Awaiting instr ask) = ⊥
 IsReady (Calling call) = ⊥
 IsReady (Stopped stop) = Unit {0}
 
--- it is inside an instruction, and waits for nothing
-abbrev pub IsInside : {I : Type 0} → PhaseOf I → Type 0
-IsInside Between = ⊥
-IsInside (Inside instr) = Unit {0}
-IsInside (Awaiting instr ask) = ⊥
-IsInside (Calling call) = ⊥
-IsInside (Stopped stop) = ⊥
-
 -- between two instructions, or inside one
 abbrev pub GoesOn : {I : Type 0} → PhaseOf I → Type 0
 GoesOn Between = Unit {0}

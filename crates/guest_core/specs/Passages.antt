@@ -6,18 +6,7 @@ use Rattle.llsc_base.specs.Effects.{asks, completes}
 use Rattle.guest_core.specs.declared.phases.Passage.{Passage}
 use Rattle.guest_core.specs.declared.phases.Passage.TheVariants.{Complete, AtStart, UnderWay}
 use Rattle.guest_core.specs.Machine.{MachineOf, InstructionSet, next_of, after_of, given, between, IsReady}
-use Rattle.guest_core.specs.Phase as phase
 use Rattle.guest_core.specs.Ports.{Leads}
-
--- a machine that goes on in an instruction after these replies; where it has had none, between two instructions
-abbrev pub in_hand : {I S : Type 0} → I → S → List ℕ → MachineOf I S
-in_hand instr state [] = between state
-in_hand instr state (reply ∷ had) = record { state = state; phase = phase.Inside instr; replies = reply ∷ had }
-
--- how far an instruction has come that is not complete with these replies
-abbrev pub passage_of : List ℕ → Passage
-passage_of [] = AtStart
-passage_of (reply ∷ had) = UnderWay
 
 module _ {I S : Type 0} (set : InstructionSet I S) where
   -- a machine comes to another by accesses, each of which it asks for next, and the replies to them

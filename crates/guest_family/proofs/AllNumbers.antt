@@ -6,7 +6,7 @@ use Rattle.std.proofs.lemmas.Bool.{cases_lt}
 use Rattle.std.proofs.lemmas.List.Elements.{All-cons, All-head, All-nil, All-tail}
 use Rattle.history.specs.Started.{child_of}
 use Rattle.shared_memory.specs.Seen.{IsOneOf}
-use Rattle.guest_thread.specs.Crews.{AreTaken}
+use Rattle.guest_thread.specs.inner.Crews.{AreTaken}
 use Rattle.guest_thread.proofs.Crewed.{taken_at}
 use Rattle.guest_family.specs.Kin.{own_numbers}
 

@@ -14,8 +14,8 @@ use Rattle.guest_core.specs.Machine.{returned_of}
 use Rattle.guest_calls.specs.Run.{PointOf}
 use Rattle.guest_thread.specs.Begun.{stock_of}
 use Rattle.guest_thread.specs.StockRun.{Stock, Comes, starts_one, bad_entry, start_answer, start_point, starts_after}
-use Rattle.guest_family.specs.Next.{HasNoneLeft, after_answer, refusal_of}
-use Rattle.guest_family.specs.UnderWay.{HasCalled, IsUnderWay}
+use Rattle.guest_family.specs.inner.Next.{HasNoneLeft, after_answer, refusal_of}
+use Rattle.guest_family.specs.inner.UnderWay.{HasCalled, IsUnderWay}
 use Rattle.guest_thread.specs.declared.pieces.Part.{Part}
 use Rattle.a32_instr.specs.declared.instructions.Instr.{Instr}
 use Rattle.a32_instr.specs.State.{State}

@@ -9,12 +9,12 @@ use Rattle.history.specs.declared.entry.Entry.{Entry}
 use Rattle.shared_memory.specs.Origin.{Origin}
 use Rattle.shared_memory.specs.Seen.{IsFront, IsOneOf, SaysAllOf, joint}
 use Rattle.guest_thread.specs.Begun.{child_start}
-use Rattle.guest_thread.specs.Crews.{AreTaken}
+use Rattle.guest_thread.specs.inner.Crews.{AreTaken}
 use Rattle.guest_thread.specs.Start.{thread_start}
 use Rattle.guest_thread.specs.declared.gathering.Ran.{Ran}
 use Rattle.guest_thread.specs.declared.running.Finished.{Finished}
-use Rattle.guest_family.specs.EndedStarters.{AreChildren, HasEndedWithAll, numbers_of}
-use Rattle.guest_family.specs.UnderWay.{IsEndFrom}
+use Rattle.guest_family.specs.inner.EndedStarters.{AreChildren, HasEndedWithAll, numbers_of}
+use Rattle.guest_family.specs.inner.UnderWay.{IsEndFrom}
 use Rattle.guest_family.specs.declared.starters.StarterEnd.{StarterEnd}
 use Rattle.guest_family.proofs.Later.{children_later, end_later, same_starts}
 use Rattle.a32_step.specs.Machine.{a32}

@@ -10,12 +10,12 @@ use Rattle.history.specs.Starts.{Started, starts_in}
 use Rattle.history.specs.declared.entry.Entry.{Entry}
 use Rattle.shared_memory.specs.Origin.{Origin}
 use Rattle.shared_memory.specs.Seen.{IsFront, IsOneOf, SaysAllOf, joint}
-use Rattle.guest_thread.specs.Crews.{AreTaken}
+use Rattle.guest_thread.specs.inner.Crews.{AreTaken}
 use Rattle.guest_thread.specs.Start.{thread_start}
 use Rattle.guest_thread.specs.declared.ends.GuestEnd.{GuestEnd}
-use Rattle.guest_family.specs.EndedStarters.{AreChildren, AreHeads, HasEndedWithAll, HaveEndedWithAll, numbers_of, started_by_all}
+use Rattle.guest_family.specs.inner.EndedStarters.{AreChildren, AreHeads, HasEndedWithAll, HaveEndedWithAll, numbers_of, started_by_all}
 use Rattle.guest_family.specs.Kin.{own_numbers}
-use Rattle.guest_family.specs.UnderWay.{IsEndFrom}
+use Rattle.guest_family.specs.inner.UnderWay.{IsEndFrom}
 use Rattle.guest_family.specs.declared.families.Gathered.{Gathered}
 use Rattle.guest_family.specs.declared.starters.StarterEnd.{StarterEnd}
 use Rattle.guest_family.proofs.Combined.{joint_left, joint_right, taken_by}

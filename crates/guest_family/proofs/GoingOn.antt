@@ -16,9 +16,10 @@ use Rattle.guest_thread.specs.Counting.{AreCounts, counts_in}
 use Rattle.guest_thread.specs.StockRun.{Comes, piece, IsStockRun}
 use Rattle.guest_thread.specs.declared.running.Finished.{Finished}
 use Rattle.guest_thread.proofs.FewAccesses.{counted_within}
-use Rattle.guest_family.specs.Next.{after_answer}
-use Rattle.guest_thread.specs.Pieces.{IsPiece, point_of}
-use Rattle.guest_family.specs.UnderWay.{HasCalled, HasEnded, IsUnderWay}
+use Rattle.guest_family.specs.inner.Next.{after_answer}
+use Rattle.guest_thread.specs.Pieces.{IsPiece}
+use Rattle.guest_thread.specs.inner.Pieces.{point_of}
+use Rattle.guest_family.specs.inner.UnderWay.{HasCalled, HasEnded, IsUnderWay}
 use Rattle.guest_thread.specs.declared.pieces.Part.{Part}
 use Rattle.guest_thread.specs.declared.pieces.Paused.TheVariants.{Ended, Start, Pause}
 use Rattle.a32_instr.specs.declared.instructions.Instr.{Instr}

@@ -6,8 +6,8 @@ use Rattle.atomic_table.specs.Seated.{TableId}
 use Rattle.llsc_base.specs.Images.{Program}
 use Rattle.history.specs.declared.entry.Entry.{Entry}
 use Rattle.shared_memory.specs.Seen.{IsFront, IsOneOf, SaysAllOf, joint}
-use Rattle.guest_thread.specs.Crews.{AreTaken}
-use Rattle.guest_family.specs.EndedStarters.{IsLater}
+use Rattle.guest_thread.specs.inner.Crews.{AreTaken}
+use Rattle.guest_family.specs.inner.EndedStarters.{IsLater}
 use Rattle.guest_family.specs.Kin.{AreSpares, IsSpare, spares_of}
 use Rattle.guest_family.specs.declared.kin.Spare.{Spare}
 use Rattle.guest_family.proofs.Combined.{joint_left, joint_right, taken_by}

@@ -13,13 +13,13 @@ use Rattle.guest_calls.specs.Pairs.{pair_of, pairs_of}
 use Rattle.guest_calls.specs.Run.{Pair}
 use Rattle.guest_thread.specs.Begun.{child_start, stock_of}
 use Rattle.guest_thread.specs.Counts.{reads_of, writes_of, fails_of}
-use Rattle.guest_thread.specs.Crews.{AreTaken}
+use Rattle.guest_thread.specs.inner.Crews.{AreTaken}
 use Rattle.guest_thread.specs.Start.{thread_start}
 use Rattle.guest_thread.specs.StockRun.{IsStockRun}
 use Rattle.guest_thread.specs.declared.ends.GuestEnd.{GuestEnd}
 use Rattle.guest_thread.proofs.Crewed.{spent_later}
-use Rattle.guest_family.specs.EndedStarters.{AreChildren, AreHeads, numbers_of}
-use Rattle.guest_family.specs.UnderWay.{IsEndFrom}
+use Rattle.guest_family.specs.inner.EndedStarters.{AreChildren, AreHeads, numbers_of}
+use Rattle.guest_family.specs.inner.UnderWay.{IsEndFrom}
 
 pub same_starts : (t : ℕ) (old new : List Entry) → entries_of t new ≡ entries_of t old → starts_in t new ≡ starts_in t old
 same_starts t old new same = starts_from-own t 0 new ∙ ap (starts_from t 0) same ∙ sym (starts_from-own t 0 old)

@@ -1,7 +1,7 @@
 -- Numbers are split off a pass of all threads, one after another.
 use Rattle.std.proofs.Common.{◌≡◌, ℕ, ◌+◌, ◌<◌, ◌≤◌, ◌==◌, ◌&&◌, not, nat_lt, Bool, true, arith, sym, ap, ◌∙◌}
 use Rattle.shared_memory.specs.Seen.{IsOneOf, IsSingle, all_but}
-use Rattle.guest_family.specs.Left.{AreLeft, is_left}
+use Rattle.guest_family.specs.inner.Left.{AreLeft, is_left}
 
 zero_left : (first all low top : ℕ) → is_left first all low top 0 ≡ true
 zero_left first all low top = grind arith

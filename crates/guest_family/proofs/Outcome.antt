@@ -14,8 +14,8 @@ use Rattle.guest_thread.specs.Begun.{BeginsAs, by_itself, by_start, child_start,
 use Rattle.guest_thread.specs.BegunOutcome.{AreBegunEnds, IsBegunEnd, IsStockEndOn}
 use Rattle.guest_thread.specs.Start.{thread_start}
 use Rattle.guest_thread.specs.declared.ends.GuestEnd.{GuestEnd}
-use Rattle.guest_family.specs.EndedStarters.{AreChildren, AreHeads, numbers_of, started_by_all}
-use Rattle.guest_family.specs.UnderWay.{IsEndFrom}
+use Rattle.guest_family.specs.inner.EndedStarters.{AreChildren, AreHeads, numbers_of, started_by_all}
+use Rattle.guest_family.specs.inner.UnderWay.{IsEndFrom}
 
 -- ---- what a thread has started stands in the history
 

@@ -13,7 +13,8 @@ use Rattle.a32_step.specs.Machine.{Machine, a32}
 use Rattle.a32_step.specs.declared.conditional.Conditional.{Conditional}
 use Rattle.guest_thread.specs.Crews.{IsFresh}
 use Rattle.guest_thread.specs.declared.crews.Job.{Job}
-use Rattle.guest_family.specs.Kin.{AreSpares, AreStarters, IsSpare, IsStarter, MayRun, heads_of, spares_of}
+use Rattle.guest_family.specs.Kin.{AreSpares, AreStarters, IsSpare, IsStarter, heads_of, spares_of}
+use Rattle.guest_family.specs.inner.Kin.{MayRun}
 use Rattle.guest_family.specs.declared.kin.Kin.{Kin}
 use Rattle.guest_family.specs.declared.kin.Spare.{Spare}
 use Rattle.guest_family.specs.declared.kin.Starter.{Starter}

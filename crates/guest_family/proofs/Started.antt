@@ -23,8 +23,8 @@ use Rattle.guest_calls.specs.Run.{Pair, PointOf}
 use Rattle.guest_thread.specs.Begun.{stock_of}
 use Rattle.guest_thread.specs.Counts.{reads_in, writes_in, fails_in}
 use Rattle.guest_thread.specs.StockRun.{Stock, Comes, starts_one, start_answer, start_point, starts_after}
-use Rattle.guest_family.specs.Next.{after_answer}
-use Rattle.guest_family.specs.UnderWay.{HasCalled, IsUnderWay}
+use Rattle.guest_family.specs.inner.Next.{after_answer}
+use Rattle.guest_family.specs.inner.UnderWay.{HasCalled, IsUnderWay}
 use Rattle.guest_thread.specs.declared.pieces.Part.{Part}
 use Rattle.a32_instr.specs.declared.instructions.Instr.{Instr}
 use Rattle.a32_instr.specs.State.{State}

@@ -21,16 +21,16 @@ use Rattle.guest_calls.specs.Pairs.{pair_of, pairs_of}
 use Rattle.guest_calls.specs.Run.{Pair, first_point}
 use Rattle.guest_thread.specs.Begun.{child_start, stock_of}
 use Rattle.guest_thread.specs.Counts.{reads_of, writes_of, fails_of}
-use Rattle.guest_thread.specs.Crews.{AreTaken}
+use Rattle.guest_thread.specs.inner.Crews.{AreTaken}
 use Rattle.guest_thread.specs.Start.{thread_start}
 use Rattle.guest_thread.specs.StockRun.{Comes, begins_so}
 use Rattle.guest_thread.specs.declared.ends.GuestEnd.{GuestEnd}
 use Rattle.guest_thread.specs.declared.gathering.Ran.{Ran}
 use Rattle.guest_thread.specs.declared.running.Finished.{Finished}
-use Rattle.guest_family.specs.EndedStarters.{AreChildren, HasBranched, HasEndedWithAll, IsLater, IsStarterPart, next_start}
+use Rattle.guest_family.specs.inner.EndedStarters.{AreChildren, HasBranched, HasEndedWithAll, IsLater, IsStarterPart, next_start}
 use Rattle.guest_family.specs.Kin.{AreSpares, IsStarter, IsSpare, own_numbers, spares_of}
-use Rattle.guest_family.specs.Next.{HasNoneLeft}
-use Rattle.guest_family.specs.UnderWay.{HasCalled, HasEnded, IsEndFrom, IsUnderWay}
+use Rattle.guest_family.specs.inner.Next.{HasNoneLeft}
+use Rattle.guest_family.specs.inner.UnderWay.{HasCalled, HasEnded, IsEndFrom, IsUnderWay}
 use Rattle.guest_family.specs.declared.kin.Spare.{Spare}
 use Rattle.guest_family.specs.declared.kin.Starter.{Starter}
 use Rattle.guest_family.specs.declared.starters.StarterEnd.{StarterEnd}

@@ -1,5 +1,5 @@
 -- Guest threads that may start others, with the threads that they may start, before their first access.
-use Rattle.std.specs.Prelude.{◌≡◌, ℕ, ◌+◌, ◌*◌, ◌<◌, ◌≤◌, Bool, List, [], ◌∷◌, map, vec_len, vec_capacity}
+use Rattle.std.specs.Prelude.{◌≡◌, ℕ, ◌+◌, ◌*◌, ◌≤◌, Bool, List, [], ◌∷◌, map, vec_len, vec_capacity}
 use Rattle.std.specs.List.{range_with_len}
 use Rattle.atomic_table.specs.Seated.{TableId}
 use Rattle.llsc_base.specs.Images.{Program}
@@ -54,15 +54,6 @@ module _ {P : Type 0} (home : P → TableId) (numbers : P → ℕ → Bool) (see
   abbrev pub AreStarters : TableId → Origin → Program → List (Starter P) → Type 0
   AreStarters mem origin program [] = Unit {0}
   AreStarters mem origin program (starter ∷ starters) = IsStarter mem origin program starter × AreStarters mem origin program starters
-
-  -- some of the first threads, with room for their ends and for those of all that they may start
-  pub record MayRun (mem : TableId) (origin : Origin) (program : Program) (kin : Kin P) : Type 0 where
-    pub first : IsStarter mem origin program kin.first
-    pub others : AreStarters mem origin program kin.others.items
-    pub ends_empty : (kin.ends.items ≡ []) × (vec_len kin.ends ≡ 0)
-    pub children_empty : (kin.children.items ≡ []) × (vec_len kin.children ≡ 0)
-    pub ends_room : vec_len kin.others < vec_capacity kin.ends
-    pub children_room : (vec_len kin.others + 1) * origin.spare ≤ vec_capacity kin.children
 
   -- those of all first threads of the memory, in order of number, with room for all ends
   pub record IsReady (mem : TableId) (origin : Origin) (program : Program) (kin : Kin P) : Type 0 where

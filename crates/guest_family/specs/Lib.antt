@@ -1,5 +1,2 @@
-pub mod EndedStarters
 pub mod Kin
-pub mod Left
-pub mod Next
-pub mod UnderWay
+pub mod inner

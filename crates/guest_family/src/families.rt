@@ -5,8 +5,9 @@ ghost use Rattle.shared_memory.specs.Seen.{IsFront, IsOneOf, SaysAllOf, joint};
 ghost use Rattle.guest_thread.specs.BegunOutcome.{AreBegunEnds};
 ghost use Rattle.guest_thread.specs.Counting.{accesses_counted, counts_in};
 ghost use Rattle.guest_thread.specs.declared.ends.GuestEnd.{GuestEnd};
-ghost use Rattle.guest_family.specs.EndedStarters.{HasEndedWithAll, HaveEndedWithAll};
-ghost use Rattle.guest_family.specs.Kin.{IsReady, IsStarter, MayRun, heads_of, own_numbers};
+ghost use Rattle.guest_family.specs.inner.EndedStarters.{HasEndedWithAll, HaveEndedWithAll};
+ghost use Rattle.guest_family.specs.Kin.{IsReady, IsStarter, heads_of, own_numbers};
+ghost use Rattle.guest_family.specs.inner.Kin.{MayRun};
 ghost use denote.Param.Send.{IsSync, IsSend};
 ghost use Rattle.a32_step.specs.Machine.{a32};
 

@@ -4,7 +4,7 @@ ghost use Rattle.std.specs.List.{range_with_len};
 ghost use Rattle.history.specs.Parts.{entries_of};
 ghost use Rattle.shared_memory.specs.Seen.{IsSingle};
 ghost use Rattle.guest_family.specs.Kin.{AreSpares, AreStarters, IsReady, heads_of, spares_of};
-ghost use Rattle.guest_family.specs.Left.{AreLeft};
+ghost use Rattle.guest_family.specs.inner.Left.{AreLeft};
 
 use a32_step::{Conditional, Cpu};
 use guest_calls::Output;

@@ -6,8 +6,8 @@ ghost use Rattle.shared_memory.specs.Seen.{IsSingle};
 ghost use Rattle.a32_step.specs.Machine.{Machine};
 ghost use Rattle.guest_core.specs.Machine.{IsCalling};
 ghost use Rattle.guest_thread.specs.Begun.{stock_of};
-ghost use Rattle.guest_family.specs.Next.{HasNoneLeft, IsAligned, IsNext, after_answer, refusal_of};
-ghost use Rattle.guest_family.specs.UnderWay.{HasEnded, IsUnderWay};
+ghost use Rattle.guest_family.specs.inner.Next.{HasNoneLeft, IsAligned, IsNext, after_answer, refusal_of};
+ghost use Rattle.guest_family.specs.inner.UnderWay.{HasEnded, IsUnderWay};
 
 use crate::pieces::go_on;
 use a32_step::{Conditional, Cpu};

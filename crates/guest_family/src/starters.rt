@@ -9,10 +9,10 @@ ghost use Rattle.shared_memory.specs.Seen.{IsFront, IsOneOf, IsSingle};
 ghost use Rattle.a32_step.specs.Machine.{Machine, a32};
 ghost use Rattle.guest_core.specs.Machine.{IsCalling};
 ghost use Rattle.guest_thread.specs.Begun.{child_start};
-ghost use Rattle.guest_thread.specs.Crews.{AreTaken};
-ghost use Rattle.guest_family.specs.EndedStarters.{IfEnded, IfStarts, IsLater, IsStarterPart, LeavesRoom, RunsTo, next_start, ComesTo};
+ghost use Rattle.guest_thread.specs.inner.Crews.{AreTaken};
+ghost use Rattle.guest_family.specs.inner.EndedStarters.{IfEnded, IfStarts, IsLater, IsStarterPart, LeavesRoom, RunsTo, next_start, ComesTo};
 ghost use Rattle.guest_family.specs.Kin.{AreSpares, IsSpare, spares_of};
-ghost use Rattle.guest_family.specs.UnderWay.{HasCalled, IsEndFrom, IsUnderWay};
+ghost use Rattle.guest_family.specs.inner.UnderWay.{HasCalled, IsEndFrom, IsUnderWay};
 ghost use denote.Param.Send.{IsSync, IsSend};
 
 use crate::kin::Spare;

@@ -8,7 +8,7 @@ use Rattle.llsc_base.specs.declared.outside.Ask.{Ask}
 use Rattle.guest_calls.specs.Run.{Ends}
 use Rattle.guest_calls.specs.Pairs.{pairs_in}
 use Rattle.guest_thread.specs.Start.{thread_start}
-use Rattle.guest_machine.specs.Seats.{is_one_of}
+use Rattle.guest_machine.specs.inner.Seats.{is_one_of}
 use Rattle.guest_machine.specs.Turns.{drawn, without, Takes, begins, makes, stops, IsTrace}
 use Rattle.guest_thread.specs.Accesses.{access_by, monitor_of}
 use Rattle.guest_thread.specs.Ended.{HasEnded}

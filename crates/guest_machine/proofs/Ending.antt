@@ -13,7 +13,7 @@ use Rattle.guest_thread.specs.Counting.{AreCounts, counts_in}
 use Rattle.guest_thread.specs.End.{IsEndIn}
 use Rattle.guest_thread.specs.Start.{thread_start}
 use Rattle.guest_thread.specs.declared.ends.GuestEnd.{GuestEnd}
-use Rattle.guest_machine.specs.Seats.{StandsBy, IsSeated, HaveTurned, IsEndOfSeat, AreEndsOfSeats, seat_in}
+use Rattle.guest_machine.specs.inner.Seats.{StandsBy, IsSeated, HaveTurned, IsEndOfSeat, AreEndsOfSeats, seat_in}
 use Rattle.guest_thread.specs.Ends.{AreEnds}
 use Rattle.guest_thread.specs.ThreadState.{thread_in}
 use Rattle.guest_machine.proofs.Seen.{read_in}

@@ -4,7 +4,7 @@ use Rattle.std.specs.List.{range_with_len}
 use Rattle.std.proofs.lemmas.Bool.{ne_eqb, cases_eq}
 use Rattle.std.proofs.lemmas.List.Elements.{All-nil, All-cons, All-head, All-tail, All-filter, All-weaker}
 use Rattle.std.proofs.lemmas.List.Sums.{length-filter, count_by-le-length}
-use Rattle.guest_machine.specs.Seats.{is_one_of}
+use Rattle.guest_machine.specs.inner.Seats.{is_one_of}
 use Rattle.guest_machine.specs.Turns.{turn_of, without}
 
 or_front : (a b : Bool) → a ≡ true → (a || b) ≡ true

@@ -9,7 +9,7 @@ use Rattle.llsc_base.specs.declared.outside.Stop.{Stop}
 use Rattle.history.specs.Monitor.{Monitor}
 use Rattle.history.specs.declared.entry.Access.{Access}
 use Rattle.guest_core.specs.Machine.{MachineOf, InstructionSet}
-use Rattle.guest_machine.specs.Seats.{HaveStopped, HaveTurned, seat_in}
+use Rattle.guest_machine.specs.inner.Seats.{HaveStopped, HaveTurned, seat_in}
 use Rattle.guest_machine.specs.declared.seats.Seat.{Seat}
 
 -- a thread that is read

@@ -23,7 +23,7 @@ use Rattle.guest_thread.specs.Under.{Awaits, HasCome}
 use Rattle.run_record.specs.Limits.{IsAccess, most_accesses}
 use Rattle.guest_machine.specs.Turns.{drawn, turn_of, without, Takes, begins, makes, stops, IsTooLong}
 use Rattle.guest_thread.specs.Accesses.{access_by, monitor_of}
-use Rattle.guest_machine.specs.Seats.{SeatOf, first_seat, is_one_of, StandsBy, IsSeated, HaveTurned}
+use Rattle.guest_machine.specs.inner.Seats.{SeatOf, first_seat, is_one_of, StandsBy, IsSeated, HaveTurned}
 use Rattle.guest_thread.proofs.Pushed.{history_push, monitor_push}
 use Rattle.guest_machine.proofs.Pushed.{own_push, other_push}
 use Rattle.guest_machine.proofs.Seated.{turn_live, turn_below, taken_out, left_in, still_below, in_range, range_below}

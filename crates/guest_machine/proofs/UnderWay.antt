@@ -3,7 +3,7 @@ use Rattle.std.proofs.Common.{◌≡◌, ℕ, ◌+◌, ◌≤◌, arith, Bool, t
 use Rattle.guest_calls.specs.Run.{Pair, Ends}
 use Rattle.guest_thread.specs.Ports.{EndsBy}
 use Rattle.guest_core.specs.Ports.{Leads, goes, refused, stays}
-use Rattle.guest_machine.specs.Served.{IsServed, IsServedBy}
+use Rattle.guest_machine.specs.inner.Served.{IsServed, IsServedBy}
 use Rattle.guest_machine.specs.Alone.{IsAlone, FailsUnmarked, AllFailUnmarked, IsEndAlone}
 use Rattle.llsc_base.specs.Images.{Program}
 use Rattle.llsc_base.specs.Memory.{row_of}

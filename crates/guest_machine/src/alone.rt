@@ -21,7 +21,7 @@ pub(crate) struct Alone {
 
 impl Port for Alone {
     ghost use Rattle.guest_thread.specs.Counting.{accesses_counted};
-    ghost use Rattle.guest_machine.specs.Served.{IsServedBy};
+    ghost use Rattle.guest_machine.specs.inner.Served.{IsServedBy};
 
     ghost replies = { IsServedBy };
 

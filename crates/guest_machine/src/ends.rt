@@ -1,6 +1,6 @@
 //! How the threads of a trace ended.
 ghost use Rattle.std.specs.Prelude.{◌≤◌, IfOk, IsSome, length};
-ghost use Rattle.guest_machine.specs.Seats.{AreEndsOfSeats, HaveStopped, IsEndOfSeat};
+ghost use Rattle.guest_machine.specs.inner.Seats.{AreEndsOfSeats, HaveStopped, IsEndOfSeat};
 
 use crate::seats::Seat;
 use guest_core::Core;

@@ -1,7 +1,7 @@
 //! The threads of a trace.
 ghost use Rattle.std.specs.Prelude.{◌≡◌, IfOk, map};
 ghost use Rattle.std.specs.List.{range_with_len};
-ghost use Rattle.guest_machine.specs.Seats.{first_seat, seat_in};
+ghost use Rattle.guest_machine.specs.inner.Seats.{first_seat, seat_in};
 
 use guest_core::Core;
 use guest_thread::Guest;

@@ -1,6 +1,6 @@
 //! Threads that take turns on one memory.
 ghost use Rattle.std.specs.Prelude.{◌≡◌, ◌⊎◌, ◌<◌, ◌≤◌, [], IfErr, IfOk, length};
-ghost use Rattle.guest_machine.specs.Seats.{AreUnderWay, left_of};
+ghost use Rattle.guest_machine.specs.inner.Seats.{AreUnderWay, left_of};
 ghost use Rattle.llsc_base.specs.Limits.{most_budget};
 ghost use Rattle.guest_machine.specs.Turns.{IsTooLong};
 

@@ -15,7 +15,7 @@ use Rattle.llsc_base.specs.declared.outside.CallAsk.{CallAsk}
 use Rattle.llsc_base.specs.declared.outside.Stop.{Stop}
 use Rattle.llsc_base.specs.declared.outside.Stop.TheVariants as stop
 use Rattle.guest_core.specs.Machine.{MachineOf, between, wanted_of, IsCalling, InstructionSet}
-use Rattle.guest_core.specs.Sound.{AsksPass, AsksHaveRoom, StopsAreOwn}
+use Rattle.guest_core.specs.inner.Sound.{AsksPass, AsksHaveRoom, StopsAreOwn}
 use Rattle.guest_core.specs.Phase.{PhaseOf, Calling}
 use Rattle.guest_core.specs.Ports.{Leads}
 use Rattle.guest_calls.specs.Calls.{most_output}
@@ -23,12 +23,15 @@ use Rattle.guest_calls.specs.Pairs.{pair_of, pairs_of}
 use Rattle.guest_calls.specs.Run.{Pair, by_itself, PointOf}
 use Rattle.guest_thread.specs.Counting.{AreCounts, accesses_counted}
 use Rattle.guest_thread.specs.Outcome.{IsSpent}
-use Rattle.guest_thread.specs.Pieces.{ByAnswer, CountFew, HasMadeFew, IsPiece, StandsAt, counts_after, counts_by, ended_at, pass_of, point_of}
-use Rattle.guest_thread.specs.Ports.{RestsWithin, RestsBy, EndsByFrom}
+use Rattle.guest_thread.specs.Pieces.{ByAnswer, CountFew, HasMadeFew, IsPiece, StandsAt, counts_after, counts_by, pass_of}
+use Rattle.guest_thread.specs.inner.Pieces.{ended_at, point_of}
+use Rattle.guest_thread.specs.Ports.{EndsByFrom}
+use Rattle.guest_thread.specs.inner.Ports.{RestsWithin, RestsBy}
 use Rattle.guest_thread.specs.Progress.{progress_of}
-use Rattle.guest_thread.specs.Sharing.{SharingState, IsServedBy, RefusesAt}
-use Rattle.guest_thread.specs.ThreadState.{StopsWithin, ThreadOf, ThreadStateOf, thread_in}
-use Rattle.guest_thread.specs.Under.{ComesToEvent}
+use Rattle.guest_thread.specs.inner.Sharing.{SharingState, IsServedBy, RefusesAt}
+use Rattle.guest_thread.specs.ThreadState.{ThreadOf, ThreadStateOf, thread_in}
+use Rattle.guest_thread.specs.inner.ThreadState.{StopsWithin}
+use Rattle.guest_thread.specs.inner.Under.{ComesToEvent}
 use Rattle.guest_thread.specs.declared.counts.Counts.{Counts}
 use Rattle.guest_thread.specs.declared.guests.Event.TheVariants as event
 use Rattle.guest_thread.specs.declared.pieces.Part.{Part}

@@ -14,8 +14,9 @@ use Rattle.guest_thread.specs.declared.guests.Called.{Called}
 use Rattle.guest_thread.specs.declared.guests.Event.TheVariants as event
 use Rattle.guest_thread.specs.declared.guests.Turn.TheVariants as turn
 use Rattle.guest_thread.specs.ThreadState.{ThreadOf}
-use Rattle.guest_thread.specs.Turns.{AfterCall, BeginsWrite, turn_by, write_of}
-use Rattle.guest_thread.specs.Under.{HasComeFrom, HasComeBy, IsPrintingFrom, ComesToEvent, ComesToFrom}
+use Rattle.guest_thread.specs.inner.Turns.{AfterCall, BeginsWrite, turn_by, write_of}
+use Rattle.guest_thread.specs.Under.{HasComeFrom, HasComeBy, IsPrintingFrom, ComesToFrom}
+use Rattle.guest_thread.specs.inner.Under.{ComesToEvent}
 use Rattle.guest_thread.proofs.Effects.{effect_calls}
 use Rattle.guest_thread.proofs.Reached.{reached_by, come_by, reached_at}
 use Rattle.guest_thread.proofs.Printed.{asking_byte}

@@ -14,7 +14,8 @@ use Rattle.guest_core.proofs.Follows.{follows_of}
 use Rattle.guest_calls.specs.Run.{Pair, ReachesBy, accesses, steps_on, PointOf}
 use Rattle.guest_calls.specs.Calls.{most_output}
 use Rattle.guest_calls.proofs.FewAccesses.{given_one}
-use Rattle.guest_thread.specs.Ports.{IsAtRest, IsRunning}
+use Rattle.guest_thread.specs.Ports.{IsRunning}
+use Rattle.guest_thread.specs.inner.Ports.{IsAtRest}
 use Rattle.guest_thread.specs.ThreadState.{ThreadOf, IsReadyBy}
 use Rattle.guest_thread.specs.Under.{HasComeFrom}
 use Rattle.guest_thread.proofs.Reached.{come_by, reached_at, reached_by}

@@ -21,7 +21,8 @@ use Rattle.guest_thread.specs.Counts.{reads_of, writes_of, fails_of}
 use Rattle.guest_thread.specs.Outcome.{AreEndsOn, IsEndOn, IsSpent}
 use Rattle.guest_thread.specs.Start.{thread_start}
 use Rattle.guest_thread.specs.declared.ends.GuestEnd.{GuestEnd}
-use Rattle.guest_thread.specs.Crews.{AreEndsOf, AreFresh, AreTaken, HaveEnded, IsEndOf, IsFresh, threads_of}
+use Rattle.guest_thread.specs.Crews.{AreFresh, IsFresh, threads_of}
+use Rattle.guest_thread.specs.inner.Crews.{AreEndsOf, AreTaken, HaveEnded, IsEndOf}
 use Rattle.guest_thread.specs.declared.crews.Job.{Job}
 use Rattle.guest_thread.specs.declared.gathering.Ran.{Ran}
 

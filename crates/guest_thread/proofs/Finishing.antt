@@ -12,7 +12,7 @@ use Rattle.guest_calls.specs.Run.{Pair, first_point, EndsOn, by_itself}
 use Rattle.guest_thread.specs.Counting.{AreCounts, counts_in}
 use Rattle.guest_thread.specs.Outcome.{IsSpent, IsEndOn}
 use Rattle.guest_thread.specs.Ports.{EndsBy}
-use Rattle.guest_thread.specs.Sharing.{SharingState, IsServedBy, RefusesAt}
+use Rattle.guest_thread.specs.inner.Sharing.{SharingState, IsServedBy, RefusesAt}
 use Rattle.guest_core.specs.Ports.{Leads}
 use Rattle.atomic_table.specs.Seated.{TableId}
 use Rattle.history.specs.Parts.{entries_of}

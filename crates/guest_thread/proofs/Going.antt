@@ -5,7 +5,7 @@ use Rattle.llsc_base.specs.declared.outside.CallAsk.{CallAsk}
 use Rattle.llsc_base.specs.declared.outside.Stop.{Stop}
 use Rattle.llsc_base.specs.declared.outside.Stop.TheVariants.{Budget, TagLimit}
 use Rattle.guest_core.specs.Machine.{MachineOf, after_of, between, wanted_of, IsReady, GoesOn, InstructionSet}
-use Rattle.guest_core.specs.Sound.{AsksPass, AsksHaveRoom, StopsAreOwn}
+use Rattle.guest_core.specs.inner.Sound.{AsksPass, AsksHaveRoom, StopsAreOwn}
 use Rattle.guest_core.specs.Phase.{PhaseOf, Between, Inside, Awaiting, Calling, Stopped}
 use Rattle.guest_core.specs.declared.phases.Wanted.TheVariants as wanted
 use Rattle.guest_core.proofs.Follows.{follows_of}
@@ -16,7 +16,7 @@ use Rattle.guest_calls.proofs.FewAccesses.{few_pairs}
 use Rattle.guest_calls.proofs.Pieces.{ends_on_later, reaches_on, reaches_plain}
 use Rattle.guest_thread.specs.Pieces.{ByAnswer, HasMadeFew, StandsAt}
 use Rattle.guest_thread.specs.Ports.{EndsByFrom}
-use Rattle.guest_thread.specs.ThreadState.{StopsWithin}
+use Rattle.guest_thread.specs.inner.ThreadState.{StopsWithin}
 use Rattle.guest_thread.specs.Under.{CallsToStart}
 use Rattle.guest_thread.specs.declared.pieces.Paused.{Paused}
 use Rattle.guest_thread.specs.declared.pieces.Paused.TheVariants.{Ended, Start, Pause}

@@ -5,7 +5,7 @@ use Rattle.guest_core.specs.Machine.{MachineOf, InstructionSet}
 use Rattle.guest_calls.specs.Run.{Pair}
 use Rattle.guest_thread.specs.Progress.{IsBounded, HasKept}
 use Rattle.guest_thread.specs.ThreadState.{ThreadOf}
-use Rattle.guest_thread.specs.Turns.{IsAtTurn}
+use Rattle.guest_thread.specs.inner.Turns.{IsAtTurn}
 use Rattle.guest_thread.specs.Under.{HasCome}
 
 module _ {I S : Type 0} (set : InstructionSet I S) where

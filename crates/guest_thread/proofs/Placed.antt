@@ -7,7 +7,7 @@ use Rattle.llsc_base.specs.declared.outside.Stop.{Stop}
 use Rattle.llsc_base.specs.declared.outside.Stop.TheVariants as stop
 use Rattle.llsc_base.specs.Effects.{asks, stops}
 use Rattle.guest_core.specs.Phase.{PhaseOf, Between, Inside, Awaiting, Calling, Stopped}
-use Rattle.guest_core.specs.Sound.{AsksPass, StopsAreOwn}
+use Rattle.guest_core.specs.inner.Sound.{AsksPass, StopsAreOwn}
 use Rattle.guest_core.specs.Machine.{MachineOf, wanted_of, after_of, given_in, IsReady, IsAwaiting, InstructionSet, IsOwn, GoesOn}
 use Rattle.guest_core.specs.declared.phases.Wanted.TheVariants as wanted
 use Rattle.guest_core.proofs.Follows.{follows_of}

@@ -9,7 +9,7 @@ use Rattle.guest_calls.specs.Run.{Pair, byte_load, byte_loads, ReachesBy, AsksFr
 use Rattle.guest_thread.specs.declared.guests.Printing.{Printing}
 use Rattle.guest_thread.specs.declared.guests.Turn.TheVariants as turn
 use Rattle.guest_thread.specs.ThreadState.{ThreadOf}
-use Rattle.guest_thread.specs.Turns.{after_byte, after_front_byte, after_last_byte}
+use Rattle.guest_thread.specs.inner.Turns.{after_byte, after_front_byte, after_last_byte}
 use Rattle.guest_thread.specs.Under.{HasComeFrom, HasComeBy, IsPrintingFrom, AwaitsFrom, AwaitsBy, ComesToFrom}
 use Rattle.guest_thread.proofs.Reached.{reached_at}
 

@@ -10,7 +10,8 @@ use Rattle.guest_calls.specs.Run.{Pair, ReachesBy, EndsFrom, accesses, steps_on,
 use Rattle.guest_thread.specs.declared.guests.Event.TheVariants as event
 use Rattle.guest_thread.specs.declared.guests.Turn.TheVariants as turn
 use Rattle.guest_thread.specs.ThreadState.{ThreadOf}
-use Rattle.guest_thread.specs.Under.{HasComeFrom, HasComeBy, AwaitsFrom, AwaitsBy, ComesToEvent, ComesToFrom}
+use Rattle.guest_thread.specs.Under.{HasComeFrom, HasComeBy, AwaitsFrom, AwaitsBy, ComesToFrom}
+use Rattle.guest_thread.specs.inner.Under.{ComesToEvent}
 use Rattle.guest_thread.proofs.Effects.{effect_asks, effect_stops, effect_completes}
 
 module _ {I S : Type 0} (set : InstructionSet I S) where

@@ -22,7 +22,7 @@ use Rattle.guest_thread.specs.Counting.{AreCounts, accesses_counted}
 use Rattle.guest_thread.specs.Counts.{reads_in, writes_in, fails_in, reads_of, writes_of, fails_of}
 use Rattle.guest_thread.specs.Outcome.{IsSpent}
 use Rattle.guest_thread.specs.declared.counts.Counts.{Counts}
-use Rattle.guest_thread.specs.Sharing.{SharingState, HasGoneOn, IsServed, IsUnserved, IsServedBy}
+use Rattle.guest_thread.specs.inner.Sharing.{SharingState, HasGoneOn, IsServed, IsUnserved, IsServedBy}
 
 -- ---- a store that is refused
 

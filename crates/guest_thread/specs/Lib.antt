@@ -8,9 +8,7 @@ pub mod Outcome
 pub mod Ports
 pub mod Progress
 pub mod ThreadState
-pub mod Sharing
 pub mod Start
-pub mod Turns
 pub mod Under
 pub mod Worked
 pub mod StockRun
@@ -18,3 +16,4 @@ pub mod Crews
 pub mod Begun
 pub mod BegunOutcome
 pub mod Pieces
+pub mod inner

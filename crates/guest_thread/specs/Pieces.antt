@@ -9,7 +9,6 @@ use Rattle.history.specs.declared.entry.Entry.{Entry}
 use Rattle.shared_memory.specs.Origin.{Origin}
 use Rattle.shared_memory.specs.Seen.{IsFront, IsSingle}
 use Rattle.llsc_base.specs.declared.outside.CallAsk.{CallAsk}
-use Rattle.llsc_base.specs.declared.outside.Stop.{Stop}
 use Rattle.llsc_base.specs.declared.outside.Stop.TheVariants.{Exit, TagLimit}
 use Rattle.guest_core.specs.Machine.{MachineOf, InstructionSet, between, IsCalling}
 use Rattle.guest_calls.specs.Bound.{most_accesses_in}
@@ -17,7 +16,6 @@ use Rattle.guest_calls.specs.Pairs.{pairs_of}
 use Rattle.guest_calls.specs.Run.{Pair, PointOf, ReachesBy, EndsOnFrom}
 use Rattle.guest_thread.specs.Counting.{AreCounts, accesses_counted, counts_in}
 use Rattle.guest_thread.specs.Outcome.{IsSpent}
-use Rattle.guest_thread.specs.ThreadState.{ThreadStateOf}
 use Rattle.guest_thread.specs.Under.{CallsToStart}
 use Rattle.guest_thread.specs.declared.counts.Counts.{Counts}
 use Rattle.guest_thread.specs.declared.pieces.Part.{Part}
@@ -30,18 +28,6 @@ use Rattle.guest_thread.specs.declared.running.Finished.{Finished}
 -- the counts of a part
 abbrev pub counts_by : {P C : Type 0} → Part P C → Counts
 counts_by part = record { reads = part.reads; writes = part.writes; fails = part.fails }
-
--- a thread that has come so far, with its pass and its counts
-abbrev pub part_at : {P C : Type 0} → ThreadStateOf C → P → Counts → Part P C
-part_at standing pass counts =
-    record { cpu = standing.cpu; pass = pass; out = standing.output; steps = standing.steps; reads = counts.reads; writes = counts.writes; fails = counts.fails }
-
--- the end of a thread that has come so far
-abbrev pub ended_at : {P C : Type 0} → (thread : ℕ) → Stop → Part P C → Finished P
-ended_at thread stop part = record {
-  pass = part.pass;
-  end = record { thread = thread; stop = stop; steps = part.steps; reads = part.reads; writes = part.writes; fails = part.fails; out = part.out };
-}
 
 -- no more accesses are counted than so many steps and so much output allow
 abbrev pub CountFew : Counts → (steps : ℕ) → (output : List ℕ) → Type 0
@@ -77,10 +63,6 @@ pub record HasEndedAt {P : Type 0} (origin : Origin) (history : List Entry) (upt
 
 -- the threads of an instruction set on cores that stand for its machines
 module _ {I S : Type 0} (set : InstructionSet I S) {C : Type 0} (machine : C → MachineOf I S) where
-  -- how far a part has come
-  abbrev pub point_of : {P : Type 0} → Part P C → PointOf I S
-  point_of part = record { machine = machine part.cpu; steps = part.steps; output = part.out }
-
   -- ---- what a run comes to
 
   -- a run from a point comes to the answer with these accesses and replies: to the thread's end, to a call that starts a thread, or to

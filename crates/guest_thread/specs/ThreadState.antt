@@ -1,13 +1,9 @@
 -- Where a guest thread stands between two of its accesses, and while it waits for the reply to one.
-use Rattle.std.specs.Prelude.{◌≡◌, ◌⊎◌, ℕ, ◌+◌, ◌-◌, ◌^◌, ◌<◌, ◌≤◌, List, length, Option, Some, None}
+use Rattle.std.specs.Prelude.{ℕ, ◌+◌, ◌-◌, ◌^◌, ◌<◌, ◌≤◌, List, length, Option, Some, None}
 use Rattle.llsc_base.specs.declared.outside.Ask.{Ask}
-use Rattle.llsc_base.specs.declared.outside.Stop.{Stop}
-use Rattle.llsc_base.specs.declared.outside.Stop.TheVariants.{Exit}
 use Rattle.guest_core.specs.Machine.{MachineOf, IsReady, IsAwaiting, IsCalling}
 use Rattle.guest_core.specs.Ports.{IsAskIn, ReplyFits}
 use Rattle.guest_calls.specs.Calls.{most_output}
-use Rattle.guest_thread.specs.declared.guests.Event.{Event}
-use Rattle.guest_thread.specs.declared.guests.Event.TheVariants as event
 use Rattle.guest_thread.specs.declared.guests.Printing.{Printing}
 use Rattle.guest_thread.specs.declared.guests.Turn.{Turn}
 use Rattle.guest_thread.specs.declared.guests.Turn.TheVariants as turn
@@ -80,20 +76,3 @@ pub record IsPending {I S : Type 0} (mem budget : ℕ) (ask : Ask) (standing : T
 abbrev pub IsPendingAfter : {I S : Type 0} → ℕ → ℕ → Turn → ThreadOf I S → Type 0
 IsPendingAfter mem budget (turn.Asks ask) standing = IsPending mem budget ask standing
 IsPendingAfter mem budget (turn.Ended stop) standing = Unit {0}
-
-abbrev pub IsPendingAfterEvent : {I S : Type 0} → ℕ → ℕ → Event → ThreadOf I S → Type 0
-IsPendingAfterEvent mem budget (event.Turns turn) standing = IsPendingAfter mem budget turn standing
-IsPendingAfterEvent mem budget _ standing = Unit {0}
-
--- a thread's stop comes before its steps are the budget, or is the exit call
-abbrev pub StopsWithin : ℕ → Stop → (steps : ℕ) → Type 0
-StopsWithin budget stop steps = (steps < budget) ⊎ ((code : ℕ) × (stop ≡ Exit code))
-
-abbrev pub TurnsWithin : {I S : Type 0} → ℕ → Turn → ThreadOf I S → Type 0
-TurnsWithin budget (turn.Asks ask) standing = Unit {0}
-TurnsWithin budget (turn.Ended stop) standing = StopsWithin budget stop standing.steps
-
--- where a turn is a stop, it is such a one
-abbrev pub EndsWithin : {I S : Type 0} → ℕ → Event → ThreadOf I S → Type 0
-EndsWithin budget (event.Turns turn) standing = TurnsWithin budget turn standing
-EndsWithin budget _ standing = Unit {0}

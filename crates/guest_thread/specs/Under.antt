@@ -7,8 +7,6 @@ use Rattle.llsc_base.specs.Effects.{asks, calls}
 use Rattle.guest_core.specs.Machine.{MachineOf, InstructionSet, next_of, after_of}
 use Rattle.guest_calls.specs.Calls.{is_start_call, writes_bytes}
 use Rattle.guest_calls.specs.Run.{Pair, PointOf, first_point, byte_load, byte_loads, effect_of_call, ReachesBy, EndsFrom, AsksFrom}
-use Rattle.guest_thread.specs.declared.guests.Event.{Event}
-use Rattle.guest_thread.specs.declared.guests.Event.TheVariants as event
 use Rattle.guest_thread.specs.declared.guests.Printing.{Printing}
 use Rattle.guest_thread.specs.declared.guests.Turn.{Turn}
 use Rattle.guest_thread.specs.declared.guests.Turn.TheVariants as turn
@@ -85,12 +83,3 @@ module _ {I S : Type 0} (set : InstructionSet I S) where
     pub called : next_of set program machine ≡ calls call
     pub starts : is_start_call (set.call_of call) ≡ true
     pub cpu_is : cpu ≡ after_of set program machine
-
-  -- What a thread's turn comes to where it may start threads: what a turn of another does; or it has called for a thread to be
-  -- started; or its steps are the budget, and it stands where it has come to.
-  abbrev pub ComesToEvent : Bool → Program → ℕ → PointOf I S → List Pair → Event → ThreadOf I S → Type 0
-  ComesToEvent stocked program budget from pairs (event.Turns turn) standing = ComesToFrom stocked program budget from pairs turn standing
-  ComesToEvent stocked program budget from pairs event.Starts standing =
-      (call : CallAsk) × CallsToStart stocked program budget from pairs call standing.cpu standing.steps standing.output
-  ComesToEvent stocked program budget from pairs event.Spent standing =
-      ReachesBy set stocked program budget from pairs standing.cpu standing.steps standing.output × (standing.steps ≡ budget)

@@ -7,12 +7,14 @@ ghost use Rattle.llsc_base.specs.declared.outside.CallAsk.{CallAsk};
 ghost use Rattle.guest_core.specs.Phase as phase;
 ghost use Rattle.guest_core.specs.Machine.{MachineOf, IsReady, IsCalling};
 ghost use Rattle.guest_calls.specs.Run.{Pair, PointOf, byte_load, effect_of_call};
-ghost use Rattle.guest_thread.specs.Ports.{IsAtRest};
+ghost use Rattle.guest_thread.specs.inner.Ports.{IsAtRest};
 ghost use Rattle.guest_thread.specs.Progress.{HasKept, HasMoved, IsBounded};
-ghost use Rattle.guest_thread.specs.ThreadState.{thread_in, EndsWithin, HasLeft, IsReadyIn, IsWaitingIn, IsPendingAfter, IsPendingAfterEvent, MayGive};
+ghost use Rattle.guest_thread.specs.ThreadState.{thread_in, HasLeft, IsReadyIn, IsWaitingIn, IsPendingAfter, MayGive};
+ghost use Rattle.guest_thread.specs.inner.ThreadState.{EndsWithin, IsPendingAfterEvent};
 ghost use Rattle.guest_thread.specs.Start.{first_state, thread_start};
-ghost use Rattle.guest_thread.specs.Turns.{AfterCall, IsAtTurn, IsOneStepOn, after_byte, turn_by};
-ghost use Rattle.guest_thread.specs.Under.{HasCome, HasComeFrom, Awaits, AwaitsFrom, ComesTo, ComesToEvent};
+ghost use Rattle.guest_thread.specs.inner.Turns.{AfterCall, IsAtTurn, IsOneStepOn, after_byte, turn_by};
+ghost use Rattle.guest_thread.specs.Under.{HasCome, HasComeFrom, Awaits, AwaitsFrom, ComesTo};
+ghost use Rattle.guest_thread.specs.inner.Under.{ComesToEvent};
 
 use crate::starts::start_cpu;
 use guest_calls::{CallStep, Output, guest_call, is_start_call};
@@ -84,7 +86,7 @@ pub struct Guest<C: Core> {
 }
 
 impl<C: Core> Model for Guest<C> {
-    ghost use Rattle.guest_thread.specs.Ports.{IsAtRest};
+    ghost use Rattle.guest_thread.specs.inner.Ports.{IsAtRest};
     ghost use Rattle.guest_thread.specs.Progress.{HasKept, HasMoved, IsBounded};
     ghost use Rattle.guest_thread.specs.ThreadState.{ThreadStateOf};
 

@@ -20,7 +20,7 @@ pub(crate) struct InPieces<'a, M: SharedMemory, R: Wait> {
 }
 
 impl<'a, M: SharedMemory, R: Wait> Model for InPieces<'a, M, R> {
-    ghost use Rattle.guest_thread.specs.Sharing.{SharingState};
+    ghost use Rattle.guest_thread.specs.inner.Sharing.{SharingState};
 
     ghost Value = { SharingState };
 
@@ -65,7 +65,7 @@ impl<'a, M: SharedMemory, R: Wait> InPieces<'a, M, R> {
 
 impl<'a, M: SharedMemory, R: Wait> Port for InPieces<'a, M, R> {
     ghost use Rattle.guest_thread.specs.Counting.{accesses_counted};
-    ghost use Rattle.guest_thread.specs.Sharing.{IsServedBy, RefusesAt};
+    ghost use Rattle.guest_thread.specs.inner.Sharing.{IsServedBy, RefusesAt};
 
     ghost replies = { IsServedBy };
 

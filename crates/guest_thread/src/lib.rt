@@ -10,9 +10,9 @@
 //! accesses, and [`tried_by`] says which access a thread tries by what it asks.
 //!
 //! [`prepare`] makes a [`Job`] of each thread on a memory that threads share, and [`run_all`] runs them beside each
-//! other up to their ends; `specs/Crews` says when a [`Crew`] of jobs is ready, and how its threads have ended. [`laws`] has that no thread ends by
-//! itself for what only memory can want, and that a history has one outcome; [`worked`] and [`worked_stocks`] have small
-//! cases.
+//! other up to their ends; `specs/Crews` says when a [`Crew`] of jobs is ready, and `specs/inner/Crews` how its threads have
+//! ended. [`laws`] has that no thread ends by itself for what only memory can want, and that a history has one outcome;
+//! [`worked`] and [`worked_stocks`] have small cases.
 #![tactic(auto)]
 
 mod counts;

@@ -7,7 +7,8 @@ ghost use Rattle.llsc_base.specs.declared.outside.CallAsk.{CallAsk};
 ghost use Rattle.llsc_base.specs.declared.outside.Stop.{Stop};
 ghost use Rattle.guest_core.specs.Machine.{between, IsCalling};
 ghost use Rattle.guest_core.specs.Phase.{Calling};
-ghost use Rattle.guest_thread.specs.Pieces.{CountFew, IsPiece, counts_by, ended_at, part_at};
+ghost use Rattle.guest_thread.specs.Pieces.{CountFew, IsPiece, counts_by};
+ghost use Rattle.guest_thread.specs.inner.Pieces.{ended_at, part_at};
 
 use crate::counts::Counts;
 use crate::ends::GuestEnd;

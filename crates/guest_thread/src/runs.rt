@@ -2,7 +2,8 @@
 ghost use Rattle.std.specs.Prelude.{◌≡◌, ◌<◌, ◌≤◌, ◌+◌, ℕ, [], ◌∷◌, ◌^◌, All, true, length, vec_len, vec_capacity};
 ghost use Rattle.llsc_base.specs.Limits.{most_budget};
 ghost use Rattle.shared_memory.specs.Seen.{IsFront, IsOneOf};
-ghost use Rattle.guest_thread.specs.Crews.{AreFresh, HaveEnded, IsEndOf, IsFresh, IsReady, threads_of};
+ghost use Rattle.guest_thread.specs.Crews.{AreFresh, IsFresh, IsReady, threads_of};
+ghost use Rattle.guest_thread.specs.inner.Crews.{HaveEnded, IsEndOf};
 ghost use Rattle.guest_thread.specs.Counting.{accesses_counted, counts_in};
 ghost use Rattle.guest_thread.specs.Outcome.{AreEndsOn};
 ghost use Rattle.guest_thread.specs.declared.ends.GuestEnd.{GuestEnd};

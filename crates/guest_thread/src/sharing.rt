@@ -3,7 +3,7 @@ ghost use Rattle.std.specs.Prelude.{◌≡◌, ◌+◌};
 ghost use Rattle.history.specs.Started.{MayAct};
 ghost use Rattle.shared_memory.specs.Seen.{IsSingle};
 ghost use Rattle.guest_thread.specs.Counting.{accesses_counted};
-ghost use Rattle.guest_thread.specs.Sharing.{IsServedBy};
+ghost use Rattle.guest_thread.specs.inner.Sharing.{IsServedBy};
 ghost use Rattle.llsc_base.specs.declared.outside.Ask.{Ask};
 
 use crate::counts::Counts;
@@ -27,7 +27,7 @@ impl<'a, M: SharedMemory, R: Wait> Model for Sharing<'a, M, R> {
     ghost use Rattle.std.specs.Prelude.{◌≡◌};
     ghost use Rattle.history.specs.Started.{MayAct};
     ghost use Rattle.shared_memory.specs.Seen.{IsSingle};
-    ghost use Rattle.guest_thread.specs.Sharing.{SharingState};
+    ghost use Rattle.guest_thread.specs.inner.Sharing.{SharingState};
 
     ghost Value = { SharingState };
 
@@ -94,7 +94,7 @@ impl<'a, M: SharedMemory, R: Wait> Sharing<'a, M, R> {
 
 impl<'a, M: SharedMemory, R: Wait> Port for Sharing<'a, M, R> {
     ghost use Rattle.guest_thread.specs.Counting.{accesses_counted};
-    ghost use Rattle.guest_thread.specs.Sharing.{IsServedBy, RefusesAt};
+    ghost use Rattle.guest_thread.specs.inner.Sharing.{IsServedBy, RefusesAt};
 
     ghost replies = { IsServedBy };
 

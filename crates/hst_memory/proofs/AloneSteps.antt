@@ -23,7 +23,8 @@ use Rattle.history.proofs.Steps.{reservation_of-standing}
 use Rattle.atomic_table.specs.Table.{Allows, keeps, step}
 use Rattle.shared_memory.specs.declared.views.View.{View}
 use Rattle.shared_memory.specs.Seen.{IsSingle}
-use Rattle.shared_memory.specs.Passes.{marked, moved}
+use Rattle.shared_memory.specs.Passes.{marked}
+use Rattle.shared_memory.specs.inner.Passes.{moved}
 use Rattle.shared_memory.proofs.Split.{resting}
 use Rattle.hst_memory.specs.declared.hands.Doing.{Doing}
 use Rattle.hst_memory.specs.declared.hands.Doing.TheVariants.{Rest, Alone, Watching, Done, AloneBegun, AloneWritten}
@@ -31,12 +32,14 @@ use Rattle.hst_memory.specs.declared.hands.Reserve.{Reserve}
 use Rattle.hst_memory.specs.declared.hands.Reserve.TheVariants.{Nothing, Row, Several}
 use Rattle.hst_memory.specs.declared.hands.Hand.{Hand}
 use Rattle.shared_memory.specs.declared.plans.Plan.{Plan}
-use Rattle.hst_memory.specs.Hands.{alone_word, hand, weight_of}
-use Rattle.hst_memory.specs.Knowledge.{IsAt, IsReserve, Keeps, Knows}
+use Rattle.hst_memory.specs.inner.Hands.{alone_word, hand, weight_of}
+use Rattle.hst_memory.specs.inner.Knowledge.{IsAt, IsReserve, Keeps, Knows}
 use Rattle.shared_memory.specs.Layout.{cell_word, tag_word, words_of}
-use Rattle.hst_memory.specs.Kept.{IsLaid, IsSection, Kept, KeptBy, origin_of}
-use Rattle.shared_memory.specs.Told.{ask}
-use Rattle.hst_memory.specs.Told.{Mine, absent, changed_alone, cleared, entered_alone, left_alone, left_written, read_ex, tested, watched}
+use Rattle.hst_memory.specs.Kept.{origin_of}
+use Rattle.hst_memory.specs.inner.Kept.{IsLaid, IsSection, Kept, KeptBy}
+use Rattle.shared_memory.specs.inner.Told.{ask}
+use Rattle.hst_memory.specs.Told.{Mine}
+use Rattle.hst_memory.specs.inner.Told.{absent, changed_alone, cleared, entered_alone, left_alone, left_written, read_ex, tested, watched}
 use Rattle.hst_memory.proofs.Laid.{laid-cell, laid-same, laid-section, laid-tag}
 use Rattle.hst_memory.proofs.Moves.{acts, inside-safe, moves-none, moves-one, told-none, told-one}
 use Rattle.hst_memory.proofs.Own.{own-alone, own-begin_ex, own-clear, own-end_ex, own-fail, own-leave, own-read_ex, own-watch, own-write_ex}

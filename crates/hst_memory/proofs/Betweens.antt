@@ -4,7 +4,8 @@ use Rattle.std.proofs.lemmas.Bool.{cases_Bool, eqb-false, lt-ltb}
 use Rattle.history.specs.declared.entry.Entry.{Entry}
 use Rattle.shared_memory.specs.Origin.{Origin}
 use Rattle.shared_memory.specs.declared.views.View.{View}
-use Rattle.shared_memory.specs.Passes.{alone_mark, first_view, joined_view, marked, merged, one_mark, without_mark}
+use Rattle.shared_memory.specs.Passes.{first_view, marked, one_mark}
+use Rattle.shared_memory.specs.inner.Passes.{alone_mark, joined_view, merged, without_mark}
 use Rattle.shared_memory.specs.Seen.{IsOneOf, IsSingle, Sees, joint}
 use Rattle.shared_memory.proofs.FirstWords.{first-marks}
 use Rattle.shared_memory.proofs.Joined.{merged-left, merged-right}
@@ -12,7 +13,7 @@ use Rattle.shared_memory.proofs.Marks.{marked-merged, marked-taken, one-here, ta
 use Rattle.hst_memory.specs.declared.hands.Doing.TheVariants.{Rest}
 use Rattle.hst_memory.specs.declared.hands.Reserve.TheVariants.{Nothing, Several}
 use Rattle.hst_memory.specs.declared.hands.Hand.{Hand}
-use Rattle.hst_memory.specs.Hands.{hand, reserve_joined}
+use Rattle.hst_memory.specs.inner.Hands.{hand, reserve_joined}
 use Rattle.hst_memory.specs.Passes.{IsBetween, row_of_reserve}
 use Rattle.shared_memory.specs.Told.{Goes, Settles}
 use Rattle.hst_memory.specs.Told.{Mine}

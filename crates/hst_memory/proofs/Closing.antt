@@ -15,8 +15,9 @@ use Rattle.shared_memory.proofs.Closing.{cells-seen, complete-seen, legal-seen}
 use Rattle.hst_memory.specs.declared.hands.Doing.{Doing}
 use Rattle.hst_memory.specs.declared.hands.Doing.TheVariants.{Rest}
 use Rattle.hst_memory.specs.declared.hands.Hand.{Hand}
-use Rattle.hst_memory.specs.Knowledge.{IsAt, Knows}
-use Rattle.hst_memory.specs.Kept.{KeptBy, origin_of}
+use Rattle.hst_memory.specs.inner.Knowledge.{IsAt, Knows}
+use Rattle.hst_memory.specs.Kept.{origin_of}
+use Rattle.hst_memory.specs.inner.Kept.{KeptBy}
 
 module _ (plan : Plan) (words : List ℕ) (slots : List (Unit {0})) (seat : ℕ) (v : View Hand) (all : (t : ℕ) → t < plan.size.threads → IsOneOf t (marked v.numbers)) (rest : v.doing.doing ≡ Rest)
     (final : Final (Seen (KeptBy plan) seat v) words slots) where

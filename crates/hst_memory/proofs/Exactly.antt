@@ -10,9 +10,10 @@ use Rattle.hst_memory.specs.declared.hands.Doing.TheVariants.{Rest, Alone, Alone
 use Rattle.hst_memory.specs.declared.hands.Reserve.TheVariants.{Nothing}
 use Rattle.hst_memory.specs.declared.hands.Hand.{Hand}
 use Rattle.hst_memory.specs.Exact.{IsExact, IsUndisturbed}
-use Rattle.hst_memory.specs.Hands.{hand}
+use Rattle.hst_memory.specs.inner.Hands.{hand}
 use Rattle.shared_memory.specs.Told.{Goes}
-use Rattle.hst_memory.specs.Told.{HasLost, HasWon, Mine}
+use Rattle.hst_memory.specs.Told.{Mine}
+use Rattle.hst_memory.specs.inner.Told.{HasLost, HasWon}
 use Rattle.shared_memory.proofs.Sequences.{goes-then_by}
 
 seen-more : (past : List Entry) (entry : Entry) (seen new added : List Entry) → seen ≡ past ++ entry ∷ [] → new ≡ seen ++ added → new ≡ past ++ (entry ∷ added)

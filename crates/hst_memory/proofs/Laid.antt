@@ -5,7 +5,7 @@ use Rattle.llsc_base.specs.Sizes.{Numbers}
 use Rattle.history.specs.Standing.{Standing, updated}
 use Rattle.history.proofs.Marks.{updated-other, updated-same}
 use Rattle.shared_memory.specs.Layout.{cell_word, tag_word}
-use Rattle.hst_memory.specs.Kept.{IsLaid}
+use Rattle.hst_memory.specs.inner.Kept.{IsLaid}
 
 pub laid-section : (size : Numbers) (words : List ℕ) (s : Standing) (n : ℕ) → IsLaid size words s → IsLaid size (set words 0 n) s
 laid-section size words s n laid = record {

@@ -10,14 +10,16 @@ use Rattle.history.specs.declared.entry.Entry.{Entry}
 use Rattle.history.proofs.Cuts.{each-more, each-still}
 use Rattle.shared_memory.specs.declared.views.View.{View}
 use Rattle.shared_memory.specs.Seen.{IsOneOf, IsSingle}
-use Rattle.shared_memory.specs.Passes.{marked, moved}
+use Rattle.shared_memory.specs.Passes.{marked}
+use Rattle.shared_memory.specs.inner.Passes.{moved}
 use Rattle.shared_memory.proofs.Grown.{AreBy, are_by-none, grown}
 use Rattle.shared_memory.proofs.Stepped.{are_by-one, goes-grown}
 use Rattle.hst_memory.specs.declared.hands.Hand.{Hand}
 use Rattle.shared_memory.specs.declared.plans.Plan.{Plan}
-use Rattle.hst_memory.specs.Hands.{weight_of}
-use Rattle.hst_memory.specs.Knowledge.{Knows}
-use Rattle.hst_memory.specs.Kept.{IsLaid, IsSection, Kept, origin_of}
+use Rattle.hst_memory.specs.inner.Hands.{weight_of}
+use Rattle.hst_memory.specs.inner.Knowledge.{Knows}
+use Rattle.hst_memory.specs.Kept.{origin_of}
+use Rattle.hst_memory.specs.inner.Kept.{IsLaid, IsSection, Kept}
 use Rattle.shared_memory.specs.Told.{Goes}
 use Rattle.hst_memory.proofs.Others.{IsSafe, knows-other}
 use Rattle.hst_memory.proofs.Sections.{none-alone, weight}

@@ -7,10 +7,10 @@ use Rattle.shared_memory.proofs.Closed.{opened}
 use Rattle.hst_memory.specs.declared.hands.Doing.TheVariants.{Rest}
 use Rattle.hst_memory.specs.declared.hands.Reserve.TheVariants.{Nothing}
 use Rattle.shared_memory.specs.declared.plans.Plan.{Plan}
-use Rattle.hst_memory.specs.Hands.{hand}
-use Rattle.hst_memory.specs.Knowledge.{Knows}
+use Rattle.hst_memory.specs.inner.Hands.{hand}
+use Rattle.hst_memory.specs.inner.Knowledge.{Knows}
 use Rattle.shared_memory.specs.Layout.{words_of}
-use Rattle.hst_memory.specs.Kept.{KeptBy}
+use Rattle.hst_memory.specs.inner.Kept.{KeptBy}
 use Rattle.history.specs.Memory.{IsMemory}
 use Rattle.history.specs.Standing.{standing_of}
 use Rattle.history.specs.Started.{MayStand}

@@ -17,7 +17,7 @@ use Rattle.hst_memory.specs.declared.hands.Doing.TheVariants.{Rest, Inside, Begu
 use Rattle.hst_memory.specs.declared.hands.Reserve.{Reserve}
 use Rattle.hst_memory.specs.declared.hands.Reserve.TheVariants.{Nothing, Row, Several}
 use Rattle.hst_memory.specs.declared.hands.Hand.{Hand}
-use Rattle.hst_memory.specs.Knowledge.{Flies, IsAt, IsMarked, IsReserve, Keeps, Knows}
+use Rattle.hst_memory.specs.inner.Knowledge.{Flies, IsAt, IsMarked, IsReserve, Keeps, Knows}
 
 -- ---- flights
 

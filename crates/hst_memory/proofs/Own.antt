@@ -17,8 +17,8 @@ use Rattle.hst_memory.specs.declared.hands.Doing.TheVariants.{Rest, Inside, Begu
 use Rattle.hst_memory.specs.declared.hands.Reserve.{Reserve}
 use Rattle.hst_memory.specs.declared.hands.Reserve.TheVariants.{Nothing, Row, Several}
 use Rattle.hst_memory.specs.declared.hands.Hand.{Hand}
-use Rattle.hst_memory.specs.Hands.{hand, reserve_after}
-use Rattle.hst_memory.specs.Knowledge.{Agrees, IsAt, IsReserve, Keeps, Knows}
+use Rattle.hst_memory.specs.inner.Hands.{hand, reserve_after}
+use Rattle.hst_memory.specs.inner.Knowledge.{Agrees, IsAt, IsReserve, Keeps, Knows}
 use Rattle.shared_memory.proofs.Apart.{mark-written, stage-other, stage-own}
 use Rattle.hst_memory.proofs.Others.{keeps-stay}
 

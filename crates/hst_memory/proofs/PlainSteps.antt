@@ -18,17 +18,21 @@ use Rattle.history.specs.declared.entry.Entry.TheVariants.{Read, Write, Begin, E
 use Rattle.atomic_table.specs.Table.{Allows, keeps, step}
 use Rattle.shared_memory.specs.declared.views.View.{View}
 use Rattle.shared_memory.specs.Seen.{IsSingle}
-use Rattle.shared_memory.specs.Passes.{marked, moved}
+use Rattle.shared_memory.specs.Passes.{marked}
+use Rattle.shared_memory.specs.inner.Passes.{moved}
 use Rattle.hst_memory.specs.declared.hands.Doing.{Doing}
 use Rattle.hst_memory.specs.declared.hands.Doing.TheVariants.{Rest, Inside, Begun, Written}
 use Rattle.hst_memory.specs.declared.hands.Hand.{Hand}
 use Rattle.shared_memory.specs.declared.plans.Plan.{Plan}
-use Rattle.hst_memory.specs.Hands.{hand, reserve_after, weight_of}
-use Rattle.hst_memory.specs.Knowledge.{IsAt, Knows}
+use Rattle.hst_memory.specs.inner.Hands.{hand, reserve_after, weight_of}
+use Rattle.hst_memory.specs.inner.Knowledge.{IsAt, Knows}
 use Rattle.shared_memory.specs.Layout.{cell_word, tag_word, words_of}
-use Rattle.hst_memory.specs.Kept.{IsLaid, IsSection, Kept, KeptBy, origin_of}
-use Rattle.shared_memory.specs.Told.{ask, loaded, looked_at}
-use Rattle.hst_memory.specs.Told.{Mine, changed, entered, left_shared, tagged}
+use Rattle.hst_memory.specs.Kept.{origin_of}
+use Rattle.hst_memory.specs.inner.Kept.{IsLaid, IsSection, Kept, KeptBy}
+use Rattle.shared_memory.specs.Told.{loaded, looked_at}
+use Rattle.shared_memory.specs.inner.Told.{ask}
+use Rattle.hst_memory.specs.Told.{Mine}
+use Rattle.hst_memory.specs.inner.Told.{changed, entered, left_shared, tagged}
 use Rattle.hst_memory.proofs.Laid.{laid-cell, laid-same, laid-section, laid-tag}
 use Rattle.hst_memory.proofs.Moves.{acts, inside-safe, moves-none, moves-one, told-none, told-one}
 use Rattle.hst_memory.proofs.Own.{own-begin, own-end, own-enter, own-read, own-write}

@@ -10,8 +10,9 @@ use Rattle.shared_memory.proofs.Sequences.{single-goes}
 use Rattle.hst_memory.specs.declared.hands.Hand.{Hand}
 use Rattle.shared_memory.specs.declared.plans.Plan.{Plan}
 use Rattle.shared_memory.specs.Layout.{cell_word, tag_word}
-use Rattle.shared_memory.specs.Targets.{IsPlace}
-use Rattle.hst_memory.specs.Passes.{IsMade, IsReady}
+use Rattle.shared_memory.specs.inner.Targets.{IsPlace}
+use Rattle.hst_memory.specs.Passes.{IsMade}
+use Rattle.hst_memory.specs.inner.Passes.{IsReady}
 use Rattle.shared_memory.specs.Told.{Goes}
 use Rattle.hst_memory.specs.Told.{Mine}
 

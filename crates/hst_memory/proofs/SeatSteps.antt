@@ -6,7 +6,8 @@ use Rattle.atomic_table.proofs.Lists.{at_longer}
 use Rattle.history.specs.Parts.{entries_of}
 use Rattle.history.specs.Standing.{Standing}
 use Rattle.shared_memory.specs.declared.views.View.{View}
-use Rattle.shared_memory.specs.Passes.{alone_mark, joined_view, marked, nobody, spent_view, without_mark}
+use Rattle.shared_memory.specs.Passes.{marked, nobody}
+use Rattle.shared_memory.specs.inner.Passes.{alone_mark, joined_view, spent_view, without_mark}
 use Rattle.shared_memory.specs.Seen.{IsOneOf}
 use Rattle.shared_memory.proofs.Joined.{joined, leads-differ, settled, settles}
 use Rattle.shared_memory.proofs.Split.{split}
@@ -16,9 +17,9 @@ use Rattle.hst_memory.specs.declared.hands.Reserve.{Reserve}
 use Rattle.hst_memory.specs.declared.hands.Reserve.TheVariants.{Nothing, Several}
 use Rattle.hst_memory.specs.declared.hands.Hand.{Hand}
 use Rattle.shared_memory.specs.declared.plans.Plan.{Plan}
-use Rattle.hst_memory.specs.Hands.{hand, reserve_joined, weight_of}
-use Rattle.hst_memory.specs.Knowledge.{IsAt, Knows}
-use Rattle.hst_memory.specs.Kept.{IsSection, KeptBy}
+use Rattle.hst_memory.specs.inner.Hands.{hand, reserve_joined, weight_of}
+use Rattle.hst_memory.specs.inner.Knowledge.{IsAt, Knows}
+use Rattle.hst_memory.specs.inner.Kept.{IsSection, KeptBy}
 use Rattle.shared_memory.specs.Told.{settled_at}
 use Rattle.hst_memory.specs.Told.{Mine}
 use Rattle.hst_memory.proofs.PlainSteps.{as-found}

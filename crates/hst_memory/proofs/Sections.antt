@@ -9,8 +9,8 @@ use Rattle.shared_memory.proofs.Lists.{at-below}
 use Rattle.hst_memory.specs.declared.hands.Doing.{Doing}
 use Rattle.hst_memory.specs.declared.hands.Doing.TheVariants.{Rest, Inside, Begun, Written, Alone, Watching, Done, AloneBegun, AloneWritten}
 use Rattle.hst_memory.specs.declared.hands.Hand.{Hand}
-use Rattle.hst_memory.specs.Hands.{alone_word, total_of, weight_of}
-use Rattle.hst_memory.specs.Kept.{IsAlone, IsSection}
+use Rattle.hst_memory.specs.inner.Hands.{alone_word, total_of, weight_of}
+use Rattle.hst_memory.specs.inner.Kept.{IsAlone, IsSection}
 
 abbrev pub weight : View Hand → ℕ
 weight v = weight_of v.doing.doing

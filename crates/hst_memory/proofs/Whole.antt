@@ -9,7 +9,7 @@ use Rattle.shared_memory.proofs.Sequences.{goes-then_by}
 use Rattle.hst_memory.specs.declared.hands.Doing.TheVariants.{Rest, Inside, Begun, Written, Alone, Watching, Done}
 use Rattle.hst_memory.specs.declared.hands.Reserve.TheVariants.{Row}
 use Rattle.hst_memory.specs.declared.hands.Hand.{Hand}
-use Rattle.hst_memory.specs.Hands.{hand, reserve_after}
+use Rattle.hst_memory.specs.inner.Hands.{hand, reserve_after}
 use Rattle.hst_memory.specs.Told.{Mine}
 
 module _ (origin : Origin) (p : Place) (a b c d e : Mine) where

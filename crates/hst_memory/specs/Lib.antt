@@ -1,7 +1,6 @@
-pub mod Hands
-pub mod Knowledge
 pub mod Kept
 pub mod Exact
 pub mod Told
 pub mod Passes
 pub mod Memory
+pub mod inner

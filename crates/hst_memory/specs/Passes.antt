@@ -18,12 +18,6 @@ pub record IsMade (plan : Plan) (table : TableId) : Type 0 where
   pub some_class : 0 < plan.size.classes
   pub whole : plan.size.mem % 8 ≡ 0
 
--- a seat of the table that has one number may make a step
-pub record IsReady (plan : Plan) (table home : TableId) (me : Mine) : Type 0 where
-  pub made : IsMade plan table
-  pub home_is : home ≡ table
-  pub single : IsSingle me.0.lead (marked me.0.numbers)
-
 -- the row that a pass keeps of a reservation
 abbrev pub row_of_reserve : Reserve → Option ℕ
 row_of_reserve Nothing = None

@@ -7,10 +7,11 @@
 //! goes on; `fail_absent`, and CLREX as `clear_reservation`. `seats` splits and joins, `making` makes a memory, and `sharing`
 //! has its calls.
 //!
-//! What a step tells its caller is named in `plays` and said in `specs/Told`. What a seat is doing is `hands`, what its thread
-//! knows by that `specs/Knowledge`, and what is kept between any two steps `specs/Kept`; that each step keeps it is proved in
-//! `proofs/PlainSteps`, `AloneSteps` and `SeatSteps`, of a memory that is made in `Opening` and of one that is closed in
-//! `Closing`. `specs/Exact` says when a store-exclusive succeeds; [`worked`] has small cases, what holds and what doesn't.
+//! What a step tells its caller is named in `plays` and said in `specs/inner/Told`. What a seat is doing is `hands`, what its
+//! thread knows by that `specs/inner/Knowledge`, and what is kept between any two steps `specs/inner/Kept`; that each step keeps
+//! it is proved in `proofs/PlainSteps`, `AloneSteps` and `SeatSteps`, of a memory that is made in `Opening` and of one that is
+//! closed in `Closing`. `specs/Exact` says when a store-exclusive succeeds; [`worked`] has small cases, what holds and what
+//! doesn't.
 #![tactic(auto)]
 
 mod alone;

@@ -5,12 +5,13 @@ ghost use Rattle.llsc_base.specs.Memory.{cell_of, class_of, row_of, size_bytes};
 ghost use Rattle.row_bytes.specs.Cell.{value_in_cell};
 ghost use Rattle.history.specs.Operation.{entries_of_operation, store};
 ghost use Rattle.hst_memory.specs.declared.hands.Doing.TheVariants.{Rest, Inside, Begun, Written};
-ghost use Rattle.hst_memory.specs.Hands.{hand, reserve_after};
+ghost use Rattle.hst_memory.specs.inner.Hands.{hand, reserve_after};
 ghost use Rattle.shared_memory.specs.Layout.{cell_word, tag_word};
 ghost use Rattle.hst_memory.specs.Kept.{origin_of};
-ghost use Rattle.shared_memory.specs.Targets.{IsPlace, IsTarget};
-ghost use Rattle.hst_memory.specs.Passes.{IsReady};
-ghost use Rattle.shared_memory.specs.Told.{Goes, ask};
+ghost use Rattle.shared_memory.specs.inner.Targets.{IsPlace, IsTarget};
+ghost use Rattle.hst_memory.specs.inner.Passes.{IsReady};
+ghost use Rattle.shared_memory.specs.Told.{Goes};
+ghost use Rattle.shared_memory.specs.inner.Told.{ask};
 
 use crate::plans::{HstSeat, HstShared};
 use crate::plays::{Change, Enter, Leave, Tag};

@@ -9,8 +9,8 @@ use std::alloc::Global;
 pub struct HstRule;
 
 impl TableRule<(), HstView, Plan> for HstRule {
-    ghost use Rattle.hst_memory.specs.Hands.{hand};
-    ghost use Rattle.hst_memory.specs.Kept.{KeptBy};
+    ghost use Rattle.hst_memory.specs.inner.Hands.{hand};
+    ghost use Rattle.hst_memory.specs.inner.Kept.{KeptBy};
     ghost use Rattle.shared_memory.specs.Passes.{first_view};
     ghost use Rattle.hst_memory.specs.declared.hands.Doing.TheVariants.{Rest};
     ghost use Rattle.hst_memory.specs.declared.hands.Reserve.TheVariants.{Nothing};

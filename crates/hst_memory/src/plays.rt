@@ -10,7 +10,7 @@ pub struct Enter<J> {
 }
 
 impl<J: Asks> Play<(), HstView> for Enter<J> {
-    ghost use Rattle.hst_memory.specs.Told.{entered};
+    ghost use Rattle.hst_memory.specs.inner.Told.{entered};
 
     ghost then = { entered J.ask };
 }
@@ -21,7 +21,7 @@ pub struct Tag<J> {
 }
 
 impl<J: Asks> Play<(), HstView> for Tag<J> {
-    ghost use Rattle.hst_memory.specs.Told.{tagged};
+    ghost use Rattle.hst_memory.specs.inner.Told.{tagged};
 
     ghost then = { tagged J.ask };
 }
@@ -32,7 +32,7 @@ pub struct Change<J> {
 }
 
 impl<J: Asks> Play<(), HstView> for Change<J> {
-    ghost use Rattle.hst_memory.specs.Told.{changed};
+    ghost use Rattle.hst_memory.specs.inner.Told.{changed};
 
     ghost then = { changed J.ask };
 }
@@ -43,7 +43,7 @@ pub struct Leave<J> {
 }
 
 impl<J: Asks> Play<(), HstView> for Leave<J> {
-    ghost use Rattle.hst_memory.specs.Told.{left_shared};
+    ghost use Rattle.hst_memory.specs.inner.Told.{left_shared};
 
     ghost then = { left_shared J.ask };
 }
@@ -54,7 +54,7 @@ pub struct EnterAlone<J> {
 }
 
 impl<J: Asks> Play<(), HstView> for EnterAlone<J> {
-    ghost use Rattle.hst_memory.specs.Told.{entered_alone};
+    ghost use Rattle.hst_memory.specs.inner.Told.{entered_alone};
 
     ghost then = { entered_alone J.ask };
 }
@@ -65,7 +65,7 @@ pub struct Watch<J> {
 }
 
 impl<J: Asks> Play<(), HstView> for Watch<J> {
-    ghost use Rattle.hst_memory.specs.Told.{watched};
+    ghost use Rattle.hst_memory.specs.inner.Told.{watched};
 
     ghost then = { watched J.ask };
 }
@@ -76,7 +76,7 @@ pub struct ReadEx<J> {
 }
 
 impl<J: Asks> Play<(), HstView> for ReadEx<J> {
-    ghost use Rattle.hst_memory.specs.Told.{read_ex};
+    ghost use Rattle.hst_memory.specs.inner.Told.{read_ex};
 
     ghost then = { read_ex J.ask };
 }
@@ -87,7 +87,7 @@ pub struct LeaveAlone<J> {
 }
 
 impl<J: Asks> Play<(), HstView> for LeaveAlone<J> {
-    ghost use Rattle.hst_memory.specs.Told.{left_alone};
+    ghost use Rattle.hst_memory.specs.inner.Told.{left_alone};
 
     ghost then = { left_alone J.ask };
 }
@@ -98,7 +98,7 @@ pub struct Test<J> {
 }
 
 impl<J: Asks> Play<(), HstView> for Test<J> {
-    ghost use Rattle.hst_memory.specs.Told.{tested};
+    ghost use Rattle.hst_memory.specs.inner.Told.{tested};
 
     ghost then = { tested J.ask };
 }
@@ -109,7 +109,7 @@ pub struct ChangeAlone<J> {
 }
 
 impl<J: Asks> Play<(), HstView> for ChangeAlone<J> {
-    ghost use Rattle.hst_memory.specs.Told.{changed_alone};
+    ghost use Rattle.hst_memory.specs.inner.Told.{changed_alone};
 
     ghost then = { changed_alone J.ask };
 }
@@ -120,7 +120,7 @@ pub struct LeaveWritten<J> {
 }
 
 impl<J: Asks> Play<(), HstView> for LeaveWritten<J> {
-    ghost use Rattle.hst_memory.specs.Told.{left_written};
+    ghost use Rattle.hst_memory.specs.inner.Told.{left_written};
 
     ghost then = { left_written J.ask };
 }
@@ -131,7 +131,7 @@ pub struct Absent<J> {
 }
 
 impl<J: Asks> Play<(), HstView> for Absent<J> {
-    ghost use Rattle.hst_memory.specs.Told.{absent};
+    ghost use Rattle.hst_memory.specs.inner.Told.{absent};
 
     ghost then = { absent J.ask };
 }
@@ -142,7 +142,7 @@ pub struct Clear<J> {
 }
 
 impl<J: Asks> Play<(), HstView> for Clear<J> {
-    ghost use Rattle.hst_memory.specs.Told.{cleared};
+    ghost use Rattle.hst_memory.specs.inner.Told.{cleared};
 
     ghost then = { cleared J.ask };
 }

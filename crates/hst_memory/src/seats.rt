@@ -1,11 +1,12 @@
 //! How seats are split and joined.
 ghost use Rattle.std.specs.Prelude.{◌≡◌, ◌<◌, ℕ, []};
 ghost use Rattle.history.specs.Parts.{entries_of};
-ghost use Rattle.shared_memory.specs.Passes.{alone_mark, joined_view, marked, nobody, without_mark};
+ghost use Rattle.shared_memory.specs.Passes.{marked, nobody};
+ghost use Rattle.shared_memory.specs.inner.Passes.{alone_mark, joined_view, without_mark};
 ghost use Rattle.shared_memory.specs.Seen.{IsOneOf};
 ghost use Rattle.hst_memory.specs.declared.hands.Doing.TheVariants.{Rest};
 ghost use Rattle.hst_memory.specs.declared.hands.Reserve.TheVariants.{Nothing};
-ghost use Rattle.hst_memory.specs.Hands.{hand, reserve_joined};
+ghost use Rattle.hst_memory.specs.inner.Hands.{hand, reserve_joined};
 ghost use Rattle.hst_memory.specs.Passes.{IsMade};
 ghost use Rattle.shared_memory.specs.Told.{Settles};
 
@@ -21,10 +22,10 @@ struct Given<J> {
 }
 
 impl<J: Gives> Split<HstView> for Given<J> {
-    ghost use Rattle.shared_memory.specs.Passes.{alone_mark, without_mark};
+    ghost use Rattle.shared_memory.specs.inner.Passes.{alone_mark, without_mark};
     ghost use Rattle.hst_memory.specs.declared.hands.Doing.TheVariants.{Rest};
     ghost use Rattle.hst_memory.specs.declared.hands.Reserve.TheVariants.{Nothing};
-    ghost use Rattle.hst_memory.specs.Hands.{hand};
+    ghost use Rattle.hst_memory.specs.inner.Hands.{hand};
 
     ghost left = { without_mark J.thread J.lead (hand Rest Nothing) };
 
@@ -35,10 +36,10 @@ impl<J: Gives> Split<HstView> for Given<J> {
 struct Both;
 
 impl Join<HstView> for Both {
-    ghost use Rattle.shared_memory.specs.Passes.{joined_view, spent_view};
+    ghost use Rattle.shared_memory.specs.inner.Passes.{joined_view, spent_view};
     ghost use Rattle.hst_memory.specs.declared.hands.Doing.TheVariants.{Rest};
     ghost use Rattle.hst_memory.specs.declared.hands.Reserve.TheVariants.{Nothing};
-    ghost use Rattle.hst_memory.specs.Hands.{hand, reserve_joined};
+    ghost use Rattle.hst_memory.specs.inner.Hands.{hand, reserve_joined};
 
     ghost both = { λ v w. joined_view (hand Rest (reserve_joined v w)) v w };
 

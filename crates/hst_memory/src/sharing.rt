@@ -1,10 +1,10 @@
 //! The memory is one that threads share.
 ghost use Rattle.std.specs.Prelude.{◌≡◌, ◌⊎◌, ◌+◌, ◌^◌, ◌<◌, ◌≤◌, ℕ, IsTrue, false, true};
 ghost use Rattle.llsc_base.specs.Memory.{is_aligned, size_bytes};
-ghost use Rattle.hst_memory.specs.Hands.{row_after};
+ghost use Rattle.hst_memory.specs.inner.Hands.{row_after};
 ghost use Rattle.hst_memory.specs.Exact.{IsExact};
 ghost use Rattle.history.specs.Started.{MayAct};
-ghost use Rattle.shared_memory.specs.Targets.{IsPlace, IsTarget};
+ghost use Rattle.shared_memory.specs.inner.Targets.{IsPlace, IsTarget};
 ghost use Rattle.history.specs.Operation.{entries_of_operation, fail, load_missed, load_watched, store};
 ghost use Rattle.history.specs.declared.entry.Cause.{Cause};
 ghost use Rattle.shared_memory.specs.Seen.{IsSingle, Sees};

@@ -2,7 +2,8 @@
 use Rattle.std.proofs.Common.{◌≡◌, ℕ, Bool, true, false, List, [], ◌∷◌, nat_lt, max, min, not, ◌&&◌, refl, arith}
 use Rattle.std.specs.Prelude.{fold}
 use Rattle.std.proofs.lemmas.Bool.{or_from}
-use Rattle.llsc_base.specs.Hulls.{hull_of, hull_with, meets}
+use Rattle.llsc_base.specs.Hulls.{hull_of, hull_with}
+use Rattle.llsc_base.specs.inner.Hulls.{meets}
 use Rattle.llsc_base.specs.Images.{touches_read_only}
 use Rattle.llsc_base.specs.declared.hulls.Hull.{Hull}
 use Rattle.llsc_base.specs.declared.images.Span.{Span}

@@ -1,6 +1,6 @@
 -- Registers hold 32 bits.
 use Rattle.std.proofs.Common.{◌≡◌, ◌≤◌, length, refl, ap, ◌<◌, ◌^◌, slice_set, ℕ, zero, suc, List, [], ◌∷◌, arith}
-use Rattle.llsc_base.specs.Words.{AreWords}
+use Rattle.llsc_base.specs.inner.Words.{AreWords}
 
 pub words_none : AreWords []
 words_none i = omega arith

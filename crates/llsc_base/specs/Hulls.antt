@@ -1,5 +1,5 @@
 -- The hull of the spans that aren't written.
-use Rattle.std.specs.Prelude.{ℕ, ◌^◌, ◌&&◌, nat_lt, max, min, if◌then◌else◌, Bool, List, fold}
+use Rattle.std.specs.Prelude.{◌^◌, max, min, if◌then◌else◌, List, fold}
 use Rattle.llsc_base.specs.declared.images.Span.{Span}
 use Rattle.llsc_base.specs.declared.hulls.Hull.{Hull}
 
@@ -11,7 +11,3 @@ hull_with hull span =
 -- from the least start of the spans that aren't written up to their greatest end, and no address where there are none
 unfoldable pub hull_of : List Span → Hull
 hull_of spans = fold hull_with (record { start = 2 ^ 32; end = 0 }) spans
-
--- a hull has an address from one address up to another that is above it
-abbrev pub meets : Hull → ℕ → ℕ → Bool
-meets hull from to = nat_lt from hull.end && nat_lt hull.start to

@@ -8,3 +8,4 @@ pub mod Faults
 pub mod Bits
 pub mod Words
 pub mod Effects
+pub mod inner

@@ -1,5 +1,5 @@
 -- Numbers of 32 bits.
-use Rattle.std.specs.Prelude.{ℕ, ◌<◌, ◌%◌, ◌^◌, nat_lt, if◌then◌else◌, List, slice_index, ℤ, pos, ◌-ℤ◌, unsigned_abs}
+use Rattle.std.specs.Prelude.{ℕ, ◌%◌, ◌^◌, nat_lt, if◌then◌else◌, ℤ, pos, ◌-ℤ◌, unsigned_abs}
 use Rattle.std.specs.Int.{int_rem_euclid}
 
 -- a number modulo 2 to the 32
@@ -13,7 +13,3 @@ signed x = if nat_lt x (2 ^ 31) then pos x else pos x -ℤ pos (2 ^ 32)
 -- a whole number modulo a number above 0
 abbrev pub residue : ℤ → ℕ → ℕ
 residue z modulus = unsigned_abs (int_rem_euclid z (pos modulus))
-
--- registers hold 32 bits each
-abbrev pub AreWords : List ℕ → Type 0
-AreWords regs = (i : ℕ) → slice_index regs i < 2 ^ 32

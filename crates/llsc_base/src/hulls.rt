@@ -1,6 +1,7 @@
 //! The hull of the spans that aren't written.
 ghost use Rattle.std.specs.Prelude.{◌≡◌};
-ghost use Rattle.llsc_base.specs.Hulls.{hull_of, hull_with, meets};
+ghost use Rattle.llsc_base.specs.Hulls.{hull_of, hull_with};
+ghost use Rattle.llsc_base.specs.inner.Hulls.{meets};
 
 use crate::images::Span;
 

@@ -12,7 +12,7 @@ use denote.Steps.{nothing}
 use denote.Struct.Struct.{within}
 use denote.Struct.Owning.{shape}
 use Rattle.memory_handle.specs.declared.handles.Handle.{Handle}
-use Rattle.llsc_c.specs.Holds.{holds}
+use Rattle.llsc_c.specs.inner.Holds.{holds}
 use Rattle.llsc_c.specs.declared.held.Held.{Held}
 use Rattle.llsc_c.specs.contracts.held.Held.{the_row, the_type}
 

@@ -1,7 +1,7 @@
 //! A box, as C holds it: by its pointer alone.
 ghost use Rattle.std.specs.Prelude.{◌≡◌, ◌≢◌, Option, Some, None};
 ghost use Rattle.memory_handle.specs.declared.handles.Handle.{Handle};
-ghost use Rattle.llsc_c.specs.Holds.{holds};
+ghost use Rattle.llsc_c.specs.inner.Holds.{holds};
 
 use loose_box::Loose;
 use memory_handle::Handle;

@@ -11,7 +11,7 @@
 //! thread may have seen more of the history where its store was not done.
 //!
 //! The pointer that C has is `held`'s, and three functions there are proved by hand; what is owned behind it stands in
-//! `specs/Holds`. No export has a proof that knows of it.
+//! `specs/inner/Holds`. No export has a proof that knows of it.
 #![tactic(auto)]
 
 mod answers;

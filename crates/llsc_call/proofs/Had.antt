@@ -23,7 +23,7 @@ use Rattle.llsc_texts.specs.Disassembly.{disassembly}
 use Rattle.run_record.specs.Reading.{record_of}
 use Rattle.llsc_call.specs.Answer.{Answers, AreFiles, IsDue, IsReported}
 use Rattle.llsc_call.specs.Check.{JudgesRead, files_refusal, most_record}
-use Rattle.llsc_call.specs.Files.{IsRefusedLong, ReadFiles, ReadWanted, barred, first_file, second_file}
+use Rattle.llsc_call.specs.inner.Files.{IsRefusedLong, ReadFiles, ReadWanted, barred, first_file, second_file}
 use Rattle.llsc_call.specs.Record.{RecordsRun}
 use Rattle.llsc_call.specs.Run.{ReportsRun, UnlessRun}
 use Rattle.llsc_call.specs.Trace.{Traces}

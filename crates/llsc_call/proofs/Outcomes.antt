@@ -14,7 +14,7 @@ use Rattle.llsc_files.specs.declared.refusals.Refusal.TheVariants as refusal
 use Rattle.llsc_files.specs.Refusals.{Answer, Is, unless, IsRefusal, Unless}
 use Rattle.llsc_files.specs.Programs.{image_of, program_refusal, program_refusal_as, IsLoaded, IsLoadedAs}
 use Rattle.llsc_texts.specs.Assembly.{IsGiven}
-use Rattle.llsc_call.specs.Outcome.{Gives, GivesBy, IsOneOf, refused_by}
+use Rattle.llsc_call.specs.inner.Outcome.{Gives, GivesBy, IsOneOf, refused_by}
 use Rattle.llsc_call.specs.Run.{told, UnlessRun}
 use Rattle.llsc_call.specs.declared.outcome.Outcome.{Outcome}
 

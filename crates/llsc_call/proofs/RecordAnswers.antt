@@ -21,8 +21,8 @@ use Rattle.run_merge.specs.declared.merges.MergeFault.{MergeFault}
 use Rattle.run_merge.specs.declared.merges.MergeFault.TheVariants.{TooLong, Memory}
 use Rattle.llsc_words.specs.declared.formats.Format.{Format}
 use Rattle.llsc_files.specs.Programs.{image_of, program_refusal}
-use Rattle.llsc_call.specs.Merged.{Tells, TellsOf}
-use Rattle.llsc_call.specs.Outcome.{IsOneOf, status_of, text_of}
+use Rattle.llsc_call.specs.inner.Merged.{Tells, TellsOf}
+use Rattle.llsc_call.specs.inner.Outcome.{IsOneOf, status_of, text_of}
 use Rattle.llsc_call.specs.Record.{AnswersRecord, IsTooLongFor, PrintsMerge, RecordsRun}
 use Rattle.llsc_call.specs.Run.{UnlessRun}
 use Rattle.llsc_call.specs.Versions.{KeepsVersions}

@@ -12,9 +12,9 @@ use Rattle.llsc_files.specs.Reads.{IsDone}
 use Rattle.llsc_files.specs.Refusals.{IsRefusal}
 use Rattle.llsc_files.specs.declared.refusals.Refusal.{Refusal}
 use Rattle.llsc_call.specs.Answer.{Answers, AreFiles, AreTold, IsAnswer, IsCut, IsDue, IsNoneOf, ReadFailed}
-use Rattle.llsc_call.specs.Comes.{Comes, IsUnread, refused, unread, wanting, answered}
-use Rattle.llsc_call.specs.Files.{ReadFiles, barred}
-use Rattle.llsc_call.specs.Outcome.{CanBeSaid, GivesBy, IsOneOf, Says, refused_by, status_of, text_of}
+use Rattle.llsc_call.specs.inner.Comes.{Comes, IsUnread, refused, unread, wanting, answered}
+use Rattle.llsc_call.specs.inner.Files.{ReadFiles, barred}
+use Rattle.llsc_call.specs.inner.Outcome.{CanBeSaid, GivesBy, IsOneOf, Says, refused_by, status_of, text_of}
 use Rattle.llsc_call.specs.Run.{told}
 use Rattle.llsc_call.specs.declared.outcome.Outcome.{Outcome}
 use Rattle.llsc_call.specs.declared.outcome.Outcome.TheVariants as outcome

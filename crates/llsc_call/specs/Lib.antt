@@ -7,7 +7,4 @@ pub mod Load
 pub mod Check
 pub mod Record
 pub mod Answer
-pub mod Files
-pub mod Outcome
-pub mod Merged
-pub mod Comes
+pub mod inner

@@ -1,5 +1,5 @@
 -- What `load` answers, and with which history: the counter guest of a seed runs, and says what its counters hold at the end.
-use Rattle.std.specs.Prelude.{◌≡◌, ℕ, ◌<◌, ◌&&◌, if◌then◌else◌, List, Option, Some, None, codes, length}
+use Rattle.std.specs.Prelude.{◌≡◌, ℕ, ◌<◌, ◌&&◌, if◌then◌else◌, List, Option, Some, None, codes}
 use Rattle.std.specs.Option.{option_or}
 use Rattle.llsc_base.specs.Images.{Program}
 use Rattle.llsc_base.specs.Sizes.{Numbers, is_threads}
@@ -9,7 +9,6 @@ use Rattle.history.specs.declared.entry.Entry.{Entry}
 use Rattle.guest_thread.specs.Outcome.{IsOutcome}
 use Rattle.guest_thread.specs.declared.ends.GuestEnd.{GuestEnd}
 use Rattle.llsc_words.specs.Request.{default_mem}
-use Rattle.llsc_files.specs.declared.files.Loaded.{Loaded}
 use Rattle.llsc_files.specs.Refusals.{machine_of, size_refusal}
 use Rattle.llsc_report.specs.Report.{report_of}
 use Rattle.llsc_call.specs.Beside.{left_by}
@@ -60,13 +59,6 @@ IsLoadOf history seed threads rounds budget status text =
 abbrev pub TellsLoad : Option (List Entry) → (seed threads rounds budget : ℕ) → ℕ → List ℕ → Type 0
 TellsLoad None seed threads rounds budget status text = ⊥
 TellsLoad (Some history) seed threads rounds budget status text = IsLoadOf history seed threads rounds budget status text
-
--- the machine of a load was made, against which nothing stands, and the image of its guest on it
-pub record IsPrepared (seed threads rounds : ℕ) (loaded : Loaded) : Type 0 where
-  pub sized : loaded.size ≡ load_size threads
-  pub sound : load_refusal threads rounds ≡ None
-  pub image : loaded.image ≡ load_program seed threads rounds
-  pub whole : length loaded.image.bytes ≡ loaded.size.mem
 
 -- the history, the status and the text for a seed, so many threads and rounds, and a budget
 abbrev pub AnswersLoad : (seed threads rounds budget : ℕ) → Option (List Entry) → ℕ → List ℕ → Type 0

@@ -2,7 +2,7 @@
 ghost use Rattle.std.specs.Prelude.{Some, map, string_bytes};
 ghost use Rattle.llsc_host.specs.Writes.{KeepsWrites};
 ghost use Rattle.llsc_words.specs.Request.{asked, request_of, HasBudget};
-ghost use Rattle.llsc_call.specs.Comes.{Comes, IsUnread};
+ghost use Rattle.llsc_call.specs.inner.Comes.{Comes, IsUnread};
 
 use crate::answer::Answer;
 use crate::commands::{admit, answer};

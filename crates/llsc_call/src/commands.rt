@@ -4,8 +4,8 @@ ghost use Rattle.std.specs.Option.{option_and_then, option_map};
 ghost use Rattle.llsc_words.specs.Request.{asked, machine_by, HasBudget};
 ghost use Rattle.llsc_files.specs.Refusals.{size_refusal, IsRefusal};
 ghost use Rattle.llsc_call.specs.Answer.{Answers};
-ghost use Rattle.llsc_call.specs.Files.{barred, files_by, AreShort};
-ghost use Rattle.llsc_call.specs.Outcome.{GivesBy};
+ghost use Rattle.llsc_call.specs.inner.Files.{barred, files_by, AreShort};
+ghost use Rattle.llsc_call.specs.inner.Outcome.{GivesBy};
 
 mod asm;
 mod check;

@@ -2,7 +2,7 @@
 ghost use Rattle.std.specs.Prelude.{◌≡◌, None};
 ghost use Rattle.std.specs.Option.{option_map};
 ghost use Rattle.llsc_words.specs.Request.{asked};
-ghost use Rattle.llsc_call.specs.Files.{barred, first_file, second_file, wanted, ReadFiles, ReadWanted};
+ghost use Rattle.llsc_call.specs.inner.Files.{barred, first_file, second_file, wanted, ReadFiles, ReadWanted};
 
 use a32_asm::MOST_TEXT;
 use llsc_files::read;

@@ -1,6 +1,6 @@
 //! What a call comes to, before anything is said of it.
 ghost use Rattle.std.specs.Prelude.{◌≡◌};
-ghost use Rattle.llsc_call.specs.Outcome.{refused_by, status_of};
+ghost use Rattle.llsc_call.specs.inner.Outcome.{refused_by, status_of};
 ghost use Rattle.llsc_call.specs.Check.{verdict_status};
 
 use guest_thread::GuestEnd;

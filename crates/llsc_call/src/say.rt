@@ -1,7 +1,7 @@
 //! What is said of an outcome, and with which status.
 ghost use Rattle.std.specs.Prelude.{◌≡◌, IsOk};
 ghost use Rattle.llsc_host.specs.Writes.{KeepsWrites, Writes};
-ghost use Rattle.llsc_call.specs.Outcome.{text_of, CanBeSaid, Says};
+ghost use Rattle.llsc_call.specs.inner.Outcome.{text_of, CanBeSaid, Says};
 
 use crate::outcome::Outcome;
 use llsc_host::{Failed, Host, write};

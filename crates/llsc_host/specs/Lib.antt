@@ -5,3 +5,4 @@ pub mod MemoryHostInside
 pub mod SteadyHost
 pub mod SteadyHostInside
 pub mod Said
+pub mod inner

@@ -26,7 +26,8 @@ impl Model for MemoryHost {
 
     ghost Value = { Held };
 
-    ghost use Rattle.llsc_host.specs.MemoryHostInside.{held_of, IsReserved};
+    ghost use Rattle.llsc_host.specs.MemoryHostInside.{IsReserved};
+    ghost use Rattle.llsc_host.specs.inner.MemoryHostInside.{held_of};
 
     ghost view = { held_of };
 

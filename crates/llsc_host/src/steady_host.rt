@@ -24,7 +24,8 @@ impl Model for SteadyHost {
 
     ghost Value = { Steady };
 
-    ghost use Rattle.llsc_host.specs.SteadyHostInside.{steady_of, IsReserved};
+    ghost use Rattle.llsc_host.specs.SteadyHostInside.{IsReserved};
+    ghost use Rattle.llsc_host.specs.inner.SteadyHostInside.{steady_of};
 
     ghost view = { steady_of };
 

@@ -1,11 +1,9 @@
 -- What `dis` answers for the bytes of a file.
-use Rattle.std.specs.Prelude.{◌≡◌, ℕ, ◌*◌, ◌/◌, List, [], ◌++◌, length, Option, Some, None, Result, Ok, Err, codes}
+use Rattle.std.specs.Prelude.{ℕ, ◌*◌, ◌/◌, List, [], ◌++◌, length, Option, Some, None, codes}
 use Rattle.std.specs.List.{flat_map, range_with_len}
 use Rattle.llsc_base.specs.Images.{Program, word_at}
 use Rattle.number_text.specs.Hexadecimal.{word_text}
 use Rattle.a32_asm.specs.Shown.{shown_word}
-use Rattle.llsc_host.specs.Writes.{Broke, Wrote}
-use Rattle.llsc_host.specs.declared.host.Host.{Ghosts}
 use Rattle.llsc_words.specs.declared.formats.Format.{Format}
 use Rattle.llsc_files.specs.Programs.{image_of, program_refusal}
 use Rattle.llsc_files.specs.Refusals.{Answer, Is, solo_size, unless}
@@ -37,17 +35,6 @@ disassembly program = lines_of program (length program.bytes / 4)
 abbrev pub dis_answer : Format → ℕ → List ℕ → Answer
 dis_answer format mem file =
     unless (program_refusal format (solo_size mem) file) (record { status = 0; text = disassembly (image_of format file (solo_size mem)) })
-
--- some of a text was written, and the rest stands on a page
-pub record Holds {S : Type 0} (host : Ghosts S) (old new : S) (page text : List ℕ) : Type 0 where
-  pub done : List ℕ
-  pub wrote : Wrote host old new done
-  pub rest : done ++ page ≡ text
-
--- a page became another, by which a text is written or stands on it; or a write of the page failed
-abbrev pub Pages : {S A B : Type 0} → Ghosts S → (old new : S) → (page next text : List ℕ) → Result A B → Type 0
-Pages host old new page next text (Ok _) = Holds host old new next text
-Pages host old new page next text (Err _) = Broke host old new page
 
 abbrev pub AnswersDis : Format → ℕ → List ℕ → ℕ → List ℕ → Type 0
 AnswersDis format mem file status text = Is (dis_answer format mem file) status text

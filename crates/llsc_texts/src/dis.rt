@@ -2,7 +2,8 @@
 ghost use Rattle.std.specs.Prelude.{◌≡◌, ◌+◌, ◌%◌, ◌<◌, ◌≤◌, ◌++◌, [], length, codes, IfOk, OnOk};
 ghost use Rattle.number_text.specs.Hexadecimal.{word_text};
 ghost use Rattle.llsc_host.specs.Writes.{Writes};
-ghost use Rattle.llsc_texts.specs.Disassembly.{disassembly, head_text, line_at, word_line, Pages};
+ghost use Rattle.llsc_texts.specs.Disassembly.{disassembly, head_text, line_at, word_line};
+ghost use Rattle.llsc_texts.specs.inner.Disassembly.{Pages};
 
 use crate::pages::Page;
 use a32_asm::disassemble;

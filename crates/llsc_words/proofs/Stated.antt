@@ -5,7 +5,8 @@ use Rattle.clap.specs.Words.{App, is_simple_and_free}
 use Rattle.clap.proofs.OnLiterals.{clap_on_literals}
 use Rattle.llsc_words.specs.declared.names.CommandName.{CommandName}
 use Rattle.llsc_words.specs.declared.names.CommandName.TheVariants.{Solo, Run, Pool, Record, Asm, Dis, Trace, Check, Load}
-use Rattle.llsc_words.specs.Commands.{app_by, asm_app, check_app, dis_app, load_app, pool_app, record_app, run_app, solo_app, trace_app, IsStated}
+use Rattle.llsc_words.specs.Commands.{app_by, asm_app, check_app, dis_app, load_app, pool_app, record_app, run_app, solo_app, trace_app}
+use Rattle.llsc_words.specs.inner.Commands.{IsStated}
 
 pub simple_and_free : (app : App) → IsStated app → is_simple_and_free app ≡ true
 unfolding IsStated

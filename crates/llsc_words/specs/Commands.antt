@@ -1,6 +1,6 @@
 -- The commands of the program, as `clap` reads the words behind their names: which options and files each takes.
-use Rattle.std.specs.Prelude.{◌≡◌, true, Some, codes}
-use Rattle.clap.specs.Words.{App, Rule, Text, is_simple_and_free, new_app, new_rule, with_rule}
+use Rattle.std.specs.Prelude.{true, Some, codes}
+use Rattle.clap.specs.Words.{App, Rule, Text, new_app, new_rule, with_rule}
 use Rattle.clap.specs.declared.builder.ArgAction.TheVariants.{SetTrue}
 use Rattle.llsc_words.specs.declared.names.CommandName.{CommandName}
 use Rattle.llsc_words.specs.declared.names.CommandName.TheVariants.{Solo, Run, Pool, Record, Asm, Dis, Trace, Check, Load}
@@ -95,7 +95,3 @@ app_by Dis = dis_app
 app_by Trace = trace_app
 app_by Check = check_app
 app_by Load = load_app
-
--- `clap` states to the letter which words such a command takes, and what it finds in them
-unfoldable pub IsStated : App → Type 0
-IsStated app = is_simple_and_free app ≡ true

@@ -1,9 +1,8 @@
 -- What the words behind a command give it.
 use Rattle.std.specs.Prelude.{Bool, false, List, [], ◌∷◌, Option, Some, None, codes}
-use Rattle.std.specs.Option.{option_map, option_map_or}
+use Rattle.std.specs.Option.{option_map_or}
 use Rattle.std.specs.Str.{bytes_eq}
 use Rattle.clap.specs.Words.{App, Kinds, Row, Text, fault_of, first_of, matches_of}
-use Rattle.llsc_words.specs.declared.given.Given.{Given as Read}
 
 -- Each value as the text that it is, where it is given.
 pub record Given : Type 0 where
@@ -57,24 +56,3 @@ unless_faulty (fault ∷ faults) given = None
 -- what the words give a command, None where `clap` refuses them
 unfoldable pub given_in : App → List Text → Option Given
 given_in app words = unless_faulty (fault_of app words) (given_by (matches_of app words))
-
--- what borrows from the words, as what it is
-abbrev pub seen : Read → Given
-seen read = record {
-  file = option_map (λ text. text.now) read.file;
-  recorded = option_map (λ text. text.now) read.recorded;
-  number = option_map (λ text. text.now) read.number;
-  flat = read.flat;
-  rv = read.rv;
-  threads = option_map (λ text. text.now) read.threads;
-  spare = option_map (λ text. text.now) read.spare;
-  mem = option_map (λ text. text.now) read.mem;
-  granule = option_map (λ text. text.now) read.granule;
-  classes = option_map (λ text. text.now) read.classes;
-  limit = option_map (λ text. text.now) read.limit;
-  workers = option_map (λ text. text.now) read.workers;
-  slice = option_map (λ text. text.now) read.slice;
-  seed = option_map (λ text. text.now) read.seed;
-  rounds = option_map (λ text. text.now) read.rounds;
-  budget = option_map (λ text. text.now) read.budget;
-}

@@ -3,3 +3,4 @@ pub mod Commands
 pub mod Given
 pub mod Request
 pub mod Worked
+pub mod inner

@@ -1,7 +1,7 @@
 //! What a command asks for by its values.
 ghost use Rattle.std.specs.Prelude.{◌≡◌, IfSome};
 ghost use Rattle.std.specs.Option.{option_map};
-ghost use Rattle.llsc_words.specs.Given.{seen};
+ghost use Rattle.llsc_words.specs.inner.Given.{seen};
 ghost use Rattle.llsc_words.specs.Request.{asked, assemble_for, check_for, disassemble_for, format_of, load_for, machine_for, pool_for, record_for, request_by, run_for, set_of, solo_for, trace_for, HasBudget};
 
 use crate::defaults::{

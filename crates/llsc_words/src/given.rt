@@ -2,8 +2,9 @@
 ghost use Rattle.std.specs.Prelude.{◌≡◌, IfOk, map, string_bytes, codes};
 ghost use Rattle.std.specs.Option.{option_map};
 ghost use Rattle.clap.specs.Words.{app_of, first_of, found_of, rows_of};
-ghost use Rattle.llsc_words.specs.Commands.{IsStated};
-ghost use Rattle.llsc_words.specs.Given.{given_by, given_in, is_true, seen};
+ghost use Rattle.llsc_words.specs.inner.Commands.{IsStated};
+ghost use Rattle.llsc_words.specs.Given.{given_by, given_in, is_true};
+ghost use Rattle.llsc_words.specs.inner.Given.{seen};
 
 use clap::error::ErrorKind;
 use clap::{ArgMatches, Command};

@@ -2,7 +2,7 @@
 ghost use Rattle.std.specs.Prelude.{◌≡◌, ◌+◌, ◌<◌, ◌≤◌, ℕ, IfOk, IsTrue};
 ghost use Rattle.llsc_base.specs.Memory.{is_aligned, size_bytes};
 ghost use Rattle.shared_memory.specs.Seen.{IsSingle};
-ghost use Rattle.memory_bench.specs.Alone.{IsAlone};
+ghost use Rattle.memory_bench.specs.inner.Alone.{IsAlone};
 
 use hst_memory::{HstMemory, HstPass};
 use llsc_base::{Image, MachineSize, Place, Size};

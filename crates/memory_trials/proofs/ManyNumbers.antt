@@ -7,7 +7,7 @@ use Rattle.std.proofs.lemmas.List.Folds.{list_any-append}
 use Rattle.atomic_table.specs.Seated.{TableId}
 use Rattle.shared_memory.specs.Origin.{Origin}
 use Rattle.shared_memory.specs.Seen.{IsOneOf, IsSingle, all_but, joint}
-use Rattle.memory_trials.specs.Tried.{HasAll, MayAllLog, MayLog, numbers_of}
+use Rattle.memory_trials.specs.inner.Tried.{HasAll, MayAllLog, MayLog, numbers_of}
 
 and_left : (a b : Bool) → (a && b) ≡ true → a ≡ true
 and_left true b h = refl

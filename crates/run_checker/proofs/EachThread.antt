@@ -10,7 +10,7 @@ use Rattle.history.specs.declared.entry.Access.{Access}
 use Rattle.guest_thread.specs.ThreadState.{ThreadStateOf, thread_in}
 use Rattle.guest_thread.specs.Start.{thread_start}
 use Rattle.guest_thread.specs.Under.{HasCome}
-use Rattle.run_checker.specs.Positions.{AreBrought, BringsOn, IsBrought}
+use Rattle.run_checker.specs.inner.Positions.{AreBrought, BringsOn, IsBrought}
 use Rattle.run_checker.specs.declared.checker.Checker.{Checker}
 use Rattle.guest_thread.proofs.Pushed.{other_push}
 use Rattle.guest_core.specs.Machine.{MachineOf, InstructionSet}

@@ -4,7 +4,7 @@ use Rattle.llsc_base.specs.Images.{Program}
 use Rattle.llsc_base.specs.Sizes.{Numbers}
 use Rattle.history.specs.declared.entry.Access.{Access}
 use Rattle.run_checker.specs.Verdict.{IsRight, IsWrong, AreRight, Judges, good, wrong, unfinished}
-use Rattle.run_checker.specs.Positions.{AreBrought, HaveEnded, SomeAsks}
+use Rattle.run_checker.specs.inner.Positions.{AreBrought, HaveEnded, SomeAsks}
 use Rattle.run_checker.specs.declared.checker.Checker.{Checker}
 use Rattle.run_checker.specs.declared.verdicts.Reason.{Reason}
 use Rattle.run_checker.specs.declared.verdicts.Reason.TheVariants.{Unfinished}

@@ -26,7 +26,7 @@ use Rattle.run_checker.proofs.AskedPairs.{asked_inside}
 use Rattle.guest_thread.proofs.Placed.{asks_placed}
 use Rattle.guest_thread.proofs.Pushed.{monitor_push}
 use Rattle.guest_core.specs.Machine.{InstructionSet}
-use Rattle.guest_core.specs.Sound.{AsksPass, StopsAreOwn}
+use Rattle.guest_core.specs.inner.Sound.{AsksPass, StopsAreOwn}
 
 -- a mark on a row is that row
 on_row : (row : ℕ) (mark : Option ℕ) → is_on row mark ≡ true → mark ≡ Some row

@@ -14,8 +14,8 @@ use Rattle.guest_thread.specs.Start.{thread_start}
 use Rattle.guest_thread.specs.Under.{HasCome, Awaits}
 use Rattle.guest_thread.specs.Accesses.{monitor_of}
 use Rattle.run_checker.specs.Verdict.{is_asked, AsksNext, HasWrongValue, LacksMark}
-use Rattle.run_checker.specs.Serving.{IsServed}
-use Rattle.run_checker.specs.Positions.{BringsOn}
+use Rattle.run_checker.specs.inner.Serving.{IsServed}
+use Rattle.run_checker.specs.inner.Positions.{BringsOn}
 use Rattle.run_checker.proofs.AskedPairs.{asked_pair}
 use Rattle.guest_thread.proofs.Pushed.{own_push, monitor_push}
 

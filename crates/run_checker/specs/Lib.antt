@@ -1,4 +1,3 @@
 pub mod Verdict
-pub mod Serving
-pub mod Positions
 pub mod Worked
+pub mod inner

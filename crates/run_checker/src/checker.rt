@@ -8,7 +8,7 @@ ghost use Rattle.guest_thread.specs.ThreadState.{IsReadyIn, thread_in};
 ghost use Rattle.run_record.specs.Limits.{IsAccess};
 ghost use Rattle.guest_thread.specs.Accesses.{monitor_of};
 ghost use Rattle.run_checker.specs.Verdict.{IsRight, IsWrong};
-ghost use Rattle.run_checker.specs.Positions.{AreBrought, BringsOn, HaveEnded, IsBrought, MayGoOn, SomeAsks};
+ghost use Rattle.run_checker.specs.inner.Positions.{AreBrought, BringsOn, HaveEnded, IsBrought, MayGoOn, SomeAsks};
 
 use crate::asked::is_asked;
 use crate::serving::serve;

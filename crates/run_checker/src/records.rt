@@ -4,7 +4,7 @@ ghost use Rattle.llsc_base.specs.Limits.{most_budget};
 ghost use Rattle.llsc_base.specs.Sizes.{Numbers};
 ghost use Rattle.run_record.specs.Limits.{IsAccess, IsRecord, most_accesses};
 ghost use Rattle.run_checker.specs.Verdict.{Judges};
-ghost use Rattle.run_checker.specs.Positions.{AreBrought, MayGoOn};
+ghost use Rattle.run_checker.specs.inner.Positions.{AreBrought, MayGoOn};
 
 use crate::checker::Checker;
 use crate::verdicts::{Reason, Verdict};

@@ -3,7 +3,7 @@ ghost use Rattle.std.specs.Prelude.{◌≢◌, ◌≤◌, ◌+◌, IfSome, IfNon
 ghost use Rattle.llsc_base.specs.Memory.{size_bytes};
 ghost use Rattle.history.specs.Monitor.{IsAsLarge};
 ghost use Rattle.run_record.specs.Limits.{IsAccess};
-ghost use Rattle.run_checker.specs.Serving.{IsRefused, IsServed};
+ghost use Rattle.run_checker.specs.inner.Serving.{IsRefused, IsServed};
 
 use crate::verdicts::Reason;
 use history::{Access, Deed, PlainMemory};

@@ -20,11 +20,12 @@ use Rattle.version_memory.specs.Memory.{pass_home, pass_numbers, pass_seen}
 use Rattle.version_memory.specs.declared.passes.VersionPass.{VersionPass}
 use Rattle.guest_core.specs.Machine.{InstructionSet, MachineOf}
 use Rattle.guest_calls.proofs.Splits.{none_behind}
-use Rattle.guest_thread.specs.Crews.{AreEndsOf, AreTaken, HaveSeen, IsEndOf, threads_of}
+use Rattle.guest_thread.specs.Crews.{HaveSeen, threads_of}
+use Rattle.guest_thread.specs.inner.Crews.{AreEndsOf, AreTaken, IsEndOf}
 use Rattle.guest_thread.specs.declared.crews.Job.{Job}
 use Rattle.guest_thread.specs.declared.ends.GuestEnd.{GuestEnd}
 use Rattle.guest_thread.proofs.Crewed.{ended_more}
-use Rattle.run_merge.specs.Crews.{AreLogsOf, HaveLogged}
+use Rattle.run_merge.specs.inner.Crews.{AreLogsOf, HaveLogged}
 use Rattle.run_merge.specs.Logs.{IsFirst, IsLogOf}
 use Rattle.run_merge.specs.Runs.{KeepLogs}
 use Rattle.run_merge.specs.Taking.{AreKnown}

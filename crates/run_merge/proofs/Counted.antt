@@ -12,7 +12,7 @@ use Rattle.history.specs.declared.entry.Deed.{Deed}
 use Rattle.history.specs.declared.entry.Deed.TheVariants as deed
 use Rattle.history.specs.declared.entry.Entry.{Entry}
 use Rattle.run_merge.specs.Logs.{log_of, logged, stamped}
-use Rattle.run_merge.specs.Tables.{AreApart}
+use Rattle.run_merge.specs.inner.Tables.{AreApart}
 use Rattle.run_merge.specs.Taking.{AreKnown, IsUnderWay}
 use Rattle.run_merge.proofs.Logged.{log_at, logged_no, logged_yes}
 use Rattle.run_merge.proofs.Parts.{filter_no, filter_yes}

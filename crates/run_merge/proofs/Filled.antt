@@ -16,12 +16,12 @@ use Rattle.history.specs.declared.entry.Access.{Access}
 use Rattle.llsc_base.specs.Memory.{class_of, row_of}
 use Rattle.history.specs.declared.entry.Entry.{Entry}
 use Rattle.history.specs.declared.entry.Entry.TheVariants.{Read, Write, Fail, Clear}
-use Rattle.run_merge.specs.Filling.{AreSmall, AreWide, IsStack}
+use Rattle.run_merge.specs.inner.Filling.{AreSmall, AreWide, IsStack}
 use Rattle.run_merge.specs.Logs.{access_of, log_of, logged, most_logged, stamp_behind, stamped}
 use Rattle.run_merge.specs.Merge.{IsMerge}
 use Rattle.run_merge.specs.Runs.{KeepLogs}
-use Rattle.run_merge.specs.Merging.{AreLogs, IsMerging, tables_of}
-use Rattle.run_merge.specs.Tables.{AreApart, AreTables, class_at, is_read_at, spot, waiting}
+use Rattle.run_merge.specs.inner.Merging.{AreLogs, IsMerging, tables_of}
+use Rattle.run_merge.specs.inner.Tables.{AreApart, AreTables, class_at, is_read_at, spot, waiting}
 use Rattle.run_merge.specs.Taking.{AreKnown, IsUnderWay, row_at}
 use Rattle.run_merge.specs.declared.merging.Merging.{Merging}
 use Rattle.run_merge.specs.declared.logs.Log.{Log}

@@ -7,10 +7,10 @@ use Rattle.atomic_table.specs.Seated.{TableId}
 use Rattle.history.specs.declared.entry.Entry.{Entry}
 use Rattle.shared_memory.specs.Origin.{IsLegalFrom, Origin}
 use Rattle.guest_calls.specs.Run.{Pair}
-use Rattle.guest_thread.specs.Sharing.{IsServedBy}
+use Rattle.guest_thread.specs.inner.Sharing.{IsServedBy}
 use Rattle.guest_thread.proofs.Finishing.{at_start, shared_from}
 use Rattle.guest_thread.proofs.Shared.{HasShared}
-use Rattle.run_merge.specs.Logging.{IsLogged, IsRecordedBy, LoggingState}
+use Rattle.run_merge.specs.inner.Logging.{IsLogged, IsRecordedBy, LoggingState}
 use Rattle.run_merge.specs.Logs.{IsLogOf, most_logged}
 
 -- they are accesses as any are

@@ -9,9 +9,9 @@ use Rattle.history.specs.declared.entry.Entry.{Entry}
 use Rattle.run_merge.specs.Logs.{access_of, log_of}
 use Rattle.history.specs.declared.entry.Entry.TheVariants.{Read, Write, Fail}
 use Rattle.run_merge.proofs.Logged.{split_logged}
-use Rattle.run_merge.specs.Merging.{AreLogs, IsMerging, tables_of}
+use Rattle.run_merge.specs.inner.Merging.{AreLogs, IsMerging, tables_of}
 use Rattle.run_merge.specs.declared.logs.Log.{Log}
-use Rattle.run_merge.specs.Tables.{AreApart, AreTables, Tables, after_taking, class_at, is_open, is_read_at, spot}
+use Rattle.run_merge.specs.inner.Tables.{AreApart, AreTables, Tables, after_taking, class_at, is_open, is_read_at, spot}
 use Rattle.run_merge.specs.Taking.{IsUnderWay, MayBeTaken, reads, row_at, writes}
 use Rattle.run_merge.specs.declared.merging.Merging.{Merging}
 use Rattle.run_merge.specs.declared.logs.Stamped.{Stamped}

@@ -8,7 +8,7 @@ use Rattle.history.specs.declared.entry.Entry.{Entry}
 use Rattle.shared_memory.specs.Origin.{Origin}
 use Rattle.shared_memory.specs.Seen.{Sees}
 use Rattle.llsc_base.specs.declared.outside.Ask.TheVariants as ask
-use Rattle.guest_thread.specs.Sharing.{HasGoneOn, IsServed, SharingState}
+use Rattle.guest_thread.specs.inner.Sharing.{HasGoneOn, IsServed, SharingState}
 use Rattle.guest_thread.specs.declared.counts.Counts.{Counts}
 use Rattle.guest_thread.proofs.Shared.{served_by}
 

@@ -9,7 +9,7 @@ use Rattle.history.specs.Cause.{writes_in_class}
 use Rattle.history.specs.Entry.{is_in_class}
 use Rattle.history.specs.declared.entry.Entry.{Entry}
 use Rattle.run_merge.specs.Logs.{log_of}
-use Rattle.run_merge.specs.Tables.{AreApart, AreTables, Tables, class_at, is_read_at, rest_of, spot, waiting}
+use Rattle.run_merge.specs.inner.Tables.{AreApart, AreTables, Tables, class_at, is_read_at, rest_of, spot, waiting}
 use Rattle.run_merge.specs.Taking.{IsReadAt, IsUnderWay, MayBeTaken, reads, row_at, writes}
 use Rattle.run_merge.specs.declared.logs.Stamped.{Stamped}
 use Rattle.history.specs.Accesses.{entry_of}

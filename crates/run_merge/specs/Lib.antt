@@ -1,9 +1,6 @@
 pub mod Logs
 pub mod Merge
 pub mod Taking
-pub mod Logging
 pub mod Crews
-pub mod Filling
-pub mod Tables
-pub mod Merging
 pub mod Runs
+pub mod inner

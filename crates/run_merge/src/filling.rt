@@ -4,10 +4,10 @@ ghost use Rattle.std.specs.List.{count_by};
 ghost use Rattle.history.specs.Parts.{accesses_of};
 ghost use Rattle.version_memory.specs.Memory.{pass_seen};
 ghost use Rattle.run_record.specs.Limits.{most_accesses};
-ghost use Rattle.run_merge.specs.Merging.{AreLogs, IsMerging};
+ghost use Rattle.run_merge.specs.inner.Merging.{AreLogs, IsMerging};
 ghost use Rattle.run_merge.specs.Taking.{AreKnown};
-ghost use Rattle.run_merge.specs.Filling.{AreSmall, AreWide, IsStack, most_width};
-ghost use Rattle.run_merge.specs.Tables.{is_read_at, spot};
+ghost use Rattle.run_merge.specs.inner.Filling.{AreSmall, AreWide, IsStack, most_width};
+ghost use Rattle.run_merge.specs.inner.Tables.{is_read_at, spot};
 ghost use Rattle.run_merge.specs.declared.logs.Stamped.{Stamped};
 ghost use Rattle.run_merge.specs.declared.logs.Log.{Log};
 

@@ -4,8 +4,10 @@ ghost use Rattle.llsc_base.specs.Limits.{most_budget};
 ghost use Rattle.shared_memory.specs.Origin.{IsLegalFrom};
 ghost use Rattle.shared_memory.specs.Seen.{IsFront, IsOneOf, SaysAllOf, joint, longer};
 ghost use Rattle.version_memory.specs.Memory.{memory_id, memory_origin, pass_home, pass_numbers, pass_seen};
-ghost use Rattle.guest_thread.specs.Crews.{AreFresh, HaveSeen, IsEndOf, IsFresh, threads_of};
-ghost use Rattle.run_merge.specs.Crews.{HaveLogged, IsUnused};
+ghost use Rattle.guest_thread.specs.Crews.{AreFresh, HaveSeen, IsFresh, threads_of};
+ghost use Rattle.guest_thread.specs.inner.Crews.{IsEndOf};
+ghost use Rattle.run_merge.specs.Crews.{IsUnused};
+ghost use Rattle.run_merge.specs.inner.Crews.{HaveLogged};
 ghost use Rattle.run_merge.specs.Logs.{IsLogOf};
 ghost use denote.Param.Send.{IsSync};
 

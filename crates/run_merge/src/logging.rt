@@ -7,8 +7,8 @@ ghost use Rattle.guest_thread.specs.Counting.{accesses_counted};
 ghost use Rattle.guest_core.specs.Ports.{IsAskIn};
 ghost use Rattle.llsc_base.specs.declared.outside.Ask.{Ask};
 ghost use Rattle.llsc_base.specs.Memory.{size_bytes};
-ghost use Rattle.guest_thread.specs.Sharing.{IsServed, IsUnserved, RefusesAt};
-ghost use Rattle.run_merge.specs.Logging.{IsLogged, IsRecordedBy};
+ghost use Rattle.guest_thread.specs.inner.Sharing.{IsServed, IsUnserved, RefusesAt};
+ghost use Rattle.run_merge.specs.inner.Logging.{IsLogged, IsRecordedBy};
 ghost use Rattle.run_record.specs.Limits.{most_accesses};
 
 use crate::logs::{Log, Stamped};
@@ -52,7 +52,7 @@ impl<'a, R: Wait> Model for Logging<'a, R> {
     ghost use Rattle.version_memory.specs.Memory.{memory_id, memory_origin, pass_home, pass_numbers, pass_seen};
     ghost use Rattle.guest_thread.specs.Counting.{accesses_counted};
     ghost use Rattle.run_record.specs.Limits.{most_accesses};
-    ghost use Rattle.run_merge.specs.Logging.{LoggingState};
+    ghost use Rattle.run_merge.specs.inner.Logging.{LoggingState};
 
     ghost Value = { LoggingState };
 
@@ -212,7 +212,7 @@ impl<'a, R: Wait> Logging<'a, R> {
 }
 
 impl<'a, R: Wait> Port for Logging<'a, R> {
-    ghost use Rattle.run_merge.specs.Logging.{IsRecordedBy, RefusesLogged};
+    ghost use Rattle.run_merge.specs.inner.Logging.{IsRecordedBy, RefusesLogged};
 
     ghost replies = { IsRecordedBy };
 

@@ -7,7 +7,7 @@ ghost use Rattle.version_memory.specs.Memory.{pass_seen};
 ghost use Rattle.run_record.specs.Limits.{most_accesses};
 ghost use Rattle.run_merge.specs.Logs.{access_of};
 ghost use Rattle.run_merge.specs.Merge.{IsMerge};
-ghost use Rattle.run_merge.specs.Merging.{AreLogs};
+ghost use Rattle.run_merge.specs.inner.Merging.{AreLogs};
 
 use crate::filling::begun;
 use crate::logs::Log;

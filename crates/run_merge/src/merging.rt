@@ -3,8 +3,8 @@ ghost use Rattle.std.specs.Prelude.{◌≡◌, ◌≤◌, ◌<◌, ◌+◌, ◌^
 ghost use Rattle.std.specs.Result.{OnOk};
 ghost use Rattle.history.specs.Accesses.{history_of};
 ghost use Rattle.version_memory.specs.Memory.{pass_seen};
-ghost use Rattle.run_merge.specs.Merging.{AreLogs, IsMerging, tables_of};
-ghost use Rattle.run_merge.specs.Tables.{after_taking, class_at, is_open, spot};
+ghost use Rattle.run_merge.specs.inner.Merging.{AreLogs, IsMerging, tables_of};
+ghost use Rattle.run_merge.specs.inner.Tables.{after_taking, class_at, is_open, spot};
 ghost use Rattle.run_merge.specs.Merge.{IsMerge};
 ghost use Rattle.run_merge.specs.Logs.{access_of};
 ghost use Rattle.run_merge.specs.Taking.{AreKnown, MayBeTaken, reads, writes};

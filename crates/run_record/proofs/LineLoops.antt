@@ -11,7 +11,7 @@ use Rattle.run_record.specs.declared.records.RunRecord.{RunRecord}
 use Rattle.run_record.specs.Fault.{HasFault}
 use Rattle.run_record.specs.Limits.{IsRecord, most_accesses}
 use Rattle.run_record.specs.Reading.{accesses_from, behind_header, followed, header_of, in_front, made, next_access, record_of}
-use Rattle.run_record.specs.Seen.{fault_or_memory}
+use Rattle.run_record.specs.inner.Seen.{fault_or_memory}
 use Rattle.run_record.specs.Text.{header_text, line_text, record_text}
 use Rattle.run_record.proofs.HeaderTexts.{header_takes}
 use Rattle.run_record.proofs.RecordTexts.{Outcome, fault_first, joined, left_fault, lines_end, lines_more, long, more_fault, record_takes, run_of, short, steps, text_is}

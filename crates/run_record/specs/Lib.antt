@@ -4,4 +4,4 @@ pub mod Text
 pub mod Fault
 pub mod Fields
 pub mod Reading
-pub mod Seen
+pub mod inner

@@ -2,7 +2,7 @@
 ghost use Rattle.std.specs.Prelude.{◌≡◌, ℕ, List, option_map};
 ghost use Rattle.number_text.specs.Decimal.{plain_number};
 ghost use Rattle.run_record.specs.Fields.{after, cut, field};
-ghost use Rattle.run_record.specs.Seen.{read_seen};
+ghost use Rattle.run_record.specs.inner.Seen.{read_seen};
 
 /// What stands behind a text, if the bytes begin with it.
 pub fn after<'a>(text: &[u8], bytes: &'a [u8]) -> Option<&'a [u8]>

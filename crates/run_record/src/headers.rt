@@ -1,7 +1,7 @@
 //! The header line, of either format.
 ghost use Rattle.std.specs.Prelude.{◌≡◌};
 ghost use Rattle.run_record.specs.Reading.{granule_of, header_numbers, header_of, is_run, labelled, named_granule};
-ghost use Rattle.run_record.specs.Seen.{read_seen};
+ghost use Rattle.run_record.specs.inner.Seen.{read_seen};
 
 use crate::fields::{after, number_field};
 use llsc_base::MOST_STEPS;

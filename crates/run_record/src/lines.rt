@@ -4,7 +4,7 @@ ghost use Rattle.llsc_base.specs.Memory.{size_bytes};
 ghost use Rattle.number_text.specs.Hexadecimal.{long_number, word_number};
 ghost use Rattle.run_record.specs.Fields.{after, field};
 ghost use Rattle.run_record.specs.Reading.{clear_or, deed_of, is_whole, line_access, next_access, object_access, size_of};
-ghost use Rattle.run_record.specs.Seen.{access_seen, line_seen, read_seen, told_access};
+ghost use Rattle.run_record.specs.inner.Seen.{access_seen, line_seen, read_seen, told_access};
 
 use crate::faults::RecordFault;
 use crate::fields::{after, cut, number_field};

@@ -3,7 +3,7 @@ ghost use Rattle.std.specs.Prelude.{◌≡◌, ◌⊎◌, ◌+◌, ◌<◌, ◌�
 ghost use Rattle.run_record.specs.Fault.{HasFault};
 ghost use Rattle.run_record.specs.Limits.{IsRecord, most_accesses};
 ghost use Rattle.run_record.specs.Reading.{accesses_from, record_of};
-ghost use Rattle.run_record.specs.Seen.{fault_or_memory};
+ghost use Rattle.run_record.specs.inner.Seen.{fault_or_memory};
 ghost use Rattle.run_record.specs.Text.{record_text};
 
 use crate::faults::RecordFault;

@@ -16,11 +16,12 @@ use Rattle.guest_core.specs.Ports.{goes, refused, stays}
 use Rattle.rv32_guest.specs.declared.cpu.Stage.TheVariants as stage
 use Rattle.rv32_guest.specs.declared.cpu.RvCpu.TheInside as fields
 use Rattle.rv32_guest.specs.declared.instructions.RvInstr.{RvInstr}
-use Rattle.rv32_guest.specs.Accesses.{asked_first, asks_unless}
+use Rattle.rv32_guest.specs.Accesses.{asks_unless}
+use Rattle.rv32_guest.specs.inner.Accesses.{asked_first}
 use Rattle.rv32_guest.specs.Effect.{acts}
-use Rattle.rv32_guest.specs.Inside.{machine_of}
+use Rattle.rv32_guest.specs.inner.Inside.{machine_of}
 use Rattle.rv32_guest.specs.Machine.{Machine, instr_at, rv32}
-use Rattle.rv32_guest.specs.Outcome.{effect_by, replies_of, Keeps}
+use Rattle.rv32_guest.specs.inner.Outcome.{effect_by, replies_of, Keeps}
 use Rattle.rv32_guest.specs.declared.outcomes.Outcome.{Outcome}
 use Rattle.rv32_guest.specs.declared.outcomes.Outcome.TheVariants as comes
 use Rattle.rv32_guest.specs.State.{RvState, Effect}

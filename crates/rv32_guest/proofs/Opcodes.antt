@@ -8,7 +8,7 @@ use Rattle.llsc_base.specs.declared.decoding.DecodeFault.{DecodeFault}
 use Rattle.llsc_base.specs.declared.decoding.DecodeFault.TheVariants.{Undefined}
 use Rattle.rv32_guest.specs.declared.instructions.RvInstr.{RvInstr}
 use Rattle.rv32_guest.specs.Table.{Row, fits, table, meaning}
-use Rattle.rv32_guest.specs.Rows.{Fits, NoneFits, FollowsRows, Decides}
+use Rattle.rv32_guest.specs.inner.Rows.{Fits, NoneFits, FollowsRows, Decides}
 use Rattle.rv32_guest.proofs.Rows.{having, kept, decided, decides_by_kept}
 
 -- what the rows of an opcode decide is what the table says

@@ -2,7 +2,7 @@
 use Rattle.std.proofs.Common.{◌≡◌, ℕ, ℤ, refl}
 use Rattle.rv32_guest.specs.declared.instructions.RvInstr.{RvInstr}
 use Rattle.rv32_guest.specs.declared.instructions.RvInstr.TheVariants.{Lui, Auipc, Jal, Jalr, Beq, Bne, Blt, Bge, Bltu, Bgeu, Lb, Lh, Lw, Lbu, Lhu, Sb, Sh, Sw, Addi, Slti, Sltiu, Xori, Ori, Andi, Slli, Srli, Srai, Add, Sub, Sll, Slt, Sltu, Xor, Srl, Sra, Or, And, Fence, LrW, ScW, Ecall}
-use Rattle.rv32_guest.specs.Classes.{instr_class, IsComputing, MakesNoAccess}
+use Rattle.rv32_guest.specs.inner.Classes.{instr_class, IsComputing, MakesNoAccess}
 
 pub record IsNoneOfThem (instr : RvInstr) : Type 0 where
   pub makes_none : MakesNoAccess (instr_class instr)

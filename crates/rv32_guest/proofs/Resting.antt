@@ -3,7 +3,7 @@ use Rattle.std.proofs.Common.{◌≡◌, refl, sym, ap, subst}
 use Rattle.guest_core.specs.Phase.{PhaseOf}
 use Rattle.guest_core.specs.Phase as phase
 use Rattle.guest_core.specs.Machine.{between}
-use Rattle.rv32_guest.specs.Inside.{phase_of}
+use Rattle.rv32_guest.specs.inner.Inside.{phase_of}
 use Rattle.rv32_guest.specs.Machine.{Machine}
 use Rattle.rv32_guest.specs.declared.cpu.Stage.{Stage}
 use Rattle.rv32_guest.specs.declared.cpu.Stage.TheVariants.{Between, Inside, Awaiting, Calling, Stopped}

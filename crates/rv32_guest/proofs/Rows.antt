@@ -7,7 +7,7 @@ use Rattle.llsc_base.specs.declared.decoding.DecodeFault.TheVariants.{Undefined}
 use Rattle.llsc_base.proofs.Clashes.{clash, clash_apart}
 use Rattle.rv32_guest.specs.declared.instructions.RvInstr.{RvInstr}
 use Rattle.rv32_guest.specs.Table.{Row, fits, outcome, meaning}
-use Rattle.rv32_guest.specs.Rows.{Fits, NoneFits, FollowsRows, Decides}
+use Rattle.rv32_guest.specs.inner.Rows.{Fits, NoneFits, FollowsRows, Decides}
 
 -- a choice between two answers, by the test that decides it
 pub chosen : (test : Bool) (answer here there : Result RvInstr DecodeFault)

@@ -8,7 +8,7 @@ use Rattle.llsc_base.specs.declared.access.Place.{Place}
 use Rattle.llsc_base.specs.declared.access.Size.{Size}
 use Rattle.llsc_base.specs.declared.access.Size.TheVariants.{B4}
 use Rattle.llsc_base.specs.declared.outside.Ask.{Ask}
-use Rattle.llsc_base.specs.declared.outside.Ask.TheVariants.{Load, Store, LoadEx, StoreEx, Clear}
+use Rattle.llsc_base.specs.declared.outside.Ask.TheVariants.{Load, Store, LoadEx, StoreEx}
 use Rattle.llsc_base.specs.Effects.{barred, loaded_part, asks, completes, stops}
 use Rattle.llsc_base.specs.Words.{low32}
 use Rattle.rv32_guest.specs.State.{RvState, Effect, advanced, writes}
@@ -18,14 +18,6 @@ use Rattle.rv32_guest.specs.Computing.{sign_extended}
 abbrev pub asks_unless : Option Bar → ℕ → Ask → Effect
 asks_unless None addr ask = asks ask
 asks_unless (Some bar) addr ask = stops (barred bar addr)
-
--- what an instruction of this access does before it has had the reply
-abbrev pub asked_first : Program → Ask → Effect
-asked_first program (Load place) = asks_unless (bar_of program place false) place.addr (Load place)
-asked_first program (LoadEx place) = asks_unless (bar_of program place false) place.addr (LoadEx place)
-asked_first program (Store place value) = asks_unless (bar_of program place true) place.addr (Store place value)
-asked_first program (StoreEx place value) = asks_unless (bar_of program place true) place.addr (StoreEx place value)
-asked_first program Clear = asks Clear
 
 -- what a load takes of its reply, as 32 bits: with its sign above it, or with zeros
 abbrev pub loaded : (with_sign : Bool) → Size → ℕ → ℕ

@@ -1,14 +1,11 @@
 pub mod Immediates
 pub mod Table
-pub mod Rows
 pub mod State
 pub mod Computing
 pub mod Accesses
 pub mod Effect
 pub mod Calls
 pub mod Machine
-pub mod Outcome
-pub mod Registers
 pub mod Inside
-pub mod Classes
 pub mod Stops
+pub mod inner

@@ -2,7 +2,7 @@
 ghost use Rattle.std.specs.Prelude.{◌≡◌, ◌∷◌, []};
 ghost use Rattle.llsc_base.specs.Bits.{bits_of};
 ghost use Rattle.rv32_guest.specs.Table.{beq, bne, blt, bge, bltu, bgeu};
-ghost use Rattle.rv32_guest.specs.Rows.{Decides};
+ghost use Rattle.rv32_guest.specs.inner.Rows.{Decides};
 
 use crate::bits::{branch_distance, funct3, rs1, rs2};
 use crate::instructions::RvInstr;

@@ -2,7 +2,7 @@
 ghost use Rattle.std.specs.Prelude.{◌≡◌, ◌∷◌, []};
 ghost use Rattle.llsc_base.specs.Bits.{bits_of};
 ghost use Rattle.rv32_guest.specs.Table.{addi, slti, sltiu, xori, ori, andi, slli, srli, srai, add, sub, sll, slt, sltu, xor, srl, sra, or, and};
-ghost use Rattle.rv32_guest.specs.Rows.{Decides};
+ghost use Rattle.rv32_guest.specs.inner.Rows.{Decides};
 
 use crate::bits::{bits, funct3, immediate, rd, rs1, rs2};
 use crate::instructions::RvInstr;

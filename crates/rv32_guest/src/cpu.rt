@@ -4,7 +4,7 @@ ghost use Rattle.llsc_base.specs.Images.{Program};
 ghost use Rattle.llsc_base.specs.Effects.{stops};
 ghost use Rattle.guest_core.specs.Phase as phase;
 ghost use Rattle.guest_core.specs.Machine.{after_found_of, after_of, begins_of, between, given, moved_on, next_of, wanted_of, Follows, IsAwaiting, IsCalling, IsReady, IsTested};
-ghost use Rattle.rv32_guest.specs.Classes.{instr_class, MakesNoAccess};
+ghost use Rattle.rv32_guest.specs.inner.Classes.{instr_class, MakesNoAccess};
 ghost use Rattle.rv32_guest.specs.Effect.{acts};
 ghost use Rattle.rv32_guest.specs.Machine.{instr_at, rv32, start_of};
 ghost use Rattle.rv32_guest.specs.State.{RvState, answered, register};
@@ -52,7 +52,8 @@ impl Model for RvCpu {
 
     ghost Value = { Machine };
 
-    ghost use Rattle.rv32_guest.specs.Inside.{machine_of, IsSound};
+    ghost use Rattle.rv32_guest.specs.Inside.{IsSound};
+    ghost use Rattle.rv32_guest.specs.inner.Inside.{machine_of};
 
     ghost view = { machine_of };
 

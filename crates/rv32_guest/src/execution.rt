@@ -1,11 +1,11 @@
 //! What an instruction does with the registers.
 ghost use Rattle.std.specs.Prelude.{◌≡◌, ℕ, List};
 ghost use Rattle.llsc_base.specs.Images.{Program};
-ghost use Rattle.rv32_guest.specs.Classes.{instr_class, MakesNoAccess};
+ghost use Rattle.rv32_guest.specs.inner.Classes.{instr_class, MakesNoAccess};
 ghost use Rattle.rv32_guest.specs.Computing.{moved};
 ghost use Rattle.rv32_guest.specs.State.{advanced, register, with_register, writes};
 ghost use Rattle.rv32_guest.specs.Effect.{acts};
-ghost use Rattle.rv32_guest.specs.Outcome.{effect_by, Keeps};
+ghost use Rattle.rv32_guest.specs.inner.Outcome.{effect_by, Keeps};
 
 use crate::arithmetic::{even, moved, sum};
 use crate::instructions::RvInstr;

@@ -15,7 +15,7 @@ impl Model for Registers {
 
     ghost Value = { RvState };
 
-    ghost use Rattle.rv32_guest.specs.Registers.{state_of, IsRegisters};
+    ghost use Rattle.rv32_guest.specs.inner.Registers.{state_of, IsRegisters};
 
     ghost view = { state_of };
 

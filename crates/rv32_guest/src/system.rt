@@ -2,7 +2,7 @@
 ghost use Rattle.std.specs.Prelude.{◌≡◌, ◌∷◌, []};
 ghost use Rattle.llsc_base.specs.Bits.{bits_of};
 ghost use Rattle.rv32_guest.specs.Table.{fence, ecall};
-ghost use Rattle.rv32_guest.specs.Rows.{Decides};
+ghost use Rattle.rv32_guest.specs.inner.Rows.{Decides};
 
 use crate::bits::funct3;
 use crate::instructions::RvInstr;

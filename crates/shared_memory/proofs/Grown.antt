@@ -15,7 +15,8 @@ use Rattle.history.proofs.Legality.{IsLegal-MayFollow}
 use Rattle.shared_memory.specs.declared.views.View.{View}
 use Rattle.shared_memory.specs.Origin.{Origin, IsLegalFrom}
 use Rattle.shared_memory.specs.Seen.{IsOneOf, IsSingle, Sees}
-use Rattle.shared_memory.specs.Passes.{marked, moved}
+use Rattle.shared_memory.specs.Passes.{marked}
+use Rattle.shared_memory.specs.inner.Passes.{moved}
 use Rattle.shared_memory.specs.Rule.{Fits, IsHeld, IsPart, IsWithin, Tells}
 use Rattle.shared_memory.proofs.Lists.{at-below}
 use Rattle.shared_memory.proofs.Fronts.{front-all, front-more, none-added}

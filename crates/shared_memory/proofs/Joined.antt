@@ -9,7 +9,8 @@ use Rattle.history.specs.Standing.{Standing}
 use Rattle.history.specs.declared.entry.Entry.{Entry}
 use Rattle.shared_memory.specs.declared.views.View.{View}
 use Rattle.shared_memory.specs.Seen.{IsFront, IsOneOf, SaysAllOf, longer}
-use Rattle.shared_memory.specs.Passes.{IsSettled, joined_view, marked, merged, nobody, spent_view}
+use Rattle.shared_memory.specs.Passes.{IsSettled, marked, nobody}
+use Rattle.shared_memory.specs.inner.Passes.{joined_view, merged, spent_view}
 use Rattle.shared_memory.specs.Rule.{Fits, Tells}
 use Rattle.shared_memory.proofs.Lists.{at-below}
 use Rattle.shared_memory.proofs.Fronts.{front-all, fronts-compare, longer-is, says_all-between}

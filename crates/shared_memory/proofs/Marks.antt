@@ -2,7 +2,8 @@
 use Rattle.std.proofs.Common.{◌≡◌, ◌≢◌, ℕ, zero, suc, ◌<◌, ◌&&◌, ◌||◌, not, Bool, true, false, nat_eq, List, [], ◌∷◌, length, set, refl, ap, sym, ◌∙◌, get_or-set_other, inl, inr, arith}
 use Rattle.std.proofs.lemmas.Bool.{cases_eq, eq-eqb, ne_eqb}
 use Rattle.shared_memory.specs.Seen.{IsOneOf, IsSingle, all_but, joint}
-use Rattle.shared_memory.specs.Passes.{marked, merged, one_mark}
+use Rattle.shared_memory.specs.Passes.{marked, one_mark}
+use Rattle.shared_memory.specs.inner.Passes.{merged}
 
 -- a number at which a mark stands is within
 pub marked-below : (marks : List Bool) (t : ℕ) → IsOneOf t (marked marks) → t < length marks

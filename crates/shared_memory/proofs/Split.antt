@@ -17,7 +17,8 @@ use Rattle.history.proofs.Stages.{last_stage, last_stage-standing}
 use Rattle.history.proofs.Steps.{reservation_of-standing}
 use Rattle.shared_memory.specs.declared.views.View.{View}
 use Rattle.shared_memory.specs.Seen.{IsOneOf}
-use Rattle.shared_memory.specs.Passes.{alone_mark, marked, nobody, one_mark, without_mark}
+use Rattle.shared_memory.specs.Passes.{marked, nobody, one_mark}
+use Rattle.shared_memory.specs.inner.Passes.{alone_mark, without_mark}
 use Rattle.shared_memory.specs.Rule.{Fits, Tells}
 use Rattle.shared_memory.proofs.Lists.{at-below, at-end}
 use Rattle.shared_memory.proofs.Marks.{single-one, taken-not, taken-other, taken-was}

@@ -10,7 +10,8 @@ use Rattle.history.specs.Standing.{Standing, standing_after}
 use Rattle.history.specs.Follow.{MayFollow}
 use Rattle.history.specs.declared.entry.Entry.{Entry}
 use Rattle.shared_memory.specs.declared.views.View.{View}
-use Rattle.shared_memory.specs.Passes.{marked, moved}
+use Rattle.shared_memory.specs.Passes.{marked}
+use Rattle.shared_memory.specs.inner.Passes.{moved}
 use Rattle.shared_memory.specs.Rule.{Tells}
 use Rattle.shared_memory.specs.Seen.{IsOneOf, IsSingle}
 use Rattle.shared_memory.specs.Told.{Goes}

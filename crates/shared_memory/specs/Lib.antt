@@ -4,5 +4,5 @@ pub mod Passes
 pub mod Rule
 pub mod Told
 pub mod Layout
-pub mod Targets
 pub mod Worked
+pub mod inner

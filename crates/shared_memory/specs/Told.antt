@@ -1,7 +1,6 @@
 -- What a step of a memory tells its caller, as the memories share it. This project's own.
 use Rattle.std.specs.Prelude.{◌≡◌, ℕ, false, List, [], ◌∷◌}
 use Rattle.llsc_base.specs.declared.access.Place.{Place}
-use Rattle.llsc_base.specs.declared.access.Size.TheVariants.{B1}
 use Rattle.row_bytes.specs.Cell.{value_in_cell}
 use Rattle.history.specs.declared.entry.Entry.{Entry}
 use Rattle.history.specs.declared.entry.Entry.TheVariants.{Read}
@@ -16,13 +15,6 @@ pub record Ask : Type 0 where
   pub origin : Origin
   pub place : Place
   pub value : ℕ
-
-abbrev pub ask : Origin → Place → ℕ → Ask
-ask origin place value = record { origin = origin; place = place; value = value }
-
--- where a call doesn't say what it is about
-abbrev pub no_ask : Ask
-no_ask = ask (record { size = record { mem = 0; threads = 0; classes = 0; limit = 0; granule = 0 }; first = 0; spare = 0; bytes = []; spends = false; steady = false }) (record { addr = 0; size = B1 }) 0
 
 -- a seat, with what it knows
 abbrev pub SeatOf : Type 0 → Type 0

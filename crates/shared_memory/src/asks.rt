@@ -11,7 +11,7 @@ pub trait Asks {
 }
 
 impl Asks for Brand {
-    ghost use Rattle.shared_memory.specs.Told.{no_ask};
+    ghost use Rattle.shared_memory.specs.inner.Told.{no_ask};
 
     ghost ask = { no_ask };
 }

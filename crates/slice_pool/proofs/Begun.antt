@@ -12,9 +12,9 @@ use Rattle.guest_calls.specs.Pairs.{pair_of, pairs_of}
 use Rattle.guest_calls.specs.Run.{Pair, begins, Reaches}
 use Rattle.guest_thread.specs.Counts.{reads_of, writes_of, fails_of}
 use Rattle.guest_thread.specs.Start.{thread_start}
-use Rattle.slice_pool.specs.Hands.{key_of}
+use Rattle.slice_pool.specs.inner.Hands.{key_of}
 use Rattle.slice_pool.specs.Pools.{IsFresh}
-use Rattle.slice_pool.specs.Rule.{IsUnderWay}
+use Rattle.slice_pool.specs.inner.Rule.{IsUnderWay}
 use Rattle.slice_pool.specs.declared.queue.Waiting.{Waiting}
 
 -- no access, no step, nothing written: a run that has begun

@@ -7,14 +7,16 @@ use Rattle.atomic_table.specs.Seated.{TableId}
 use Rattle.history.specs.declared.entry.Entry.{Entry}
 use Rattle.shared_memory.specs.Origin.{Origin}
 use Rattle.shared_memory.specs.Seen.{IsFront, IsOneOf, SaysAllOf, joint}
-use Rattle.guest_thread.specs.Crews.{AreEndsOf, AreTaken, IsEndOf}
+use Rattle.guest_thread.specs.inner.Crews.{AreEndsOf, AreTaken, IsEndOf}
 use Rattle.guest_thread.specs.declared.ends.GuestEnd.{GuestEnd}
 use Rattle.a32_step.specs.Machine.{a32}
 use Rattle.guest_thread.proofs.Crewed.{all_later, ended_later, one_more, taken_more}
 use Rattle.guest_thread.proofs.Prepared.{range_more}
-use Rattle.slice_pool.specs.Ends.{AreTurnsOfEach, AreLeft, HaveEndedUpto, one}
+use Rattle.slice_pool.specs.Ends.{AreTurnsOfEach}
+use Rattle.slice_pool.specs.inner.Ends.{AreLeft, HaveEndedUpto, one}
 use Rattle.slice_pool.specs.Hands.{downto}
-use Rattle.slice_pool.specs.Over.{AreAllGone, AreTurnsOf, IsGone, weighs}
+use Rattle.slice_pool.specs.Over.{AreTurnsOf}
+use Rattle.slice_pool.specs.inner.Over.{AreAllGone, IsGone, weighs}
 use Rattle.slice_pool.specs.declared.turns.Gone.{Gone}
 use Rattle.slice_pool.specs.declared.views.Key.{Key}
 

@@ -9,7 +9,7 @@ use Rattle.shared_memory.specs.Seen.{IsSingle}
 use Rattle.guest_calls.specs.Pairs.{pairs_of}
 use Rattle.guest_calls.specs.Run.{first_point, Reaches, EndsOn}
 use Rattle.guest_thread.specs.Counting.{AreCounts, counts_in}
-use Rattle.guest_thread.specs.Crews.{IsEndOf}
+use Rattle.guest_thread.specs.inner.Crews.{IsEndOf}
 use Rattle.guest_thread.specs.Outcome.{IsEndOn}
 use Rattle.guest_thread.specs.Pieces.{IsPiece}
 use Rattle.guest_thread.specs.Start.{thread_start}
@@ -19,9 +19,10 @@ use Rattle.guest_thread.specs.declared.running.Finished.{Finished}
 use Rattle.a32_step.specs.Machine.{a32, Machine}
 use Rattle.a32_step.proofs.Tested.{next_room}
 use Rattle.guest_thread.proofs.FewAccesses.{few_counted, few_in_history}
-use Rattle.slice_pool.specs.Hands.{key_of}
-use Rattle.slice_pool.specs.Over.{AreTurnsOf, IsGoneFrom, IsUpto}
-use Rattle.slice_pool.specs.Rule.{IsUnderWay}
+use Rattle.slice_pool.specs.inner.Hands.{key_of}
+use Rattle.slice_pool.specs.Over.{AreTurnsOf}
+use Rattle.slice_pool.specs.inner.Over.{IsGoneFrom, IsUpto}
+use Rattle.slice_pool.specs.inner.Rule.{IsUnderWay}
 use Rattle.slice_pool.specs.declared.queue.Waiting.{Waiting}
 use Rattle.slice_pool.specs.declared.views.Key.{Key}
 

@@ -1,23 +1,7 @@
--- How all guests ended, in order of number.
-use Rattle.std.specs.Prelude.{◌≡◌, ◌+◌, ◌-◌, ℕ, Bool, List, [], ◌∷◌, sum_by}
-use Rattle.std.specs.List.{range_with_len}
-use Rattle.atomic_table.specs.Seated.{TableId}
-use Rattle.history.specs.declared.entry.Entry.{Entry}
-use Rattle.shared_memory.specs.Origin.{Origin}
-use Rattle.a32_step.specs.Machine.{a32}
-use Rattle.guest_thread.specs.Crews.{AreEndsOf, AreTaken}
+-- How many slices the steps of all guests take, in order of number.
+use Rattle.std.specs.Prelude.{ℕ, List, [], ◌∷◌}
 use Rattle.guest_thread.specs.declared.ends.GuestEnd.{GuestEnd}
-use Rattle.slice_pool.specs.Over.{AreTurnsOf, weighs}
-use Rattle.slice_pool.specs.declared.turns.Gone.{Gone}
-use Rattle.slice_pool.specs.declared.views.Key.{Key}
-
--- 1 for a number, 0 for any other
-abbrev pub one : ℕ → ℕ → ℕ
-one t u = 1 - ((u - t) + (t - u))
-
--- these are the guests of so many numbers from one up, in whatever order
-abbrev pub AreLeft : {P : Type 0} → ℕ → ℕ → List (Gone P) → Type 0
-AreLeft t count done = (weight : ℕ → ℕ) → sum_by (weighs weight) done ≡ sum_by weight (range_with_len t count)
+use Rattle.slice_pool.specs.Over.{AreTurnsOf}
 
 -- each end's slices are as many as its steps took
 abbrev pub AreTurnsOfEach : (slice : ℕ) → List GuestEnd → List ℕ → Type 0
@@ -25,11 +9,3 @@ AreTurnsOfEach slice [] [] = Unit {0}
 AreTurnsOfEach slice [] (turns ∷ more) = ⊥
 AreTurnsOfEach slice (end ∷ ends) [] = ⊥
 AreTurnsOfEach slice (end ∷ ends) (turns ∷ more) = AreTurnsOf slice turns end.steps × AreTurnsOfEach slice ends more
-
-module _ {P : Type 0} (home : P → TableId) (numbers : P → ℕ → Bool) (seen : P → List Entry) where
-  -- the threads below a number have ended, and the pass holds their numbers and has seen all of them
-  pub record HaveEndedUpto (origin : Origin) (key : Key) (count : ℕ) (pass : P) (ends : List GuestEnd) (turns : List ℕ) : Type 0 where
-    pub memory : home pass ≡ key.memory
-    pub taken : AreTaken (numbers pass) (range_with_len 0 count)
-    pub ends_are : AreEndsOf a32 key.program origin key.budget (seen pass) (range_with_len 0 count) ends
-    pub turns_are : AreTurnsOfEach key.slice ends turns

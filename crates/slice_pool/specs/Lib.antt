@@ -4,3 +4,4 @@ pub mod Over
 pub mod AtWork
 pub mod Pools
 pub mod Ends
+pub mod inner

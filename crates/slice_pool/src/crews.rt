@@ -2,9 +2,12 @@
 ghost use Rattle.std.specs.Prelude.{◌≡◌, ◌≤◌, ◌+◌, ◌-◌, [], All, length, vec_len, vec_capacity};
 ghost use Rattle.llsc_base.specs.Limits.{most_budget};
 ghost use Rattle.crossbeam_queue.specs.Passes.{view, IsPassOf};
-ghost use Rattle.slice_pool.specs.Hands.{hand, key_of};
-ghost use Rattle.slice_pool.specs.Rule.{IsUnderWay, last_first};
-ghost use Rattle.slice_pool.specs.AtWork.{IsFree, IsWorker};
+ghost use Rattle.slice_pool.specs.Hands.{hand};
+ghost use Rattle.slice_pool.specs.inner.Hands.{key_of};
+ghost use Rattle.slice_pool.specs.Rule.{last_first};
+ghost use Rattle.slice_pool.specs.inner.Rule.{IsUnderWay};
+ghost use Rattle.slice_pool.specs.AtWork.{IsFree};
+ghost use Rattle.slice_pool.specs.inner.AtWork.{IsWorker};
 
 use crate::queue::{Cut, Few, Line, Puts, Seat, Waiting};
 use crate::turns::Gone;

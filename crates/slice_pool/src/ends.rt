@@ -1,8 +1,8 @@
 //! How all guests ended, in order of number.
 ghost use Rattle.std.specs.Prelude.{◌≡◌, ◌<◌, ◌≤◌, ◌+◌, ℕ, [], All, sum_by, vec_len, vec_capacity};
-ghost use Rattle.slice_pool.specs.Hands.{key_of};
-ghost use Rattle.slice_pool.specs.Over.{AreAllGone, IsGone, weighs};
-ghost use Rattle.slice_pool.specs.Ends.{HaveEndedUpto, one};
+ghost use Rattle.slice_pool.specs.inner.Hands.{key_of};
+ghost use Rattle.slice_pool.specs.inner.Over.{AreAllGone, IsGone, weighs};
+ghost use Rattle.slice_pool.specs.inner.Ends.{HaveEndedUpto, one};
 
 use crate::turns::Gone;
 use guest_thread::GuestEnd;

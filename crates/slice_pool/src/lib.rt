@@ -4,9 +4,9 @@
 //! [`pool_crew`] makes a [`Pool`] of all threads of a memory, each at its start, and of one to four workers; [`run_pool`] runs
 //! it. A worker takes a guest out of the queue, runs a slice of it, and puts it back; where the queue has no room it goes on
 //! with the guest itself. A worker ends where the queue is empty, and when all have, the caller runs what still waits. The rule of
-//! the queue (`specs/Rule`) is that the numbers of the guests that wait in it and of those that the seats hold are all numbers of
-//! the machine, each once: so no guest is lost or doubled. `specs/Over` says what a guest is that has ended, `specs/AtWork` what a
-//! worker has between two guests, and `specs/Ends` how all have ended, in order of number.
+//! the queue (`specs/inner/Rule`) is that the numbers of the guests that wait in it and of those that the seats hold are all
+//! numbers of the machine, each once: so no guest is lost or doubled. In `specs/inner`, `Over` says what a guest is that has
+//! ended, `AtWork` what a worker has between two guests, and `Ends` how all have ended, in order of number.
 #![tactic(auto)]
 
 mod crews;

@@ -2,9 +2,10 @@
 ghost use Rattle.std.specs.Prelude.{true, ◌^◌, ◌≡◌, ◌<◌, ◌≤◌, ℕ, [], All, length, vec_len, vec_capacity};
 ghost use Rattle.llsc_base.specs.Limits.{most_budget};
 ghost use Rattle.crossbeam_queue.specs.Passes.{view, IsPassOf};
-ghost use Rattle.slice_pool.specs.Hands.{downto, hand, key_of, no_key};
+ghost use Rattle.slice_pool.specs.Hands.{downto, hand, no_key};
+ghost use Rattle.slice_pool.specs.inner.Hands.{key_of};
 ghost use Rattle.slice_pool.specs.Rule.{last_first};
-ghost use Rattle.slice_pool.specs.Over.{AreAllGone, IsGone};
+ghost use Rattle.slice_pool.specs.inner.Over.{AreAllGone, IsGone};
 ghost use Rattle.slice_pool.specs.AtWork.{IsFree};
 ghost use Rattle.slice_pool.specs.Pools.{IsFresh, IsReady};
 ghost use Rattle.shared_memory.specs.Seen.{IsOneOf};

@@ -25,7 +25,7 @@ pub struct Turns<M> {
 impl<M: SharedMemory> Protocol<Waiting<M::Pass>, Hand> for Turns<M> {
     ghost use Rattle.std.specs.Prelude.{[]};
     ghost use Rattle.slice_pool.specs.Hands.{hand, no_key};
-    ghost use Rattle.slice_pool.specs.Rule.{Keeps};
+    ghost use Rattle.slice_pool.specs.inner.Rule.{Keeps};
 
     ghost holds = { Keeps M.home M.numbers M.seen };
 
@@ -102,13 +102,13 @@ pub(crate) struct Takes<M> {
 }
 
 impl<M: SharedMemory> Outcome<Waiting<M::Pass>, Hand> for Takes<M> {
-    ghost use Rattle.slice_pool.specs.Rule.{HasTaken};
+    ghost use Rattle.slice_pool.specs.inner.Rule.{HasTaken};
 
     ghost then = { HasTaken M.home M.numbers M.seen };
 }
 
 impl<M: SharedMemory> Lesson<Waiting<M::Pass>, Hand> for Takes<M> {
-    ghost use Rattle.slice_pool.specs.Rule.{AreAllBut};
+    ghost use Rattle.slice_pool.specs.inner.Rule.{AreAllBut};
 
     ghost fact = { AreAllBut };
 }
@@ -117,7 +117,7 @@ impl<M: SharedMemory> Lesson<Waiting<M::Pass>, Hand> for Takes<M> {
 pub(crate) struct Few;
 
 impl<P> Lesson<Waiting<P>, Hand> for Few {
-    ghost use Rattle.slice_pool.specs.Hands.{AreFew};
+    ghost use Rattle.slice_pool.specs.inner.Hands.{AreFew};
 
     ghost fact = { λ v items. AreFew v.key.size.threads v.held };
 }

@@ -2,9 +2,10 @@
 ghost use Rattle.std.specs.Prelude.{◌≡◌, ◌≤◌, ◌∷◌, ℕ, List, IfNone, IfSome, drop, length};
 ghost use Rattle.llsc_base.specs.Limits.{most_budget};
 ghost use Rattle.crossbeam_queue.specs.Passes.{view, IsPassOf};
-ghost use Rattle.slice_pool.specs.Hands.{hand, key_of, IsSeated};
-ghost use Rattle.slice_pool.specs.Rule.{IsUnderWay};
-ghost use Rattle.slice_pool.specs.Over.{HasTurned, IsGoneFrom, IsUpto};
+ghost use Rattle.slice_pool.specs.Hands.{hand};
+ghost use Rattle.slice_pool.specs.inner.Hands.{key_of, IsSeated};
+ghost use Rattle.slice_pool.specs.inner.Rule.{IsUnderWay};
+ghost use Rattle.slice_pool.specs.inner.Over.{HasTurned, IsGoneFrom, IsUpto};
 
 use crate::queue::{Line, Puts, Seat, Waiting};
 use a32_step::Conditional;

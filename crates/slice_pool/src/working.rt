@@ -2,9 +2,9 @@
 ghost use Rattle.std.specs.Prelude.{◌≡◌, ◌≤◌, length};
 ghost use Rattle.llsc_base.specs.Limits.{most_budget};
 ghost use Rattle.crossbeam_queue.specs.Passes.{view};
-ghost use Rattle.slice_pool.specs.Hands.{key_of};
-ghost use Rattle.slice_pool.specs.Over.{AreAllGone};
-ghost use Rattle.slice_pool.specs.AtWork.{IsWorker};
+ghost use Rattle.slice_pool.specs.inner.Hands.{key_of};
+ghost use Rattle.slice_pool.specs.inner.Over.{AreAllGone};
+ghost use Rattle.slice_pool.specs.inner.AtWork.{IsWorker};
 
 use crate::queue::{Line, Seat, Takes};
 use crate::turns::{Gone, turns_of};

@@ -7,7 +7,8 @@ use Rattle.history.specs.Started.{MayAct}
 use Rattle.shared_memory.specs.declared.plans.Plan.{Plan}
 use Rattle.shared_memory.specs.Origin.{Origin}
 use Rattle.shared_memory.specs.declared.views.View.{View}
-use Rattle.shared_memory.specs.Passes.{alone_mark, first_view, joined_view, marked, merged, one_mark, without_mark}
+use Rattle.shared_memory.specs.Passes.{first_view, marked, one_mark}
+use Rattle.shared_memory.specs.inner.Passes.{alone_mark, joined_view, merged, without_mark}
 use Rattle.shared_memory.specs.Seen.{IsOneOf, IsSingle, Sees, joint}
 use Rattle.shared_memory.proofs.FirstWords.{first-marks}
 use Rattle.shared_memory.proofs.Joined.{merged-left, merged-right}
@@ -16,8 +17,10 @@ use Rattle.version_rule.specs.declared.hands.Doing.TheVariants.{Rest}
 use Rattle.version_rule.specs.declared.hands.Reserve.TheVariants.{Nothing, Row, Several}
 use Rattle.version_memory.specs.declared.passes.Reserved.{Reserved}
 use Rattle.version_rule.specs.declared.hands.Hand.{Hand}
-use Rattle.version_rule.specs.Hands.{hand, reserve_joined}
-use Rattle.version_memory.specs.Passes.{IsAwaiting, IsBetween, IsMade, IsReady, reserved_of}
+use Rattle.version_rule.specs.Hands.{hand}
+use Rattle.version_rule.specs.inner.Hands.{reserve_joined}
+use Rattle.version_memory.specs.Passes.{IsBetween, IsMade, reserved_of}
+use Rattle.version_memory.specs.inner.Passes.{IsAwaiting, IsReady}
 use Rattle.shared_memory.specs.Told.{Goes, Settles}
 use Rattle.version_rule.specs.Told.{Mine}
 

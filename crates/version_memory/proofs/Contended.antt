@@ -4,7 +4,8 @@ use Rattle.llsc_base.specs.Memory.{row_of}
 use Rattle.llsc_base.specs.declared.access.Place.{Place}
 use Rattle.history.specs.Class.{edges_of}
 use Rattle.shared_memory.specs.Origin.{Origin}
-use Rattle.shared_memory.specs.Told.{Goes, ask}
+use Rattle.shared_memory.specs.Told.{Goes}
+use Rattle.shared_memory.specs.inner.Told.{ask}
 use Rattle.version_rule.specs.Told.{HasFoundTag, Mine}
 use Rattle.version_memory.specs.Exact.{IsContended}
 use Rattle.version_memory.proofs.After.{front-goes}

@@ -10,7 +10,8 @@ use Rattle.history.specs.Started.{starts_of}
 use Rattle.history.specs.declared.entry.Entry.{Entry}
 use Rattle.shared_memory.specs.Origin.{Origin}
 use Rattle.shared_memory.specs.declared.views.View.{View}
-use Rattle.shared_memory.specs.Passes.{alone_mark, first_view, joined_view, marked, merged, without_mark}
+use Rattle.shared_memory.specs.Passes.{first_view, marked}
+use Rattle.shared_memory.specs.inner.Passes.{alone_mark, joined_view, merged, without_mark}
 use Rattle.shared_memory.specs.Seen.{IsOneOf, IsSingle}
 use Rattle.shared_memory.specs.Told.{Goes, Settles}
 use Rattle.shared_memory.proofs.Joined.{merged-left}
@@ -18,12 +19,13 @@ use Rattle.shared_memory.proofs.Marks.{marked-taken, single-one}
 use Rattle.version_rule.specs.declared.hands.Doing.TheVariants.{Rest}
 use Rattle.version_rule.specs.declared.hands.Reserve.TheVariants.{Nothing, Row}
 use Rattle.version_rule.specs.declared.hands.Hand.{Hand}
-use Rattle.version_rule.specs.Hands.{hand, reserve_joined}
+use Rattle.version_rule.specs.Hands.{hand}
+use Rattle.version_rule.specs.inner.Hands.{reserve_joined}
 use Rattle.version_rule.specs.Told.{Mine}
 use Rattle.version_rule.proofs.Started.{starts_of-entries, starts_of-more}
 use Rattle.version_memory.specs.declared.passes.Reserved.{Reserved}
 use Rattle.version_memory.specs.Passes.{HasStarted, IsBetween}
-use Rattle.version_memory.specs.Stored.{HasFailed, HasStored, HasStoredEx}
+use Rattle.version_memory.specs.inner.Stored.{HasFailed, HasStored, HasStoredEx}
 use Rattle.version_memory.proofs.Betweens.{lead-held}
 
 -- the pass of a memory that is made

@@ -11,12 +11,13 @@ use Rattle.version_rule.specs.declared.hands.Reserve.TheVariants.{Nothing}
 use Rattle.version_rule.specs.declared.hands.Hand.{Hand}
 use Rattle.version_rule.specs.Exact.{IsUndisturbed}
 use Rattle.version_rule.specs.Hands.{hand}
-use Rattle.shared_memory.specs.Told.{Goes, ask}
+use Rattle.shared_memory.specs.Told.{Goes}
+use Rattle.shared_memory.specs.inner.Told.{ask}
 use Rattle.version_rule.specs.Told.{Decides, IsDisturbed, IsUndisturbedAt, Mine}
 use Rattle.shared_memory.proofs.Sequences.{goes-then_by}
 use Rattle.version_memory.specs.Exact.{HasFailedAt}
 use Rattle.version_memory.specs.Stands.{IsStamped}
-use Rattle.version_memory.specs.Stored.{HasFailed, HasStoredEx}
+use Rattle.version_memory.specs.inner.Stored.{HasFailed, HasStoredEx}
 use Rattle.version_memory.proofs.After.{front-goes, stands-decides, stands-within}
 
 module _ (origin : Origin) (p : Place) (value : ℕ) (a b : Mine) where

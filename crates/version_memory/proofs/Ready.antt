@@ -12,13 +12,15 @@ use Rattle.version_rule.specs.declared.hands.Hand.{Hand}
 use Rattle.shared_memory.specs.declared.plans.Plan.{Plan}
 use Rattle.version_rule.specs.Hands.{class_at}
 use Rattle.shared_memory.specs.Layout.{cell_word, tag_word}
-use Rattle.shared_memory.specs.Told.{Goes, ask}
+use Rattle.shared_memory.specs.Told.{Goes}
+use Rattle.shared_memory.specs.inner.Told.{ask}
 use Rattle.version_rule.specs.Told.{Mine, claimed, claimed_ex, first_found, third_found, third_found_ex, watched, watched_or_not}
 use Rattle.version_rule.proofs.Started.{all-threads}
 use Rattle.shared_memory.proofs.Sequences.{single-goes}
-use Rattle.shared_memory.specs.Targets.{IsPlace}
+use Rattle.shared_memory.specs.inner.Targets.{IsPlace}
 use Rattle.version_rule.specs.StartWords.{start_word}
-use Rattle.version_memory.specs.Passes.{IsAwaiting, IsMade, IsReady}
+use Rattle.version_memory.specs.Passes.{IsMade}
+use Rattle.version_memory.specs.inner.Passes.{IsAwaiting, IsReady}
 use Rattle.std.proofs.lemmas.Bool.{cases_eq}
 use Rattle.atomic_table.specs.Table.{Step}
 use Rattle.version_rule.specs.declared.hands.Doing.TheVariants.{Looking, Second}

@@ -15,7 +15,7 @@ use Rattle.shared_memory.specs.Told.{Goes}
 use Rattle.version_rule.specs.Told.{Mine}
 use Rattle.shared_memory.proofs.Waits.{Waits, waits-goes_by}
 use Rattle.version_memory.specs.Stands.{IsStamped, HasRoom}
-use Rattle.version_memory.specs.Stored.{HasLoaded, HasLoadedEx, HasStored}
+use Rattle.version_memory.specs.inner.Stored.{HasLoaded, HasLoadedEx, HasStored}
 use Rattle.version_memory.proofs.After.{stands-within}
 
 module _ (origin : Origin) (a b c : Mine) (w : Waits a b) where

@@ -16,7 +16,7 @@ use Rattle.shared_memory.specs.Told.{Goes}
 use Rattle.version_rule.specs.Told.{Decides, Mine}
 use Rattle.shared_memory.proofs.Sequences.{goes-then_by}
 use Rattle.version_memory.specs.Stands.{IsStamped, HasRoom}
-use Rattle.version_memory.specs.Stored.{HasLoaded, HasLoadedEx, HasStored}
+use Rattle.version_memory.specs.inner.Stored.{HasLoaded, HasLoadedEx, HasStored}
 use Rattle.version_memory.proofs.After.{front-goes, room-version, stamp-version, stands-decides, stands-within, writes-watch}
 
 module _ (origin : Origin) (p : Place) (a b c d : Mine) where

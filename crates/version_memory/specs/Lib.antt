@@ -2,4 +2,4 @@ pub mod Stands
 pub mod Exact
 pub mod Passes
 pub mod Memory
-pub mod Stored
+pub mod inner

@@ -1,9 +1,6 @@
 -- What holds of a pass between two calls, and of a seat in a call. This project's own.
-use Rattle.std.specs.Prelude.{◌≡◌, ◌+◌, ◌*◌, ◌%◌, ◌^◌, ◌<◌, ◌≤◌, ◌==◌, if◌then◌else◌, ℕ, Bool, Option, Some, None, List, []}
-use Rattle.llsc_base.specs.Memory.{class_of}
-use Rattle.llsc_base.specs.Sizes.{Numbers}
-use Rattle.llsc_base.specs.declared.access.Place.{Place}
-use Rattle.history.specs.Started.{MayAct, starts_of}
+use Rattle.std.specs.Prelude.{◌≡◌, ◌+◌, ◌*◌, ◌%◌, ◌^◌, ◌<◌, ◌≤◌, ℕ, Bool, Option, Some, None, List, []}
+use Rattle.history.specs.Started.{starts_of}
 use Rattle.atomic_table.specs.Seated.{TableId}
 use Rattle.shared_memory.specs.Passes.{marked, nobody}
 use Rattle.shared_memory.specs.Seen.{IsOneOf, IsSingle}
@@ -11,7 +8,6 @@ use Rattle.version_rule.specs.declared.hands.Doing.TheVariants.{Rest}
 use Rattle.version_rule.specs.declared.hands.Reserve.{Reserve}
 use Rattle.version_rule.specs.declared.hands.Reserve.TheVariants.{Nothing, Row, Several}
 use Rattle.shared_memory.specs.declared.plans.Plan.{Plan}
-use Rattle.version_rule.specs.Hands.{class_at}
 use Rattle.version_rule.specs.StartWords.{all_words}
 use Rattle.version_rule.specs.Told.{Mine}
 use Rattle.version_memory.specs.declared.passes.Reserved.{Reserved}
@@ -27,30 +23,11 @@ pub record IsMade (plan : Plan) (table : TableId) : Type 0 where
   pub whole : plan.size.mem % 8 ≡ 0
   pub short : plan.size.limit ≤ 2 ^ 62
 
--- a seat of the table that has one number may make a step, where its thread may act by what it has seen
-pub record IsReady (plan : Plan) (table home : TableId) (me : Mine) : Type 0 where
-  pub made : IsMade plan table
-  pub home_is : home ≡ table
-  pub single : IsSingle me.0.lead (marked me.0.numbers)
-  pub acts : MayAct plan.first me.0.lead me.0.seen
-
--- a seat of the table that has one number, of a thread that doesn't begin by itself, may look whether it was started
-pub record IsAwaiting (plan : Plan) (table home : TableId) (me : Mine) : Type 0 where
-  pub made : IsMade plan table
-  pub home_is : home ≡ table
-  pub single : IsSingle me.0.lead (marked me.0.numbers)
-  pub from : plan.first ≤ me.0.lead
-
 -- what a pass keeps of a reservation
 abbrev pub reserved_of : Reserve → Option Reserved
 reserved_of Nothing = None
 reserved_of (Row row version) = Some (record { row = row; version = version })
 reserved_of Several = None
-
--- a reservation after the thread's own store to a place, which ends it where it falls into the class
-abbrev pub reserved_after : Numbers → Place → Option Reserved → Option Reserved
-reserved_after size place None = None
-reserved_after size place (Some reserved) = if class_at size place == class_of size.classes reserved.row then None else Some reserved
 
 -- between two calls: the marks and the number are the seat's, no call is in flight, and the reservation is known where the
 -- pass has one number

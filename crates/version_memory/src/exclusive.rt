@@ -8,11 +8,12 @@ ghost use Rattle.version_rule.specs.declared.hands.Doing.TheVariants.{Rest, Clai
 ghost use Rattle.version_rule.specs.declared.hands.Reserve.TheVariants.{Nothing, Row, Several};
 ghost use Rattle.version_rule.specs.Hands.{hand};
 ghost use Rattle.version_rule.specs.Kept.{origin_of};
-ghost use Rattle.shared_memory.specs.Told.{Goes, ask};
+ghost use Rattle.shared_memory.specs.Told.{Goes};
+ghost use Rattle.shared_memory.specs.inner.Told.{ask};
 ghost use Rattle.version_rule.specs.Told.{Decides, HasLost, IsDisturbed, IsUndisturbedAt};
-ghost use Rattle.shared_memory.specs.Targets.{IsTarget};
-ghost use Rattle.version_memory.specs.Passes.{IsReady};
-ghost use Rattle.version_memory.specs.Stored.{HasFailed, HasStoredEx};
+ghost use Rattle.shared_memory.specs.inner.Targets.{IsTarget};
+ghost use Rattle.version_memory.specs.inner.Passes.{IsReady};
+ghost use Rattle.version_memory.specs.inner.Stored.{HasFailed, HasStoredEx};
 
 use crate::plain::write_held;
 use crossbeam_utils::Backoff;

@@ -9,13 +9,14 @@ ghost use Rattle.version_rule.specs.Exact.{IsSpent, IsVersion};
 ghost use Rattle.version_rule.specs.Hands.{hand, reserve_after};
 ghost use Rattle.shared_memory.specs.Layout.{cell_word};
 ghost use Rattle.version_rule.specs.Kept.{origin_of};
-ghost use Rattle.shared_memory.specs.Told.{Goes, ask};
+ghost use Rattle.shared_memory.specs.Told.{Goes};
+ghost use Rattle.shared_memory.specs.inner.Told.{ask};
 ghost use Rattle.version_rule.specs.Told.{Decides, HasFoundTag};
-ghost use Rattle.shared_memory.specs.Targets.{IsPlace, IsTarget};
+ghost use Rattle.shared_memory.specs.inner.Targets.{IsPlace, IsTarget};
 ghost use Rattle.version_memory.specs.Exact.{IsContended};
-ghost use Rattle.version_memory.specs.Passes.{IsReady};
+ghost use Rattle.version_memory.specs.inner.Passes.{IsReady};
 ghost use Rattle.version_memory.specs.Stands.{IsStamped};
-ghost use Rattle.version_memory.specs.Stored.{HasStored};
+ghost use Rattle.version_memory.specs.inner.Stored.{HasStored};
 
 use crossbeam_utils::Backoff;
 use history::Entry;

@@ -1,11 +1,13 @@
 //! How seats are split and joined.
 ghost use Rattle.std.specs.Prelude.{◌≡◌, ◌<◌, ℕ, []};
 ghost use Rattle.history.specs.Parts.{entries_of};
-ghost use Rattle.shared_memory.specs.Passes.{alone_mark, joined_view, marked, nobody, without_mark};
+ghost use Rattle.shared_memory.specs.Passes.{marked, nobody};
+ghost use Rattle.shared_memory.specs.inner.Passes.{alone_mark, joined_view, without_mark};
 ghost use Rattle.shared_memory.specs.Seen.{IsOneOf};
 ghost use Rattle.version_rule.specs.declared.hands.Doing.TheVariants.{Rest};
 ghost use Rattle.version_rule.specs.declared.hands.Reserve.TheVariants.{Nothing};
-ghost use Rattle.version_rule.specs.Hands.{hand, reserve_joined};
+ghost use Rattle.version_rule.specs.Hands.{hand};
+ghost use Rattle.version_rule.specs.inner.Hands.{reserve_joined};
 ghost use Rattle.version_memory.specs.Passes.{IsMade};
 ghost use Rattle.shared_memory.specs.Told.{Settles};
 
@@ -20,7 +22,7 @@ struct Given<J> {
 }
 
 impl<J: Gives> Split<VersionView> for Given<J> {
-    ghost use Rattle.shared_memory.specs.Passes.{alone_mark, without_mark};
+    ghost use Rattle.shared_memory.specs.inner.Passes.{alone_mark, without_mark};
     ghost use Rattle.version_rule.specs.declared.hands.Doing.TheVariants.{Rest};
     ghost use Rattle.version_rule.specs.declared.hands.Reserve.TheVariants.{Nothing};
     ghost use Rattle.version_rule.specs.Hands.{hand};
@@ -34,10 +36,11 @@ impl<J: Gives> Split<VersionView> for Given<J> {
 struct Both;
 
 impl Join<VersionView> for Both {
-    ghost use Rattle.shared_memory.specs.Passes.{joined_view, spent_view};
+    ghost use Rattle.shared_memory.specs.inner.Passes.{joined_view, spent_view};
     ghost use Rattle.version_rule.specs.declared.hands.Doing.TheVariants.{Rest};
     ghost use Rattle.version_rule.specs.declared.hands.Reserve.TheVariants.{Nothing};
-    ghost use Rattle.version_rule.specs.Hands.{hand, reserve_joined};
+    ghost use Rattle.version_rule.specs.Hands.{hand};
+    ghost use Rattle.version_rule.specs.inner.Hands.{reserve_joined};
 
     ghost both = { λ v w. joined_view (hand Rest (reserve_joined v w)) v w };
 

@@ -11,8 +11,8 @@ ghost use Rattle.version_rule.specs.Exact.{IsSpent, IsUndisturbed};
 ghost use Rattle.version_memory.specs.Exact.{HasFailedAt};
 ghost use Rattle.version_memory.specs.Stands.{HasRoom, Stands};
 ghost use Rattle.version_rule.specs.Hands.{class_at};
-ghost use Rattle.shared_memory.specs.Targets.{IsPlace, IsTarget};
-ghost use Rattle.version_memory.specs.Passes.{reserved_after};
+ghost use Rattle.shared_memory.specs.inner.Targets.{IsPlace, IsTarget};
+ghost use Rattle.version_memory.specs.inner.Passes.{reserved_after};
 ghost use Rattle.version_memory.specs.Memory.{memory_id, memory_origin, pass_home, pass_numbers, pass_seen, story_history};
 
 use crate::exclusive::clear_reservation;

@@ -7,11 +7,12 @@ ghost use Rattle.version_rule.specs.declared.hands.Reserve.TheVariants.{Row};
 ghost use Rattle.version_rule.specs.Exact.{IsVersion};
 ghost use Rattle.version_rule.specs.Hands.{hand};
 ghost use Rattle.version_rule.specs.Kept.{origin_of};
-ghost use Rattle.shared_memory.specs.Told.{Goes, ask};
+ghost use Rattle.shared_memory.specs.Told.{Goes};
+ghost use Rattle.shared_memory.specs.inner.Told.{ask};
 ghost use Rattle.version_rule.specs.Told.{Decides};
-ghost use Rattle.shared_memory.specs.Targets.{IsTarget};
-ghost use Rattle.version_memory.specs.Passes.{IsReady};
-ghost use Rattle.version_memory.specs.Stored.{HasLoaded, HasLoadedEx};
+ghost use Rattle.shared_memory.specs.inner.Targets.{IsTarget};
+ghost use Rattle.version_memory.specs.inner.Passes.{IsReady};
+ghost use Rattle.version_memory.specs.inner.Stored.{HasLoaded, HasLoadedEx};
 
 use crate::exclusive::Linked;
 use crossbeam_utils::Backoff;

@@ -7,8 +7,8 @@ ghost use Rattle.shared_memory.specs.Told.{Goes};
 ghost use Rattle.version_rule.specs.declared.hands.Doing.TheVariants.{Rest};
 ghost use Rattle.version_rule.specs.Kept.{origin_of};
 ghost use Rattle.version_rule.specs.StartWords.{start_word};
-ghost use Rattle.version_rule.specs.Told.{birth};
-ghost use Rattle.version_memory.specs.Passes.{IsAwaiting, IsReady};
+ghost use Rattle.version_rule.specs.inner.Told.{birth};
+ghost use Rattle.version_memory.specs.inner.Passes.{IsAwaiting, IsReady};
 
 use crossbeam_utils::Backoff;
 use shared_memory::Asks;

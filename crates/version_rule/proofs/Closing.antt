@@ -20,7 +20,7 @@ use Rattle.shared_memory.specs.declared.views.View.{View}
 use Rattle.shared_memory.specs.Layout.{cell_word}
 use Rattle.shared_memory.specs.Passes.{marked}
 use Rattle.shared_memory.specs.Seen.{IsOneOf}
-use Rattle.shared_memory.specs.Told.{ask}
+use Rattle.shared_memory.specs.inner.Told.{ask}
 use Rattle.shared_memory.proofs.Closing.{all-seen, cells-seen, complete-seen, legal-seen}
 use Rattle.version_rule.specs.declared.hands.Doing.{Doing}
 use Rattle.version_rule.specs.declared.hands.Doing.TheVariants.{Rest}

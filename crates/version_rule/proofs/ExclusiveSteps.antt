@@ -15,7 +15,8 @@ use Rattle.history.specs.declared.entry.Cause.TheVariants.{Absent, Lost, Limit}
 use Rattle.atomic_table.specs.Table.{Allows, keeps, step}
 use Rattle.history.specs.Started.{MayAct}
 use Rattle.shared_memory.specs.Seen.{IsSingle}
-use Rattle.shared_memory.specs.Passes.{marked, moved}
+use Rattle.shared_memory.specs.Passes.{marked}
+use Rattle.shared_memory.specs.inner.Passes.{moved}
 use Rattle.version_rule.specs.declared.hands.Doing.{Doing}
 use Rattle.version_rule.specs.declared.hands.Doing.TheVariants.{Rest, Claimed, Looking}
 use Rattle.version_rule.specs.declared.hands.Reserve.{Reserve}
@@ -26,7 +27,7 @@ use Rattle.version_rule.specs.Hands.{class_at, hand}
 use Rattle.version_rule.specs.Knowledge.{IsAt, IsReserve, Knows}
 use Rattle.shared_memory.specs.Layout.{cell_word, tag_word}
 use Rattle.version_rule.specs.Kept.{Kept, KeptBy, origin_of}
-use Rattle.shared_memory.specs.Told.{ask}
+use Rattle.shared_memory.specs.inner.Told.{ask}
 use Rattle.version_rule.specs.Told.{HasLost, IsDisturbed, IsUndisturbedAt, Mine, absent, claimed_ex, cleared, limited, read_ex, watched, watched_or_not}
 use Rattle.version_rule.proofs.Classes.{IsOrderly, flies-none}
 use Rattle.version_rule.proofs.Facts.{as-found, cell-is, known, lead-below, overtaken-is, reserved-is, sound, stirred-is, tag-is, writes-is}

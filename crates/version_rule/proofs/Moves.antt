@@ -13,7 +13,8 @@ use Rattle.history.proofs.Born.{is_start, may-act-later, may-stand}
 use Rattle.history.proofs.Cuts.{each-more, each-still, each-two}
 use Rattle.shared_memory.specs.declared.views.View.{View}
 use Rattle.shared_memory.specs.Seen.{IsOneOf, IsSingle}
-use Rattle.shared_memory.specs.Passes.{marked, moved}
+use Rattle.shared_memory.specs.Passes.{marked}
+use Rattle.shared_memory.specs.inner.Passes.{moved}
 use Rattle.shared_memory.proofs.Grown.{AreBy, are_by-none, grown}
 use Rattle.shared_memory.proofs.Stepped.{are_by-one, are_by-two, goes-grown}
 use Rattle.version_rule.specs.declared.hands.Hand.{Hand}

@@ -16,7 +16,8 @@ use Rattle.history.specs.declared.entry.Entry.TheVariants.{Read, Write, Begin, E
 use Rattle.atomic_table.specs.Table.{Allows, keeps, step}
 use Rattle.history.specs.Started.{MayAct}
 use Rattle.shared_memory.specs.Seen.{IsSingle}
-use Rattle.shared_memory.specs.Passes.{marked, moved}
+use Rattle.shared_memory.specs.Passes.{marked}
+use Rattle.shared_memory.specs.inner.Passes.{moved}
 use Rattle.shared_memory.specs.declared.views.View.{View}
 use Rattle.version_rule.specs.declared.hands.Hand.{Hand}
 use Rattle.version_rule.specs.declared.hands.Doing.{Doing}
@@ -27,7 +28,8 @@ use Rattle.version_rule.specs.Hands.{class_at, hand, reserve_after}
 use Rattle.version_rule.specs.Knowledge.{IsAt, Knows}
 use Rattle.shared_memory.specs.Layout.{cell_word, tag_word}
 use Rattle.version_rule.specs.Kept.{Kept, KeptBy, origin_of}
-use Rattle.shared_memory.specs.Told.{Goes, ask, loaded}
+use Rattle.shared_memory.specs.Told.{Goes, loaded}
+use Rattle.shared_memory.specs.inner.Told.{ask}
 use Rattle.version_rule.specs.Told.{Decides, Mine, changed, claimed, released, tag_found, taken}
 use Rattle.version_rule.proofs.Classes.{IsOrderly}
 use Rattle.version_rule.proofs.Facts.{as-found, cell-below, cell-is, edges-is, known, sound, spent, tag-is, writes-is}

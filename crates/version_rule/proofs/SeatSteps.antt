@@ -5,7 +5,8 @@ use Rattle.atomic_table.specs.Table.{Allows, Joins, Splits, keeps, step}
 use Rattle.history.specs.Parts.{entries_of}
 use Rattle.history.specs.Standing.{Standing}
 use Rattle.shared_memory.specs.declared.views.View.{View}
-use Rattle.shared_memory.specs.Passes.{alone_mark, joined_view, marked, nobody, spent_view, without_mark}
+use Rattle.shared_memory.specs.Passes.{marked, nobody}
+use Rattle.shared_memory.specs.inner.Passes.{alone_mark, joined_view, spent_view, without_mark}
 use Rattle.shared_memory.specs.Seen.{IsOneOf}
 use Rattle.shared_memory.proofs.Joined.{joined, leads-differ, settled, settles}
 use Rattle.shared_memory.proofs.Split.{split}
@@ -15,7 +16,8 @@ use Rattle.version_rule.specs.declared.hands.Reserve.{Reserve}
 use Rattle.version_rule.specs.declared.hands.Reserve.TheVariants.{Nothing, Several}
 use Rattle.version_rule.specs.declared.hands.Hand.{Hand}
 use Rattle.shared_memory.specs.declared.plans.Plan.{Plan}
-use Rattle.version_rule.specs.Hands.{hand, reserve_joined}
+use Rattle.version_rule.specs.Hands.{hand}
+use Rattle.version_rule.specs.inner.Hands.{reserve_joined}
 use Rattle.version_rule.specs.Knowledge.{IsAt, Knows}
 use Rattle.version_rule.specs.Kept.{KeptBy}
 use Rattle.shared_memory.specs.Told.{settled_at}

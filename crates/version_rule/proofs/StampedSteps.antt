@@ -13,7 +13,8 @@ use Rattle.history.specs.declared.entry.Entry.TheVariants.{Read, Watch}
 use Rattle.atomic_table.specs.Table.{Allows, keeps, step}
 use Rattle.history.specs.Started.{MayAct}
 use Rattle.shared_memory.specs.Seen.{IsSingle}
-use Rattle.shared_memory.specs.Passes.{marked, moved}
+use Rattle.shared_memory.specs.Passes.{marked}
+use Rattle.shared_memory.specs.inner.Passes.{moved}
 use Rattle.version_rule.specs.declared.hands.Doing.{Doing}
 use Rattle.version_rule.specs.declared.hands.Doing.TheVariants.{Rest, First, Second}
 use Rattle.version_rule.specs.declared.hands.Reserve.TheVariants.{Row}
@@ -23,7 +24,8 @@ use Rattle.version_rule.specs.Hands.{class_at, hand}
 use Rattle.version_rule.specs.Knowledge.{Knows}
 use Rattle.shared_memory.specs.Layout.{cell_word, tag_word}
 use Rattle.version_rule.specs.Kept.{KeptBy, origin_of}
-use Rattle.shared_memory.specs.Told.{Goes, ask}
+use Rattle.shared_memory.specs.Told.{Goes}
+use Rattle.shared_memory.specs.inner.Told.{ask}
 use Rattle.version_rule.specs.Told.{Decides, Mine, first_found, second_found, third_found, third_found_ex}
 use Rattle.shared_memory.proofs.Apart.{stage-own}
 use Rattle.version_rule.proofs.Facts.{as-found, cell-is, known, sound, tag-is, writes-is}

@@ -9,15 +9,17 @@ use Rattle.history.specs.declared.entry.Entry.TheVariants.{Start}
 use Rattle.history.proofs.Born.{child-below}
 use Rattle.atomic_table.specs.Table.{Allows, keeps, step}
 use Rattle.shared_memory.specs.Seen.{IsSingle}
-use Rattle.shared_memory.specs.Passes.{marked, moved}
-use Rattle.shared_memory.specs.Told.{ask}
+use Rattle.shared_memory.specs.Passes.{marked}
+use Rattle.shared_memory.specs.inner.Passes.{moved}
+use Rattle.shared_memory.specs.inner.Told.{ask}
 use Rattle.shared_memory.specs.declared.plans.Plan.{Plan}
 use Rattle.version_rule.specs.declared.hands.Doing.{Doing}
 use Rattle.version_rule.specs.declared.hands.Doing.TheVariants.{Rest}
 use Rattle.version_rule.specs.Knowledge.{IsAt}
 use Rattle.version_rule.specs.Kept.{KeptBy, origin_of}
 use Rattle.version_rule.specs.StartWords.{start_word}
-use Rattle.version_rule.specs.Told.{Mine, birth, known_own, start_found, started}
+use Rattle.version_rule.specs.Told.{Mine, known_own, start_found, started}
+use Rattle.version_rule.specs.inner.Told.{birth}
 use Rattle.version_rule.proofs.Facts.{as-found, known, lead-below}
 use Rattle.version_rule.proofs.Laid.{laid-behind}
 use Rattle.version_rule.proofs.Moves.{moves-by, moves-none, told-by, told-none}

@@ -3,7 +3,6 @@ use Rattle.std.specs.Prelude.{ℕ, ◌==◌, if◌then◌else◌}
 use Rattle.llsc_base.specs.Memory.{class_of, row_of}
 use Rattle.llsc_base.specs.Sizes.{Numbers}
 use Rattle.llsc_base.specs.declared.access.Place.{Place}
-use Rattle.shared_memory.specs.declared.views.View.{View}
 use Rattle.version_rule.specs.declared.hands.Doing.{Doing}
 use Rattle.version_rule.specs.declared.hands.Reserve.{Reserve}
 use Rattle.version_rule.specs.declared.hands.Reserve.TheVariants.{Nothing, Row, Several}
@@ -21,7 +20,3 @@ abbrev pub reserve_after : Numbers → Place → Reserve → Reserve
 reserve_after size place Nothing = Nothing
 reserve_after size place Several = Several
 reserve_after size place (Row row version) = if class_at size place == class_of size.classes row then Nothing else Row row version
-
--- the reservation of a seat that has taken in another: of several threads it isn't known
-abbrev pub reserve_joined : View Hand → View Hand → Reserve
-reserve_joined one other = if one.lead == other.lead then Nothing else Several

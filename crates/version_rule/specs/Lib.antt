@@ -5,3 +5,4 @@ pub mod Kept
 pub mod Exact
 pub mod Left
 pub mod Told
+pub mod inner

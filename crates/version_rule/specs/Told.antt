@@ -8,7 +8,7 @@ use Rattle.history.specs.declared.entry.Entry.{Entry}
 use Rattle.history.specs.declared.entry.Entry.TheVariants.{Read, Write, Fail, Clear, Watch, Miss, Begin, End, Start}
 use Rattle.history.specs.declared.entry.Cause.TheVariants.{Absent, Lost, Limit}
 use Rattle.atomic_table.specs.Table.{Step}
-use Rattle.shared_memory.specs.Told.{Ask, Goes, SeatOf, no_ask}
+use Rattle.shared_memory.specs.Told.{Ask, Goes, SeatOf}
 use Rattle.shared_memory.specs.Origin.{Origin}
 use Rattle.shared_memory.specs.Seen.{IsFront}
 use Rattle.version_rule.specs.declared.hands.Hand.{Hand}
@@ -155,13 +155,6 @@ pub record Birth : Type 0 where
   pub child : ℕ
   pub entry : ℕ
   pub arg : ℕ
-
-abbrev pub birth : Origin → (child entry arg : ℕ) → Birth
-birth origin child entry arg = record { origin = origin; child = child; entry = entry; arg = arg }
-
--- where a call doesn't say which
-abbrev pub no_birth : Birth
-no_birth = birth no_ask.origin 0 0 0
 
 -- a thread is started
 abbrev pub started : Birth → Step (Unit {0}) → Mine → ℕ → Mine → Type 0

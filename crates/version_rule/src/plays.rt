@@ -12,7 +12,7 @@ pub trait Births {
 }
 
 impl Births for Brand {
-    ghost use Rattle.version_rule.specs.Told.{no_birth};
+    ghost use Rattle.version_rule.specs.inner.Told.{no_birth};
 
     ghost birth = { no_birth };
 }

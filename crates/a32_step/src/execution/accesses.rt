@@ -1,9 +1,9 @@
 //! The access of an instruction that makes one.
 ghost use Rattle.std.specs.Prelude.{◌≡◌, ◌≢◌, ◌<◌, ◌≤◌, ◌+◌, ◌^◌, [], IfSome, IfNone, length, IsFalse};
 ghost use Rattle.llsc_base.specs.Effects.{stops};
-ghost use Rattle.a32_step.specs.ExecutionState.{Between};
+ghost use Rattle.a32_step.specs.inner.ExecutionState.{Between};
 ghost use Rattle.guest_core.specs.Machine.{PassesTests, ValueFits};
-ghost use Rattle.a32_step.specs.Acting.{IsReplied, asked_first, with_reply};
+ghost use Rattle.a32_step.specs.inner.Acting.{IsReplied, asked_first, with_reply};
 
 use super::Execution;
 use super::load_store::barred;

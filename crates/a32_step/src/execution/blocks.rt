@@ -5,11 +5,11 @@ ghost use Rattle.a32_instr.specs.State.{State, jumps};
 ghost use Rattle.llsc_base.specs.Effects.{asks};
 ghost use Rattle.a32_instr.specs.Block.{count_of, block_size, block, block_at, block_back, block_done, block_loaded, with_block};
 ghost use Rattle.a32_instr.specs.Effect.{acts};
-ghost use Rattle.a32_step.specs.Progress.{progress_of};
-ghost use Rattle.a32_step.specs.Classes.{instr_class, block_access};
-ghost use Rattle.a32_step.specs.ExecutionState.{Awaiting, Inside, moves, resting};
+ghost use Rattle.a32_step.specs.inner.Progress.{progress_of};
+ghost use Rattle.a32_step.specs.inner.Classes.{instr_class, block_access};
+ghost use Rattle.a32_step.specs.inner.ExecutionState.{Awaiting, Inside, moves, resting};
 ghost use Rattle.a32_compute.specs.Lists.{AreLeft};
-ghost use Rattle.a32_step.specs.Acting.{IsActed, IsGiven, word_ask};
+ghost use Rattle.a32_step.specs.inner.Acting.{IsActed, IsGiven, word_ask};
 
 use super::Execution;
 use super::load_store::barred;

@@ -4,9 +4,9 @@ ghost use Rattle.llsc_base.specs.Images.{Program};
 ghost use Rattle.llsc_base.specs.Effects.{calls};
 ghost use Rattle.a32_instr.specs.Branch.{branched, branches_by_register, call_of};
 ghost use Rattle.a32_instr.specs.Effect.{acts};
-ghost use Rattle.a32_step.specs.Progress.{progress_of};
-ghost use Rattle.a32_step.specs.Classes.{instr_class, branch_or_call};
-ghost use Rattle.a32_step.specs.ExecutionState.{moves};
+ghost use Rattle.a32_step.specs.inner.Progress.{progress_of};
+ghost use Rattle.a32_step.specs.inner.Classes.{instr_class, branch_or_call};
+ghost use Rattle.a32_step.specs.inner.ExecutionState.{moves};
 
 use super::Execution;
 use crate::phases::{Hold, Point, Progress};

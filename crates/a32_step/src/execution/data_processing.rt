@@ -3,9 +3,9 @@ ghost use Rattle.std.specs.Prelude.{◌≡◌, true};
 ghost use Rattle.llsc_base.specs.Images.{Program};
 ghost use Rattle.a32_instr.specs.DataProcessing.{operand_of, alu};
 ghost use Rattle.a32_instr.specs.Effect.{acts};
-ghost use Rattle.a32_step.specs.Progress.{progress_of};
-ghost use Rattle.a32_step.specs.Classes.{instr_class, data_processing};
-ghost use Rattle.a32_step.specs.ExecutionState.{moves};
+ghost use Rattle.a32_step.specs.inner.Progress.{progress_of};
+ghost use Rattle.a32_step.specs.inner.Classes.{instr_class, data_processing};
+ghost use Rattle.a32_step.specs.inner.ExecutionState.{moves};
 
 use super::Execution;
 use crate::phases::Progress;

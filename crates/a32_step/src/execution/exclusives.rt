@@ -3,8 +3,8 @@ ghost use Rattle.std.specs.Prelude.{◌≡◌, ◌<◌, ◌≤◌, ◌+◌, ◌^
 ghost use Rattle.llsc_base.specs.Effects.{loaded_part};
 ghost use Rattle.a32_instr.specs.Exclusive.{next_register, with_loaded, stored_part, load_exclusive, store_exclusive, clear_exclusive};
 ghost use Rattle.a32_instr.specs.Effect.{acts};
-ghost use Rattle.a32_step.specs.Classes.{instr_class, synchronization};
-ghost use Rattle.a32_step.specs.Acting.{IsActed};
+ghost use Rattle.a32_step.specs.inner.Classes.{instr_class, synchronization};
+ghost use Rattle.a32_step.specs.inner.Acting.{IsActed};
 
 use super::Execution;
 use crate::phases::Progress;

@@ -5,10 +5,10 @@ ghost use Rattle.a32_instr.specs.State.{advanced, jumps, register, writes};
 ghost use Rattle.a32_instr.specs.LoadStore.{access_size, accessed_address, half_size, distance_of, loads, loads_half, moved_address, stores, written_back};
 ghost use Rattle.llsc_base.specs.Effects.{barred};
 ghost use Rattle.a32_instr.specs.Effect.{acts};
-ghost use Rattle.a32_step.specs.Progress.{progress_of};
-ghost use Rattle.a32_step.specs.Classes.{instr_class, word_access, half_access};
-ghost use Rattle.a32_step.specs.ExecutionState.{moves};
-ghost use Rattle.a32_step.specs.Acting.{IsActed};
+ghost use Rattle.a32_step.specs.inner.Progress.{progress_of};
+ghost use Rattle.a32_step.specs.inner.Classes.{instr_class, word_access, half_access};
+ghost use Rattle.a32_step.specs.inner.ExecutionState.{moves};
+ghost use Rattle.a32_step.specs.inner.Acting.{IsActed};
 
 use super::Execution;
 use crate::phases::Progress;

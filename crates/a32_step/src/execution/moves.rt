@@ -1,8 +1,8 @@
 //! Wide moves, CLZ, REV and extends (DDI 0406C A5.2, A5.4.3).
 ghost use Rattle.std.specs.Prelude.{◌≡◌};
 ghost use Rattle.a32_instr.specs.Moves.{moves_wide, moves_top, counts_zeros, reverses, extends};
-ghost use Rattle.a32_step.specs.Progress.{progress_of};
-ghost use Rattle.a32_step.specs.ExecutionState.{moves};
+ghost use Rattle.a32_step.specs.inner.Progress.{progress_of};
+ghost use Rattle.a32_step.specs.inner.ExecutionState.{moves};
 
 use super::Execution;
 use crate::phases::Progress;

@@ -3,9 +3,9 @@ ghost use Rattle.std.specs.Prelude.{◌≡◌, if◌then◌else◌};
 ghost use Rattle.llsc_base.specs.Images.{Program};
 ghost use Rattle.a32_instr.specs.Multiply.{joined, multiplied, multiplies, multiplies_and_adds, multiplies_and_subtracts, after_long};
 ghost use Rattle.a32_instr.specs.Effect.{acts};
-ghost use Rattle.a32_step.specs.Progress.{progress_of};
-ghost use Rattle.a32_step.specs.Classes.{instr_class, multiplication};
-ghost use Rattle.a32_step.specs.ExecutionState.{moves};
+ghost use Rattle.a32_step.specs.inner.Progress.{progress_of};
+ghost use Rattle.a32_step.specs.inner.Classes.{instr_class, multiplication};
+ghost use Rattle.a32_step.specs.inner.ExecutionState.{moves};
 
 use super::Execution;
 use crate::phases::Progress;

@@ -1,6 +1,6 @@
 //! A guest on a memory that threads share, which runs piece by piece and calls for a thread to be started.
 ghost use Rattle.std.specs.Prelude.{◌≡◌, ◌≤◌, IfOk, length};
-ghost use Rattle.guest_trials.specs.Parts.{MayGoOn};
+ghost use Rattle.guest_trials.specs.inner.Parts.{MayGoOn};
 
 use super::programs::image_of;
 use a32_step::{Conditional, Cpu};

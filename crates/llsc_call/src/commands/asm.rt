@@ -3,7 +3,7 @@ ghost use Rattle.std.specs.Prelude.{◌≡◌, None};
 ghost use Rattle.a32_asm.specs.Assembled.{most_text};
 ghost use Rattle.llsc_files.specs.Refusals.{too_long};
 ghost use Rattle.llsc_texts.specs.Assembly.{AnswersAsm};
-ghost use Rattle.llsc_call.specs.Outcome.{Gives};
+ghost use Rattle.llsc_call.specs.inner.Outcome.{Gives};
 
 use crate::outcome::Outcome;
 use llsc_texts::assembled;

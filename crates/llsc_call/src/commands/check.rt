@@ -3,7 +3,7 @@ ghost use Rattle.std.specs.Prelude.{◌≡◌, None, Some, IfOk, length, string_
 ghost use Rattle.run_record.specs.Limits.{IsRecord};
 ghost use Rattle.llsc_files.specs.Refusals.{most_program, too_long, IsRefusal};
 ghost use Rattle.llsc_call.specs.Check.{most_record, record_fault_text, verdict_text, AnswersCheck, IsJudged, JudgesRun};
-ghost use Rattle.llsc_call.specs.Outcome.{Gives};
+ghost use Rattle.llsc_call.specs.inner.Outcome.{Gives};
 
 use crate::outcome::Outcome;
 use a32_step::Remembering;

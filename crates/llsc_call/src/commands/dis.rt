@@ -2,7 +2,7 @@
 ghost use Rattle.std.specs.Prelude.{◌≡◌, None};
 ghost use Rattle.llsc_files.specs.Refusals.{most_program, too_long};
 ghost use Rattle.llsc_texts.specs.Disassembly.{AnswersDis};
-ghost use Rattle.llsc_call.specs.Outcome.{Gives};
+ghost use Rattle.llsc_call.specs.inner.Outcome.{Gives};
 
 use crate::outcome::Outcome;
 use llsc_files::{LEAST_GRANULE, load, numbers_of};

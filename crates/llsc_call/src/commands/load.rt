@@ -8,8 +8,9 @@ ghost use Rattle.history.specs.declared.entry.Entry.{Entry};
 ghost use Rattle.llsc_files.specs.Refusals.{IsRefusal};
 ghost use Rattle.a32_step.specs.Machine.{a32};
 ghost use Rattle.llsc_call.specs.Beside.{Ran};
-ghost use Rattle.llsc_call.specs.Load.{AnswersLoad, IsPrepared, TellsLoad, guest_refusal, load_program, load_refusal, load_size};
-ghost use Rattle.llsc_call.specs.Outcome.{GivesBy, IsOneOf};
+ghost use Rattle.llsc_call.specs.Load.{AnswersLoad, TellsLoad, guest_refusal, load_program, load_refusal, load_size};
+ghost use Rattle.llsc_call.specs.inner.Load.{IsPrepared};
+ghost use Rattle.llsc_call.specs.inner.Outcome.{GivesBy, IsOneOf};
 
 use crate::answer::Answer;
 use crate::beside::run_beside;

@@ -4,7 +4,7 @@ ghost use Rattle.llsc_base.specs.Limits.{most_budget};
 ghost use Rattle.llsc_words.specs.Request.{machine_by};
 ghost use Rattle.llsc_files.specs.Refusals.{most_program, too_long};
 ghost use Rattle.llsc_call.specs.Run.{AnswersRun, ReportsRun};
-ghost use Rattle.llsc_call.specs.Outcome.{GivesBy};
+ghost use Rattle.llsc_call.specs.inner.Outcome.{GivesBy};
 
 use crate::answer::Answer;
 use crate::beside::run_pool_beside;

@@ -6,9 +6,9 @@ ghost use Rattle.run_record.specs.Text.{record_text};
 ghost use Rattle.version_memory.specs.Memory.{memory_id, memory_origin, pass_home, pass_numbers, pass_seen};
 ghost use Rattle.llsc_words.specs.Request.{machine_by};
 ghost use Rattle.llsc_files.specs.Refusals.{most_program, too_long};
-ghost use Rattle.llsc_call.specs.Merged.{TellsOf};
+ghost use Rattle.llsc_call.specs.inner.Merged.{TellsOf};
 ghost use Rattle.llsc_call.specs.Record.{AnswersRecord, RecordsRun, record_by};
-ghost use Rattle.llsc_call.specs.Outcome.{GivesBy};
+ghost use Rattle.llsc_call.specs.inner.Outcome.{GivesBy};
 
 use crate::answer::Answer;
 use crate::outcome::Outcome;

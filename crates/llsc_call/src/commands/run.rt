@@ -7,7 +7,7 @@ ghost use Rattle.llsc_files.specs.Programs.{program_refusal_as, IsLoadedAs};
 ghost use Rattle.llsc_files.specs.Refusals.{most_program, too_long, IsRefusal};
 ghost use Rattle.llsc_call.specs.Beside.{RanFrom};
 ghost use Rattle.llsc_call.specs.Run.{AnswersRun, ReportsRun};
-ghost use Rattle.llsc_call.specs.Outcome.{GivesBy};
+ghost use Rattle.llsc_call.specs.inner.Outcome.{GivesBy};
 
 use crate::answer::Answer;
 use crate::beside::{Finished, run_beside, run_family_beside};

@@ -3,7 +3,7 @@ ghost use Rattle.std.specs.Prelude.{◌≡◌, ◌≤◌, None, length};
 ghost use Rattle.llsc_base.specs.Limits.{most_budget};
 ghost use Rattle.llsc_files.specs.Refusals.{most_program, too_long};
 ghost use Rattle.llsc_call.specs.Answer.{AnswersSolo, IsReported};
-ghost use Rattle.llsc_call.specs.Outcome.{Gives};
+ghost use Rattle.llsc_call.specs.inner.Outcome.{Gives};
 
 use crate::outcome::Outcome;
 use a32_step::Cpu;

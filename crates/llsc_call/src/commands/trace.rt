@@ -3,7 +3,7 @@ ghost use Rattle.std.specs.Prelude.{◌≡◌, ◌≤◌, None, Some, codes, len
 ghost use Rattle.llsc_base.specs.Limits.{most_budget};
 ghost use Rattle.llsc_files.specs.Refusals.{most_program, too_long, IsRefusal};
 ghost use Rattle.llsc_call.specs.Trace.{AnswersTrace, Traces};
-ghost use Rattle.llsc_call.specs.Outcome.{Gives};
+ghost use Rattle.llsc_call.specs.inner.Outcome.{Gives};
 
 use crate::outcome::Outcome;
 use a32_step::Remembering;

@@ -1,4 +1,4 @@
-use Rattle.memory_bench.specs.Alone.{IsAlone}
+use Rattle.memory_bench.specs.inner.Alone.{IsAlone}
 use Rattle.memory_bench.proofs.main.Given as goal
 
 abbrev pub invariant-loop-word : goal.invariant-loop-word

@@ -1,7 +1,7 @@
 //! Accesses of two threads, one after the other, with what memory is to answer.
 ghost use Rattle.std.specs.Prelude.{◌+◌, ◌^◌, ◌<◌, ◌≤◌, ℕ, IsTrue};
 ghost use Rattle.llsc_base.specs.Memory.{is_aligned, size_bytes};
-ghost use Rattle.memory_trials.specs.Tried.{IsOf, IsPassOf};
+ghost use Rattle.memory_trials.specs.inner.Tried.{IsOf, IsPassOf};
 
 use super::tried::{Shape, Tried, two};
 use llsc_base::{Place, Size};

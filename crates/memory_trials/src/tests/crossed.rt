@@ -2,7 +2,7 @@
 ghost use Rattle.std.specs.Prelude.{◌≡◌, ◌+◌, ◌<◌, ◌≤◌, ℕ, IsTrue};
 ghost use Rattle.llsc_base.specs.Memory.{is_aligned, size_bytes};
 ghost use Rattle.shared_memory.specs.Seen.{IsSingle};
-ghost use Rattle.memory_trials.specs.Tried.{AreWords, IsOf, IsPassOf};
+ghost use Rattle.memory_trials.specs.inner.Tried.{AreWords, IsOf, IsPassOf};
 
 use super::tried::{Tried, USUAL, two};
 use llsc_base::{Place, Size};

@@ -1,7 +1,7 @@
 //! Accesses of a thread, drawn by chance and logged with what memory answered.
 ghost use Rattle.std.specs.Prelude.{◌≡◌, ◌<◌, ℕ};
 ghost use Rattle.shared_memory.specs.Seen.{IsSingle};
-ghost use Rattle.memory_trials.specs.Tried.{MayLog};
+ghost use Rattle.memory_trials.specs.inner.Tried.{MayLog};
 
 use super::accesses::may;
 use history::{Access, Deed};

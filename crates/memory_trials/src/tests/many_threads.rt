@@ -2,7 +2,7 @@
 ghost use Rattle.std.specs.Prelude.{◌≡◌, ◌+◌, ◌<◌, ◌≤◌, ◌∷◌, ◌++◌, ℕ, [], IfNone, IfOk, IfSome, MatchOption, nat_lt, vec_len, vec_capacity};
 ghost use Rattle.history.specs.Parts.{entries_of};
 ghost use Rattle.shared_memory.specs.Seen.{IsOneOf, IsSingle, joint};
-ghost use Rattle.memory_trials.specs.Tried.{HasAll, IsFor, MayAllLog, MayLog, numbers_of};
+ghost use Rattle.memory_trials.specs.inner.Tried.{HasAll, IsFor, MayAllLog, MayLog, numbers_of};
 ghost use denote.Param.Send.{IsSync};
 
 use super::logged::log_accesses;

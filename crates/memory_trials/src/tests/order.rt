@@ -8,7 +8,7 @@
 //! are to answer what was logged: the value of each load, and that each store-exclusive which succeeded has its mark, so that
 //! nobody wrote in the row since the load-exclusive. In the end memory is to have the cells that the closed one has.
 ghost use Rattle.std.specs.Prelude.{◌≡◌, length};
-ghost use Rattle.memory_trials.specs.Tried.{IsFor};
+ghost use Rattle.memory_trials.specs.inner.Tried.{IsFor};
 
 use super::accesses::may;
 use super::logged::{own_place, place_of};

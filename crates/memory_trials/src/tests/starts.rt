@@ -3,7 +3,7 @@ ghost use Rattle.std.specs.Prelude.{◌≡◌, ◌<◌, ◌≤◌, ℕ, [], IfOk
 ghost use Rattle.history.specs.Started.{MayAct};
 ghost use Rattle.shared_memory.specs.Seen.{IsSingle};
 ghost use Rattle.version_memory.specs.Memory.{memory_id, memory_origin, pass_home, pass_numbers, pass_seen};
-ghost use Rattle.memory_trials.specs.Tried.{IsFamily, IsPassOf};
+ghost use Rattle.memory_trials.specs.inner.Tried.{IsFamily, IsPassOf};
 ghost use denote.Param.Send.{IsSync};
 
 use super::tried::{USUAL, machine, zero_image};

@@ -1,7 +1,7 @@
 //! A memory that is tried, and how one is made.
 ghost use Rattle.std.specs.Prelude.{◌≡◌, ℕ, [], IfOk, length, nat_lt};
 ghost use Rattle.history.specs.Parts.{entries_of};
-ghost use Rattle.memory_trials.specs.Tried.{IsOf, IsPassOf};
+ghost use Rattle.memory_trials.specs.inner.Tried.{IsOf, IsPassOf};
 
 use hst_memory::{HstMemory, HstPass};
 use llsc_base::{Image, MachineSize};

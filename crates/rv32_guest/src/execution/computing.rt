@@ -1,9 +1,9 @@
 //! Computing with an immediate, and with registers ("Integer Computational Instructions").
 ghost use Rattle.std.specs.Prelude.{◌≡◌, ℕ, List};
 ghost use Rattle.llsc_base.specs.Images.{Program};
-ghost use Rattle.rv32_guest.specs.Classes.{instr_class, by_immediate, by_registers, IsComputing};
+ghost use Rattle.rv32_guest.specs.inner.Classes.{instr_class, by_immediate, by_registers, IsComputing};
 ghost use Rattle.rv32_guest.specs.Effect.{acts};
-ghost use Rattle.rv32_guest.specs.Outcome.{effect_by, Keeps};
+ghost use Rattle.rv32_guest.specs.inner.Outcome.{effect_by, Keeps};
 
 use crate::arithmetic::{
     as_number, difference, is_less_signed, shift_left, shift_right, shift_signed, sum, word_of,

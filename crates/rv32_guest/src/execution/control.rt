@@ -1,10 +1,10 @@
 //! Jumps, branches and guest calls ("Control Transfer Instructions", "Environment Call and Breakpoints").
 ghost use Rattle.std.specs.Prelude.{◌≡◌, ◌%◌, ℕ, List};
 ghost use Rattle.llsc_base.specs.Images.{Program};
-ghost use Rattle.rv32_guest.specs.Classes.{instr_class, branching};
+ghost use Rattle.rv32_guest.specs.inner.Classes.{instr_class, branching};
 ghost use Rattle.rv32_guest.specs.State.{jumps};
 ghost use Rattle.rv32_guest.specs.Effect.{acts, branches, call_in};
-ghost use Rattle.rv32_guest.specs.Outcome.{effect_by, Keeps};
+ghost use Rattle.rv32_guest.specs.inner.Outcome.{effect_by, Keeps};
 
 use crate::arithmetic::{is_less_signed, moved};
 use crate::instructions::RvInstr;

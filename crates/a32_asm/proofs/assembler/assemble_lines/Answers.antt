@@ -1,6 +1,6 @@
 use Rattle.std.proofs.Common.{◌-◌, length, sym, ap, ◌∙◌, inr}
 use Rattle.a32_asm.specs.Assembled.{is_too_long, first_fault}
-use Rattle.a32_asm.specs.Seen.{layout_seen, piece_seen, added_piece}
+use Rattle.a32_asm.specs.inner.Seen.{layout_seen, piece_seen, added_piece}
 use Rattle.a32_asm.proofs.LaidLines.{spot_read}
 use Rattle.a32_asm.proofs.AddedLines.{fault_is, outcome_is, goes_on, unit_done, rest_within}
 use Rattle.a32_asm.proofs.assembler.assemble_lines.Goals as goal

@@ -1,4 +1,4 @@
-use Rattle.a32_asm.specs.Seen.{size_left, layout_seen}
+use Rattle.a32_asm.specs.inner.Seen.{size_left, layout_seen}
 use Rattle.a32_asm.proofs.AddedLines.{GoesOn}
 use Rattle.a32_asm.proofs.assembler.assemble_lines.Given as goal
 

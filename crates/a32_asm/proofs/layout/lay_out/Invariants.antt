@@ -1,4 +1,4 @@
-use Rattle.a32_asm.specs.Seen.{size_left}
+use Rattle.a32_asm.specs.inner.Seen.{size_left}
 use Rattle.a32_asm.proofs.LaidLines.{Holds}
 use Rattle.a32_asm.proofs.layout.lay_out.Given as goal
 

@@ -3,7 +3,7 @@ use Rattle.llsc_base.specs.Bits.{bits_of}
 use Rattle.a32_instr.specs.Table.{Row, half_imm, half_reg}
 use Rattle.a32_instr.specs.declared.instructions.Instr.{Instr}
 use Rattle.llsc_base.specs.declared.decoding.DecodeFault.{DecodeFault}
-use Rattle.a32_decode.specs.Rows.{Decides, rows_of_registers}
+use Rattle.a32_decode.specs.inner.Rows.{Decides, rows_of_registers}
 use Rattle.a32_decode.proofs.Classes.{having, kept, decides_by_kept}
 use Rattle.a32_decode.proofs.Halves.{half_imm_is_no_product, half_reg_is_no_product}
 use Rattle.a32_decode.proofs.data_processing.with_registers.Goals as goal

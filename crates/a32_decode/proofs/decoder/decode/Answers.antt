@@ -3,7 +3,7 @@ use Rattle.llsc_base.specs.Bits.{bits_of}
 use Rattle.a32_instr.specs.Table.{meaning, table}
 use Rattle.a32_instr.specs.declared.instructions.Instr.{Instr}
 use Rattle.llsc_base.specs.declared.decoding.DecodeFault.{DecodeFault}
-use Rattle.a32_decode.specs.Rows.{Decides}
+use Rattle.a32_decode.specs.inner.Rows.{Decides}
 use Rattle.a32_decode.proofs.Classes.{conditional, having, kept, means_by_unconditional, means_in_group}
 use Rattle.a32_decode.proofs.Rows.{decided}
 use Rattle.a32_decode.proofs.decoder.decode.Goals as goal

@@ -1,6 +1,6 @@
 use Rattle.std.proofs.Common.{sym, ◌∙◌}
 use Rattle.a32_forms.specs.Text.{parts}
-use Rattle.a32_forms.specs.Took.{took_of}
+use Rattle.a32_forms.specs.inner.Took.{took_of}
 use Rattle.a32_forms.proofs.Matches.{sign_refuses, sign_takes, form_done, form_left, room_left, sign_within, all_within}
 use Rattle.a32_forms.proofs.forms.fields_of.Goals as goal
 

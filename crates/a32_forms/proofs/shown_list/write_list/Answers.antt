@@ -1,7 +1,8 @@
 use Rattle.std.proofs.Common.{◌≡◌, ◌+◌, ◌++◌, false, length, sym, ap, ◌∙◌, append-nil, length-append, arith, rules}
 use Rattle.a32_instr.specs.Block.{registers_of}
 use Rattle.a32_forms.specs.Names.{register_name}
-use Rattle.a32_forms.specs.Registers.{list_text, separator}
+use Rattle.a32_forms.specs.Registers.{list_text}
+use Rattle.a32_forms.specs.inner.Registers.{separator}
 use Rattle.a32_forms.proofs.ListWritten.{left_text, left_whole, left_none, left_over, Turn, turn_room, turn_whole}
 use Rattle.a32_forms.proofs.shown_list.write_list.Goals as goal
 

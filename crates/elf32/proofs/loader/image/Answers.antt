@@ -1,7 +1,8 @@
 -- What the tests of a file without a fault of its program headers say of its image.
 use Rattle.std.proofs.Common.{length, refl, arith}
 use Rattle.std.specs.Prelude.{All}
-use Rattle.elf32.specs.Image.{IsPlaced, image_of}
+use Rattle.elf32.specs.Image.{image_of}
+use Rattle.elf32.specs.inner.Image.{IsPlaced}
 use Rattle.elf32.proofs.Loadable.{loadable, loadable-placed, loadable-program, loadable-entry}
 use Rattle.elf32.proofs.loader.image.Goals as goal
 

@@ -3,7 +3,7 @@ use Rattle.std.proofs.lemmas.List.{map-append}
 use denote.Param.{param}
 use mir.Syntax.{of_param}
 use denote.Param.Send.{IsSend, IsSync, Quiet-if}
-use Rattle.guest_family.specs.EndedStarters.{HaveEndedWithAll}
+use Rattle.guest_family.specs.inner.EndedStarters.{HaveEndedWithAll}
 use Rattle.guest_family.specs.Kin.{heads_of}
 use Rattle.guest_family.proofs.Gathering.{gathered_first, gathered_more}
 use Rattle.guest_family.proofs.GoingOn.{front_on}

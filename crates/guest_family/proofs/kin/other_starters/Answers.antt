@@ -3,7 +3,7 @@ use Rattle.history.specs.Parts.{entries_of}
 use Rattle.history.specs.Started.{child_of}
 use Rattle.std.specs.List.{range_with_len}
 use Rattle.guest_family.specs.Kin.{IsStarter, spares_of}
-use Rattle.guest_family.specs.Left.{AreLeft}
+use Rattle.guest_family.specs.inner.Left.{AreLeft}
 use Rattle.guest_family.proofs.Left.{one_less_below, zero_alone}
 use Rattle.guest_family.proofs.Pushed.{heads_pushed, starter_made, starters_pushed, next_own}
 use Rattle.guest_family.proofs.kin.other_starters.Goals as goal

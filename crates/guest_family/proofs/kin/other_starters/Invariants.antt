@@ -2,7 +2,7 @@
 use Rattle.std.proofs.Common.{◌≡◌, ◌+◌, ◌*◌, vec_len}
 use Rattle.std.specs.List.{range_with_len}
 use Rattle.guest_family.specs.Kin.{AreStarters, heads_of}
-use Rattle.guest_family.specs.Left.{AreLeft}
+use Rattle.guest_family.specs.inner.Left.{AreLeft}
 use Rattle.guest_family.proofs.kin.other_starters.Given as goal
 
 abbrev pub invariant-loop-t : goal.invariant-loop-t

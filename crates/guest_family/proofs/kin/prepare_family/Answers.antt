@@ -3,7 +3,7 @@ use Rattle.std.specs.List.{range_with_len}
 use Rattle.history.specs.Parts.{entries_of}
 use Rattle.history.specs.Started.{child_of}
 use Rattle.guest_family.specs.Kin.{heads_of, spares_of}
-use Rattle.guest_family.specs.Left.{AreLeft}
+use Rattle.guest_family.specs.inner.Left.{AreLeft}
 use Rattle.guest_family.proofs.Left.{all_left}
 use Rattle.guest_family.proofs.Pushed.{starter_made}
 use Rattle.guest_family.proofs.kin.prepare_family.Goals as goal

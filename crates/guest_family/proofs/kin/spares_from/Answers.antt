@@ -1,7 +1,7 @@
 use Rattle.std.proofs.Common.{◌≡◌, ◌≤◌, ◌+◌, ℕ, ap, subst, ◌∙◌, vec_len, arith, rules}
 use Rattle.history.specs.Parts.{entries_of}
 use Rattle.guest_family.specs.Kin.{IsSpare}
-use Rattle.guest_family.specs.Left.{AreLeft}
+use Rattle.guest_family.specs.inner.Left.{AreLeft}
 use Rattle.guest_family.specs.declared.kin.Spare.{Spare}
 use Rattle.guest_family.proofs.Left.{left_top, left_zero, one_less_above}
 use Rattle.guest_family.proofs.Pushed.{spares_pushed, threads_pushed}

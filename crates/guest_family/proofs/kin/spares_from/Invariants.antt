@@ -2,7 +2,7 @@
 use Rattle.std.proofs.Common.{◌≡◌, ◌+◌, ℕ, vec_len}
 use Rattle.std.specs.List.{range_with_len}
 use Rattle.guest_family.specs.Kin.{AreSpares, spares_of}
-use Rattle.guest_family.specs.Left.{AreLeft}
+use Rattle.guest_family.specs.inner.Left.{AreLeft}
 use Rattle.guest_family.proofs.kin.spares_from.Given as goal
 
 abbrev pub invariant-loop-thread : goal.invariant-loop-thread

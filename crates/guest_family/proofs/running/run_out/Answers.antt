@@ -2,8 +2,8 @@ use Rattle.std.proofs.Common.{◌≤◌, List, ap, subst, sym, ◌∙◌}
 use Rattle.llsc_base.specs.Images.{Program}
 use Rattle.history.specs.Starts.{Started}
 use Rattle.guest_thread.specs.Begun.{stock_of}
-use Rattle.guest_family.specs.Next.{HasNoneLeft, after_answer}
-use Rattle.guest_family.specs.UnderWay.{HasCalled, IsUnderWay}
+use Rattle.guest_family.specs.inner.Next.{HasNoneLeft, after_answer}
+use Rattle.guest_family.specs.inner.UnderWay.{HasCalled, IsUnderWay}
 use Rattle.guest_family.proofs.Answered.{refused_by_stock}
 use Rattle.guest_family.proofs.GoingOn.{HasGone, HasGoneOn, gone_more}
 use Rattle.guest_family.proofs.running.run_out.Goals as goal

@@ -1,6 +1,6 @@
 use Rattle.std.proofs.Common.{◌≢◌, ◌≤◌, ◌%◌, rules, subst, sym, ◌∙◌, arith}
 use Rattle.llsc_base.specs.Images.{Program}
-use Rattle.guest_family.specs.UnderWay.{HasCalled, IsUnderWay}
+use Rattle.guest_family.specs.inner.UnderWay.{HasCalled, IsUnderWay}
 use Rattle.guest_family.proofs.Answered.{refused_by_entry}
 use Rattle.guest_family.proofs.GoingOn.{HasGone, HasGoneOn, gone_more, gone_to_call}
 use Rattle.guest_family.proofs.running.to_start.Goals as goal

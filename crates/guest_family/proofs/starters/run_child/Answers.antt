@@ -2,7 +2,7 @@ use Rattle.std.proofs.Common.{◌≤◌, ℕ, subst, sym}
 use Rattle.llsc_base.specs.Images.{Program}
 use Rattle.history.specs.Starts.{starts_in}
 use Rattle.guest_thread.specs.Begun.{child_start}
-use Rattle.guest_family.specs.UnderWay.{IsEndFrom}
+use Rattle.guest_family.specs.inner.UnderWay.{IsEndFrom}
 use Rattle.guest_family.proofs.StarterParts.{child_has_none}
 use Rattle.guest_family.proofs.starters.run_child.Goals as goal
 use Rattle.a32_step.specs.Machine.{a32}

@@ -1,6 +1,6 @@
 use Rattle.std.proofs.Common.{◌++◌, ◌∷◌, [], ap, subst, sym, ◌∙◌}
 use Rattle.history.specs.Starts.{made_by, starts_in}
-use Rattle.guest_family.specs.UnderWay.{IsUnderWay}
+use Rattle.guest_family.specs.inner.UnderWay.{IsUnderWay}
 use Rattle.guest_thread.specs.declared.pieces.Part.{Part}
 use Rattle.guest_family.proofs.Started.{one_start, started_on}
 use Rattle.guest_family.proofs.starters.started.Goals as goal

@@ -5,12 +5,12 @@ use Rattle.history.specs.Starts.{starts_in}
 use Rattle.history.proofs.Starts.{starts_from-length}
 use Rattle.shared_memory.specs.Seen.{IsFront, IsOneOf}
 use Rattle.guest_thread.specs.Begun.{stock_of}
-use Rattle.guest_thread.specs.Crews.{AreTaken}
+use Rattle.guest_thread.specs.inner.Crews.{AreTaken}
 use Rattle.guest_thread.specs.Start.{thread_start}
-use Rattle.guest_family.specs.EndedStarters.{IsLater}
+use Rattle.guest_family.specs.inner.EndedStarters.{IsLater}
 use Rattle.guest_family.specs.Kin.{spares_of}
-use Rattle.guest_family.specs.Next.{HasNoneLeft}
-use Rattle.guest_family.specs.UnderWay.{HasCalled, HasEnded, IsUnderWay}
+use Rattle.guest_family.specs.inner.Next.{HasNoneLeft}
+use Rattle.guest_family.specs.inner.UnderWay.{HasCalled, HasEnded, IsUnderWay}
 use Rattle.guest_family.specs.declared.kin.Spare.{Spare}
 use Rattle.guest_family.specs.declared.starters.StarterPart.{StarterPart}
 use Rattle.guest_family.proofs.GoingOn.{front_on}

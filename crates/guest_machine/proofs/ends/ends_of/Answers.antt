@@ -1,5 +1,5 @@
 use Rattle.std.proofs.Common.{◌≡◌, ◌<◌, ◌≤◌, IsSome, length, sym, subst, arith}
-use Rattle.guest_machine.specs.Seats.{AreEndsOfSeats, IsEndOfSeat}
+use Rattle.guest_machine.specs.inner.Seats.{AreEndsOfSeats, IsEndOfSeat}
 use Rattle.guest_machine.proofs.Ending.{taken, one_more}
 use Rattle.guest_machine.proofs.ends.ends_of.Goals as goal
 

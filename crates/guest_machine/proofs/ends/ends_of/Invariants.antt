@@ -1,6 +1,6 @@
 -- The last threads' ends, whose seats are no longer there.
 use Rattle.std.proofs.Common.{◌≡◌, ◌≤◌, take, drop, length}
-use Rattle.guest_machine.specs.Seats.{AreEndsOfSeats}
+use Rattle.guest_machine.specs.inner.Seats.{AreEndsOfSeats}
 use Rattle.guest_machine.proofs.ends.ends_of.Given as goal
 
 abbrev pub invariant-loop-seat : goal.invariant-loop-seat

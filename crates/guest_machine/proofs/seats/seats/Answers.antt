@@ -2,7 +2,7 @@ use Rattle.std.proofs.Common.{◌++◌, [], ◌∷◌, None, map, sym, ap, ◌�
 use Rattle.std.specs.List.{range_with_len}
 use Rattle.std.proofs.lemmas.List.{map-append}
 use Rattle.std.proofs.lemmas.List.FromFn.{map-range_with_len_more}
-use Rattle.guest_machine.specs.Seats.{first_seat, seat_in}
+use Rattle.guest_machine.specs.inner.Seats.{first_seat, seat_in}
 use Rattle.guest_machine.specs.declared.seats.Seat.{Seat}
 use Rattle.guest_machine.proofs.seats.seats.Goals as goal
 

@@ -1,7 +1,7 @@
 -- The threads so far.
 use Rattle.std.proofs.Common.{◌≡◌, map}
 use Rattle.std.specs.List.{range_with_len}
-use Rattle.guest_machine.specs.Seats.{first_seat, seat_in}
+use Rattle.guest_machine.specs.inner.Seats.{first_seat, seat_in}
 use Rattle.guest_machine.proofs.seats.seats.Given as goal
 
 abbrev pub invariant-loop-t : goal.invariant-loop-t

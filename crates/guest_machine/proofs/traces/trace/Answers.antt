@@ -1,6 +1,6 @@
 use Rattle.std.proofs.Common.{map, sym, subst}
 use Rattle.history.specs.Accesses.{history_of}
-use Rattle.guest_machine.specs.Seats.{AreEndsOfSeats, HaveTurned, seat_in}
+use Rattle.guest_machine.specs.inner.Seats.{AreEndsOfSeats, HaveTurned, seat_in}
 use Rattle.guest_thread.specs.Ends.{AreEnds}
 use Rattle.guest_machine.proofs.Ending.{are_ends}
 use Rattle.guest_machine.proofs.Seen.{all_stopped}

@@ -3,9 +3,10 @@ use Rattle.history.specs.Started.{MayAct}
 use Rattle.guest_core.specs.Machine.{IsCalling}
 use Rattle.guest_calls.specs.Calls.{most_output}
 use Rattle.guest_calls.specs.Run.{begins}
-use Rattle.guest_thread.specs.Pieces.{IsPiece, part_at, point_of}
-use Rattle.guest_thread.specs.Ports.{RestsBy}
-use Rattle.guest_thread.specs.Sharing.{RefusesAt}
+use Rattle.guest_thread.specs.Pieces.{IsPiece}
+use Rattle.guest_thread.specs.inner.Pieces.{part_at, point_of}
+use Rattle.guest_thread.specs.inner.Ports.{RestsBy}
+use Rattle.guest_thread.specs.inner.Sharing.{RefusesAt}
 use Rattle.guest_thread.specs.ThreadState.{thread_in}
 use Rattle.guest_thread.specs.Under.{HasComeFrom}
 use Rattle.guest_thread.proofs.Answered.{calling_of, gone_by, rested_at}

@@ -3,7 +3,7 @@ use Rattle.history.specs.Started.{MayAct}
 use Rattle.shared_memory.specs.Seen.{IsFront, IsSingle}
 use Rattle.guest_thread.specs.Outcome.{IsEndOn}
 use Rattle.guest_thread.specs.declared.ends.GuestEnd.{GuestEnd}
-use Rattle.guest_thread.specs.Sharing.{RefusesAt}
+use Rattle.guest_thread.specs.inner.Sharing.{RefusesAt}
 use Rattle.guest_thread.specs.ThreadState.{thread_in}
 use Rattle.guest_thread.proofs.FewAccesses.{few_in_history}
 use Rattle.guest_thread.proofs.Finishing.{at_start, end_on, ends_as, shared_from, spends_at}

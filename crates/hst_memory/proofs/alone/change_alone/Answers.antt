@@ -3,7 +3,7 @@ use Rattle.history.specs.declared.entry.Entry.TheVariants.{Write}
 use Rattle.hst_memory.specs.declared.hands.Doing.TheVariants.{AloneWritten}
 use Rattle.hst_memory.specs.declared.hands.Reserve.TheVariants.{Nothing}
 use Rattle.hst_memory.specs.declared.hands.Hand.{Hand}
-use Rattle.hst_memory.specs.Hands.{hand}
+use Rattle.hst_memory.specs.inner.Hands.{hand}
 use Rattle.hst_memory.specs.Kept.{origin_of}
 use Rattle.shared_memory.proofs.Waits.{waits-goes_by, waits-more, waits-not}
 use Rattle.hst_memory.proofs.alone.change_alone.Goals as goal

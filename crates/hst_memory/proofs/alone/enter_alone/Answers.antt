@@ -1,7 +1,7 @@
 use Rattle.std.proofs.Common.{ℕ, [], ap, ◌∙◌, refl}
 use Rattle.hst_memory.specs.declared.hands.Doing.TheVariants.{Alone}
 use Rattle.hst_memory.specs.declared.hands.Hand.{Hand}
-use Rattle.hst_memory.specs.Hands.{hand}
+use Rattle.hst_memory.specs.inner.Hands.{hand}
 use Rattle.hst_memory.specs.Kept.{origin_of}
 use Rattle.shared_memory.proofs.Waits.{waits-goes_by, waits-more, waits-not}
 use Rattle.hst_memory.proofs.alone.enter_alone.Goals as goal

@@ -1,7 +1,7 @@
 use Rattle.std.proofs.Common.{ℕ, ◌+◌, ap, sym, ◌∙◌}
 use Rattle.hst_memory.specs.declared.hands.Doing.TheVariants.{Alone}
 use Rattle.hst_memory.specs.declared.hands.Hand.{Hand}
-use Rattle.hst_memory.specs.Hands.{hand}
+use Rattle.hst_memory.specs.inner.Hands.{hand}
 use Rattle.hst_memory.specs.Kept.{origin_of}
 use Rattle.hst_memory.proofs.Exactly.{exact-lost, exact-won, goes-lost, goes-won}
 use Rattle.shared_memory.proofs.Sequences.{goes-then}

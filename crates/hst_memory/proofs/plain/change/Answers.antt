@@ -2,7 +2,7 @@ use Rattle.std.proofs.Common.{ℕ, false, ap, ◌∙◌, [], ◌∷◌, refl}
 use Rattle.history.specs.declared.entry.Entry.TheVariants.{Write}
 use Rattle.hst_memory.specs.declared.hands.Doing.TheVariants.{Written}
 use Rattle.hst_memory.specs.declared.hands.Hand.{Hand}
-use Rattle.hst_memory.specs.Hands.{hand}
+use Rattle.hst_memory.specs.inner.Hands.{hand}
 use Rattle.hst_memory.specs.Kept.{origin_of}
 use Rattle.hst_memory.proofs.Ready.{cell_word-below}
 use Rattle.shared_memory.proofs.Waits.{waits-goes_by, waits-more, waits-not}

@@ -1,5 +1,5 @@
 use Rattle.std.proofs.Common.{◌≡◌}
-use Rattle.hst_memory.specs.Passes.{IsReady}
+use Rattle.hst_memory.specs.inner.Passes.{IsReady}
 use Rattle.shared_memory.proofs.Waits.{Waits}
 use Rattle.hst_memory.proofs.plain.enter_shared.Given as goal
 

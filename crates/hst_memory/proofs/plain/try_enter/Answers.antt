@@ -2,7 +2,7 @@ use Rattle.std.proofs.Common.{ℕ, [], ap, ◌∙◌}
 use Rattle.std.proofs.lemmas.Bool.{OnFalse_at, OnFalse_from, OnTrue_at, OnTrue_from}
 use Rattle.hst_memory.specs.declared.hands.Doing.TheVariants.{Inside}
 use Rattle.hst_memory.specs.declared.hands.Hand.{Hand}
-use Rattle.hst_memory.specs.Hands.{hand}
+use Rattle.hst_memory.specs.inner.Hands.{hand}
 use Rattle.hst_memory.specs.Kept.{origin_of}
 use Rattle.shared_memory.proofs.Sequences.{goes-then_by}
 use Rattle.hst_memory.proofs.Ready.{section-below}

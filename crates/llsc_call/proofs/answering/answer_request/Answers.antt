@@ -1,6 +1,6 @@
 use Rattle.llsc_words.specs.Request.{asked}
 use Rattle.llsc_host.proofs.Kept.{reads_same}
-use Rattle.llsc_call.specs.Files.{files_by}
+use Rattle.llsc_call.specs.inner.Files.{files_by}
 use Rattle.llsc_call.proofs.Said.{comes_answered, comes_barred, comes_unread}
 use Rattle.llsc_call.proofs.answering.answer_request.Goals as goal
 

@@ -1,7 +1,7 @@
 use Rattle.std.proofs.Common.{◌≡◌, ◌∙◌, ap, sym, subst, map, option_map, string_bytes, None, Some}
 use Rattle.llsc_words.specs.Request.{asked, request_of}
 use Rattle.llsc_host.proofs.Kept.{reads_same}
-use Rattle.llsc_call.specs.Comes.{Comes, refused}
+use Rattle.llsc_call.specs.inner.Comes.{Comes, refused}
 use Rattle.llsc_call.proofs.answering.answer_words.Goals as goal
 
 pub returns-in-None-clause-comes : goal.returns-in-None-clause-comes

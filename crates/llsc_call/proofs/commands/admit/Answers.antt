@@ -3,7 +3,7 @@ use Rattle.std.specs.Option.{option_and_then, option_map}
 use Rattle.llsc_words.specs.Request.{asked, machine_by}
 use Rattle.llsc_words.specs.declared.requests.MachineNumbers.{MachineNumbers}
 use Rattle.llsc_files.specs.Refusals.{IsRefusal, size_refusal}
-use Rattle.llsc_call.specs.Files.{barred}
+use Rattle.llsc_call.specs.inner.Files.{barred}
 use Rattle.llsc_call.proofs.commands.admit.Goals as goal
 
 -- what stands against the machine of these numbers, if there are any

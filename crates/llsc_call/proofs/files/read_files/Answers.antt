@@ -1,6 +1,6 @@
 use Rattle.std.proofs.Common.{Ok, Err, subst}
 use Rattle.llsc_words.specs.Request.{asked}
-use Rattle.llsc_call.specs.Files.{ReadWanted}
+use Rattle.llsc_call.specs.inner.Files.{ReadWanted}
 use Rattle.llsc_call.proofs.Had.{all_had, first_unread, second_unread, unread_passed}
 use Rattle.llsc_call.proofs.files.read_files.Goals as goal
 

@@ -1,7 +1,7 @@
 use Rattle.std.proofs.Common.{◌≡◌, ◌≤◌, ◌+◌, [], All, length}
 use Rattle.llsc_base.specs.Sizes.{Numbers}
 use Rattle.run_record.specs.Limits.{IsAccess}
-use Rattle.run_checker.specs.Positions.{AreBrought, MayGoOn}
+use Rattle.run_checker.specs.inner.Positions.{AreBrought, MayGoOn}
 use Rattle.run_checker.proofs.Judging.{IsUnder}
 use Rattle.run_checker.proofs.records.verdict_of.Given as goal
 

@@ -5,8 +5,8 @@ use Rattle.std.specs.Int.{is_power_of_two}
 use Rattle.std.proofs.lemmas.Option.{slice_get_within}
 use Rattle.shared_memory.proofs.FirstWords.{some-class}
 use Rattle.version_memory.specs.Memory.{pass_seen}
-use Rattle.run_merge.specs.Filling.{AreSmall, IsStack}
-use Rattle.run_merge.specs.Tables.{is_read_at}
+use Rattle.run_merge.specs.inner.Filling.{AreSmall, IsStack}
+use Rattle.run_merge.specs.inner.Tables.{is_read_at}
 use Rattle.run_merge.specs.declared.logs.Log.{Log}
 use Rattle.run_merge.specs.declared.logs.Stamped.{Stamped}
 use Rattle.run_merge.specs.declared.merging.Merging.{Merging}

@@ -3,7 +3,7 @@ use Rattle.std.proofs.lemmas.List.{get_or_default}
 use Rattle.std.proofs.lemmas.List.Sums.{count_by-le-length}
 use Rattle.llsc_base.specs.declared.access.Size.TheVariants.{B1}
 use Rattle.history.specs.declared.entry.Deed.TheVariants as deed
-use Rattle.run_merge.specs.Tables.{is_read_at, spot}
+use Rattle.run_merge.specs.inner.Tables.{is_read_at, spot}
 use Rattle.run_merge.specs.declared.logs.Stamped.{Stamped}
 use Rattle.run_merge.proofs.filling.counted.Goals as goal
 

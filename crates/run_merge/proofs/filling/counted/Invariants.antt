@@ -1,6 +1,6 @@
 use Rattle.std.proofs.Common.{◌≡◌, ℕ, ◌+◌, length, slice_index, take}
 use Rattle.std.specs.List.{count_by}
-use Rattle.run_merge.specs.Tables.{is_read_at}
+use Rattle.run_merge.specs.inner.Tables.{is_read_at}
 use Rattle.run_merge.proofs.filling.counted.Given as goal
 
 abbrev pub invariant-loop-i : goal.invariant-loop-i

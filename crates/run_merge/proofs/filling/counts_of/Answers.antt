@@ -2,7 +2,7 @@ use Rattle.std.proofs.Common.{◌≡◌, ◌∙◌, ◌<◌, ◌+◌, ℕ, Some,
 use Rattle.std.specs.List.{count_by}
 use Rattle.std.proofs.lemmas.Option.{slice_get_read}
 use Rattle.std.proofs.lemmas.List.Sums.{count_by-le-length, sum_by_more}
-use Rattle.run_merge.specs.Tables.{is_read_at}
+use Rattle.run_merge.specs.inner.Tables.{is_read_at}
 use Rattle.run_merge.specs.declared.logs.Log.{Log}
 use Rattle.run_merge.proofs.filling.counts_of.Goals as goal
 

@@ -1,6 +1,6 @@
 use Rattle.std.proofs.Common.{◌≡◌, ◌∙◌, ◌<◌, ◌+◌, ℕ, List, length, get_or, slice_index, set, sym, ap, inl, inr, arith, get_or-set_same, get_or-set_other, length-set}
 use Rattle.std.proofs.lemmas.Bool.{cases_eq}
-use Rattle.run_merge.specs.Filling.{IsStack}
+use Rattle.run_merge.specs.inner.Filling.{IsStack}
 use Rattle.run_merge.proofs.filling.stacked.Goals as goal
 
 -- one class more

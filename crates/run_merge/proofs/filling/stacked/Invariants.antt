@@ -1,5 +1,5 @@
 use Rattle.std.proofs.Common.{◌≡◌, ℕ, ◌≤◌, ◌*◌, length, slice_index}
-use Rattle.run_merge.specs.Filling.{IsStack, most_width}
+use Rattle.run_merge.specs.inner.Filling.{IsStack, most_width}
 use Rattle.run_merge.proofs.filling.stacked.Given as goal
 
 abbrev pub invariant-loop-c : goal.invariant-loop-c

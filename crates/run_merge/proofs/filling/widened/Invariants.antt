@@ -1,5 +1,5 @@
 use Rattle.std.proofs.Common.{◌≡◌, ℕ, ◌≤◌, length, slice_index}
-use Rattle.run_merge.specs.Filling.{AreWide, most_width}
+use Rattle.run_merge.specs.inner.Filling.{AreWide, most_width}
 use Rattle.run_merge.proofs.filling.widened.Given as goal
 
 abbrev pub invariant-loop-i : goal.invariant-loop-i

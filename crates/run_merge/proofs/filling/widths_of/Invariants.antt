@@ -1,5 +1,5 @@
 use Rattle.std.proofs.Common.{◌≡◌, ℕ, ◌≤◌, ◌<◌, Some, length, slice_get, slice_index}
-use Rattle.run_merge.specs.Filling.{AreWide, most_width}
+use Rattle.run_merge.specs.inner.Filling.{AreWide, most_width}
 use Rattle.run_merge.specs.declared.logs.Log.{Log}
 use Rattle.run_merge.proofs.filling.widths_of.Given as goal
 

@@ -2,7 +2,7 @@ use Rattle.std.proofs.Common.{◌≡◌, ◌∙◌, ◌≤◌, ◌<◌, ℕ, Opt
 use Rattle.history.specs.Parts.{accesses_of}
 use Rattle.version_memory.specs.Memory.{pass_seen}
 use Rattle.run_record.specs.Limits.{most_accesses}
-use Rattle.run_merge.specs.Merging.{AreLogs}
+use Rattle.run_merge.specs.inner.Merging.{AreLogs}
 use Rattle.run_merge.specs.declared.logs.Log.{Log}
 use Rattle.run_merge.proofs.Filled.{sum_counts, whole_logs}
 use Rattle.run_merge.proofs.merges.total_of.Goals as goal

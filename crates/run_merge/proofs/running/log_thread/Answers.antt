@@ -5,12 +5,12 @@ use Rattle.version_memory.specs.Memory.{memory_id, memory_origin, pass_numbers, 
 use Rattle.shared_memory.specs.Origin.{IsLegalFrom}
 use Rattle.shared_memory.specs.Seen.{IsSingle}
 use Rattle.guest_thread.specs.Outcome.{IsEndOn}
-use Rattle.guest_thread.specs.Sharing.{RefusesAt}
+use Rattle.guest_thread.specs.inner.Sharing.{RefusesAt}
 use Rattle.guest_thread.specs.ThreadState.{thread_in}
 use Rattle.guest_thread.specs.declared.ends.GuestEnd.{GuestEnd}
 use Rattle.guest_thread.proofs.FewAccesses.{few_in_history}
 use Rattle.guest_thread.proofs.Finishing.{at_start, end_on, ends_as, spends_at}
-use Rattle.run_merge.specs.Logging.{IsLogged, LoggingState}
+use Rattle.run_merge.specs.inner.Logging.{IsLogged, LoggingState}
 use Rattle.run_merge.specs.Logs.{IsLogOf}
 use Rattle.run_merge.specs.declared.logs.Stamped.{Stamped}
 use Rattle.run_merge.proofs.AllLogged.{legal_none}

@@ -1,6 +1,6 @@
 use Rattle.std.proofs.Common.{sym}
 use Rattle.run_record.specs.Reading.{accesses_from}
-use Rattle.run_record.specs.Seen.{fault_or_memory}
+use Rattle.run_record.specs.inner.Seen.{fault_or_memory}
 use Rattle.run_record.proofs.LineLoops.{fault_here, fault_later, fault_left, fault_none}
 use Rattle.run_record.proofs.reading.fault_of_lines.Goals as goal
 

@@ -1,6 +1,6 @@
 use Rattle.std.proofs.Common.{◌≡◌}
 use Rattle.shared_memory.proofs.Waits.{Waits}
-use Rattle.version_memory.specs.Passes.{IsReady}
+use Rattle.version_memory.specs.inner.Passes.{IsReady}
 use Rattle.version_memory.proofs.exclusive.watch_within.Given as goal
 
 abbrev pub invariant-loop : goal.invariant-loop

@@ -1,6 +1,6 @@
 use Rattle.version_rule.proofs.PlainSteps.{looks-tag}
 use Rattle.version_rule.specs.Kept.{origin_of}
-use Rattle.shared_memory.specs.Told.{ask}
+use Rattle.shared_memory.specs.inner.Told.{ask}
 use Rattle.version_rule.specs.Told.{HasFoundTag}
 use Rattle.version_memory.proofs.Ready.{ready-goes, tag_word-below}
 use Rattle.version_memory.proofs.plain.look_at_tag.Goals as goal

@@ -2,7 +2,7 @@ use Rattle.std.proofs.Common.{◌≡◌, ℕ, ◌/◌, ◌*◌, ◌<◌, [], ap,
 use Rattle.version_rule.specs.declared.hands.Hand.{Hand}
 use Rattle.version_rule.specs.Kept.{origin_of}
 use Rattle.shared_memory.proofs.Sequences.{goes-then_by}
-use Rattle.version_memory.specs.Stored.{HasStored}
+use Rattle.version_memory.specs.inner.Stored.{HasStored}
 use Rattle.version_memory.proofs.Contended.{contended-moved, contended-odd}
 use Rattle.version_memory.proofs.Ready.{ready-goes}
 use Rattle.version_memory.proofs.Whole.{stored}

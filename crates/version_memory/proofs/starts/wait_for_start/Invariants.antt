@@ -1,6 +1,6 @@
 use Rattle.std.proofs.Common.{◌≡◌, ◌<◌}
 use Rattle.shared_memory.proofs.Waits.{Waits}
-use Rattle.version_memory.specs.Passes.{IsAwaiting}
+use Rattle.version_memory.specs.inner.Passes.{IsAwaiting}
 use Rattle.version_memory.proofs.starts.wait_for_start.Given as goal
 
 abbrev pub invariant-loop : goal.invariant-loop

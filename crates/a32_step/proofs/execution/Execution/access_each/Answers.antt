@@ -7,8 +7,8 @@ use Rattle.a32_instr.specs.Block.{block_at, count_of}
 use Rattle.llsc_base.specs.declared.outside.Ask.{Ask}
 use Rattle.a32_compute.specs.Lists.{AreLeft}
 use Rattle.a32_compute.proofs.Lists.{left_end, left_listed, left_unlisted}
-use Rattle.a32_step.specs.Acting.{IsGiven, begins, none_made, one_more}
-use Rattle.a32_step.specs.ExecutionState.{ExecutionState, Awaiting}
+use Rattle.a32_step.specs.inner.Acting.{IsGiven, begins, none_made, one_more}
+use Rattle.a32_step.specs.inner.ExecutionState.{ExecutionState, Awaiting}
 use Rattle.guest_core.specs.Ports.{IsAskIn}
 use Rattle.a32_step.proofs.BlockPassages.{asked, may, next_at}
 use Rattle.a32_step.proofs.execution.Execution.access_each.Goals as goal

@@ -3,7 +3,7 @@ use Rattle.std.proofs.Common.{◌≡◌, ◌+◌, ◌*◌, ◌≤◌, ◌%◌, �
 use Rattle.a32_instr.specs.State.{State}
 use Rattle.a32_instr.specs.Block.{block_at}
 use Rattle.a32_compute.specs.Lists.{AreLeft}
-use Rattle.a32_step.specs.Acting.{IsGiven}
+use Rattle.a32_step.specs.inner.Acting.{IsGiven}
 use Rattle.a32_step.proofs.execution.Execution.access_each.Given as goal
 
 abbrev pub invariant-loop-r : goal.invariant-loop-r

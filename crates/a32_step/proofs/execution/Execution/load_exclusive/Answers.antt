@@ -2,7 +2,7 @@ use Rattle.std.proofs.Common.{refl, ap, ◌∙◌}
 use Rattle.a32_instr.specs.State.{advanced}
 use Rattle.llsc_base.specs.Effects.{loaded_part}
 use Rattle.a32_instr.specs.Exclusive.{load_exclusive, with_loaded}
-use Rattle.a32_step.specs.ExecutionState.{ExecutionState}
+use Rattle.a32_step.specs.inner.ExecutionState.{ExecutionState}
 use Rattle.a32_step.proofs.Acting.{acted_done, acted_held}
 use Rattle.a32_step.proofs.Places.{load_exclusive_asks}
 use Rattle.a32_step.proofs.execution.Execution.load_exclusive.Goals as goal

@@ -1,5 +1,5 @@
 use Rattle.std.proofs.Common.{rules, None, subst}
-use Rattle.a32_step.specs.Acting.{IsReplied, had_before, replied, unmade, barred}
+use Rattle.a32_step.specs.inner.Acting.{IsReplied, had_before, replied, unmade, barred}
 use Rattle.a32_step.proofs.execution.Execution.reply_to.Goals as goal
 
 pub returns-in-Some-clause-replied : goal.returns-in-Some-clause-replied

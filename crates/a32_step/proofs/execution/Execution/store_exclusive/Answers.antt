@@ -2,7 +2,7 @@ use Rattle.std.proofs.Common.{refl, ap, ◌∙◌}
 use Rattle.a32_instr.specs.State.{advanced, with_register}
 use Rattle.llsc_base.specs.Words.{low32}
 use Rattle.a32_instr.specs.Exclusive.{store_exclusive}
-use Rattle.a32_step.specs.ExecutionState.{ExecutionState}
+use Rattle.a32_step.specs.inner.ExecutionState.{ExecutionState}
 use Rattle.a32_step.proofs.Acting.{acted_done, acted_held}
 use Rattle.a32_step.proofs.Places.{store_exclusive_asks}
 use Rattle.a32_step.proofs.execution.Execution.store_exclusive.Goals as goal

@@ -1,5 +1,5 @@
 -- The turns so far have led here, and each leads nearer to the end.
-use Rattle.guest_machine.specs.Seats.{AreUnderWay, left_of}
+use Rattle.guest_machine.specs.inner.Seats.{AreUnderWay, left_of}
 use Rattle.guest_machine.proofs.turns.Turns.run.Given as goal
 
 abbrev pub invariant-loop-self : goal.invariant-loop-self

@@ -2,7 +2,7 @@ use Rattle.std.proofs.Common.{◌≡◌, ◌<◌, Some, length, map, refl, sym, 
 use Rattle.std.proofs.lemmas.List.{map-set}
 use Rattle.run_record.specs.Limits.{most_accesses}
 use Rattle.guest_thread.specs.ThreadState.{thread_in}
-use Rattle.guest_machine.specs.Seats.{HaveTurned, seat_in}
+use Rattle.guest_machine.specs.inner.Seats.{HaveTurned, seat_in}
 use Rattle.guest_machine.specs.Turns.{drawn}
 use Rattle.guest_machine.specs.declared.seats.Seat.{Seat}
 use Rattle.guest_machine.proofs.Seen.{read_in}

@@ -4,7 +4,8 @@ use Rattle.llsc_base.specs.Images.{Program}
 use Rattle.guest_core.specs.declared.phases.Passage.TheVariants.{Complete}
 use Rattle.guest_core.specs.Machine.{MachineOf, IsReady}
 use Rattle.guest_core.specs.Passages.{IsCarriedOnOf}
-use Rattle.guest_thread.specs.Ports.{IsAtRest, IsRunning}
+use Rattle.guest_thread.specs.Ports.{IsRunning}
+use Rattle.guest_thread.specs.inner.Ports.{IsAtRest}
 use Rattle.guest_thread.specs.Progress.{progress_of}
 use Rattle.guest_thread.specs.ThreadState.{ThreadOf, thread_in}
 use Rattle.guest_thread.proofs.Carried.{after_one, after_part, at_rest_on, leads_counted, part_ends, replies_counted, running_at}

@@ -1,6 +1,7 @@
 -- Between two instructions, with all accesses behind it.
 use Rattle.std.proofs.Common.{◌≡◌, ◌≤◌, ◌-◌, Bool, length}
-use Rattle.guest_thread.specs.Ports.{IsAtRest, IsRunning}
+use Rattle.guest_thread.specs.Ports.{IsRunning}
+use Rattle.guest_thread.specs.inner.Ports.{IsAtRest}
 use Rattle.guest_thread.specs.Progress.{progress_of}
 use Rattle.guest_thread.specs.ThreadState.{thread_in}
 use Rattle.guest_thread.proofs.Ways.{Ways}

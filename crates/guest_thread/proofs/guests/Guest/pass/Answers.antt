@@ -6,8 +6,10 @@ use Rattle.guest_core.specs.Ports.{IsRefused, goes, refused, stays}
 use Rattle.guest_calls.specs.Run.{Pair, PointOf}
 use Rattle.guest_thread.specs.declared.guests.Event.{Event}
 use Rattle.guest_thread.specs.declared.guests.Event.TheVariants as event
-use Rattle.guest_thread.specs.ThreadState.{IsPendingAfterEvent, ThreadOf, thread_in}
-use Rattle.guest_thread.specs.Under.{ComesToEvent, HasComeFrom}
+use Rattle.guest_thread.specs.ThreadState.{ThreadOf, thread_in}
+use Rattle.guest_thread.specs.inner.ThreadState.{IsPendingAfterEvent}
+use Rattle.guest_thread.specs.Under.{HasComeFrom}
+use Rattle.guest_thread.specs.inner.Under.{ComesToEvent}
 use Rattle.guest_thread.proofs.Ways.{further}
 use Rattle.guest_thread.proofs.Refusing.{ended_on}
 use Rattle.guest_thread.proofs.guests.Guest.pass.Goals as goal

@@ -2,7 +2,8 @@
 use Rattle.std.proofs.Common.{◌∙◌, ◌++◌, [], length, refl, sym, subst, append-nil}
 use Rattle.llsc_base.specs.Images.{Program}
 use Rattle.guest_core.specs.Ports.{Leads}
-use Rattle.guest_thread.specs.Ports.{IsRunning, RestsBy}
+use Rattle.guest_thread.specs.Ports.{IsRunning}
+use Rattle.guest_thread.specs.inner.Ports.{RestsBy}
 use Rattle.guest_thread.specs.Under.{HasComeFrom}
 use Rattle.guest_thread.specs.ThreadState.{thread_in}
 use Rattle.guest_thread.proofs.Ways.{no_way, Ways, way_on}

@@ -1,7 +1,7 @@
 use Rattle.std.proofs.Common.{false, subst}
 use Rattle.guest_calls.specs.Run.{first_point}
 use Rattle.guest_thread.specs.ThreadState.{thread_in}
-use Rattle.guest_thread.specs.Under.{ComesToEvent}
+use Rattle.guest_thread.specs.inner.Under.{ComesToEvent}
 use Rattle.guest_thread.proofs.guests.Guest.turn.Goals as goal
 
 pub returns-clause-comes : goal.returns-clause-comes

@@ -7,7 +7,7 @@ use Rattle.history.specs.declared.entry.Entry.{Entry}
 use Rattle.history.specs.Operation.{clear, entries_of_operation, fail, load, load_missed, load_watched, store}
 use Rattle.shared_memory.specs.Origin.{Origin}
 use Rattle.shared_memory.specs.Seen.{Sees}
-use Rattle.guest_thread.specs.Sharing.{IsServed, RefusesAt, SharingState}
+use Rattle.guest_thread.specs.inner.Sharing.{IsServed, RefusesAt, SharingState}
 use Rattle.guest_thread.specs.declared.counts.Counts.{Counts}
 use Rattle.guest_thread.proofs.Shared.{is_spent, served_by}
 use Rattle.guest_thread.proofs.sharing.SharingPort.reply.Goals as goal

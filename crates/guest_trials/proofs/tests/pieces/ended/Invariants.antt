@@ -1,6 +1,6 @@
 -- The part may go on, and has gone up to so many steps for each piece at most.
 use Rattle.std.proofs.Common.{◌≡◌, ◌≤◌, ◌-◌, ◌*◌, length}
-use Rattle.guest_trials.specs.Parts.{MayGoOn}
+use Rattle.guest_trials.specs.inner.Parts.{MayGoOn}
 use Rattle.guest_trials.proofs.tests.pieces.ended.Given as goal
 
 abbrev pub invariant-loop-pieces : goal.invariant-loop-pieces

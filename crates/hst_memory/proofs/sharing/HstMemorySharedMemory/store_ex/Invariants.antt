@@ -1,5 +1,5 @@
 use Rattle.hst_memory.specs.Kept.{origin_of}
-use Rattle.shared_memory.specs.Told.{ask}
+use Rattle.shared_memory.specs.inner.Told.{ask}
 use Rattle.hst_memory.proofs.sharing.HstMemorySharedMemory.store_ex.Given as goal
 
 abbrev pub ghosts-store_ex_cell : goal.ghosts-store_ex_cell

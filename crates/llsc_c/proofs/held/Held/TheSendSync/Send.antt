@@ -13,7 +13,7 @@ use Rattle.std.proofs.Crossing.{frees}
 use Rattle.memory_handle.specs.declared.handles.Handle.{Handle}
 use Rattle.memory_handle.specs.contracts.handles.Handle as handle
 use Rattle.memory_handle.proofs.handles.Handle.TheSendSync.{the_send}
-use Rattle.llsc_c.specs.Holds.{heap, holds}
+use Rattle.llsc_c.specs.inner.Holds.{heap, holds}
 use Rattle.llsc_c.specs.contracts.held.Held.{the_row, the_type}
 
 quiet : {D X : Type 0} (to : D → X) (e : Exit X) → Quiet e → Quiet (hidden (under to e))

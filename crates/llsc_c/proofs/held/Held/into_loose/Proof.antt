@@ -30,7 +30,7 @@ use Rattle.std.specs.contracts.impls.GlobalAllocator.TheImpl.{ghosts}
 use Rattle.loose_box.proofs.Values.{both, loose_good, loose_in}
 use Rattle.memory_handle.specs.declared.handles.Handle.{Handle}
 use Rattle.memory_handle.specs.contracts.handles.Handle as handle
-use Rattle.llsc_c.specs.Holds.{holds}
+use Rattle.llsc_c.specs.inner.Holds.{holds}
 use Rattle.llsc_c.specs.contracts.held.Held as held
 use Rattle.llsc_c.proofs.Values.{alone, held_out, some_of}
 use Rattle.llsc_c.specs.contracts.held.Held.into_loose.{ended, clauses}

@@ -1,7 +1,7 @@
 use Rattle.std.proofs.Common.{◌≡◌, inl, inr, Ok, Err, Some, None, refl, ap, ◌∙◌}
 use Rattle.llsc_files.specs.Refusals.{too_long}
 use Rattle.llsc_call.specs.Check.{most_record, record_fault_text, AnswersCheck}
-use Rattle.llsc_call.specs.Outcome.{refused_by}
+use Rattle.llsc_call.specs.inner.Outcome.{refused_by}
 use Rattle.llsc_call.proofs.CheckAnswers.{check_read}
 use Rattle.llsc_call.proofs.Outcomes.{gives_as, gives_refused}
 use Rattle.llsc_call.proofs.commands.check.outcome.Goals as goal

@@ -1,7 +1,7 @@
 use Rattle.std.proofs.Common.{inr, subst, sym}
 use Rattle.version_memory.specs.Memory.{story_history}
 use Rattle.llsc_words.specs.declared.sets.SetName.TheVariants.{A32}
-use Rattle.llsc_call.specs.Outcome.{GivesBy}
+use Rattle.llsc_call.specs.inner.Outcome.{GivesBy}
 use Rattle.llsc_call.specs.Run.{ReportsRun}
 use Rattle.llsc_call.proofs.RunAnswers.{reported}
 use Rattle.llsc_call.proofs.Statuses.{all_done}

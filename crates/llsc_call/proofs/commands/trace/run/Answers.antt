@@ -1,5 +1,5 @@
 use Rattle.std.proofs.Common.{inl, inr, refl, codes, Some, ap, ◌∙◌}
-use Rattle.llsc_call.specs.Outcome.{refused_by}
+use Rattle.llsc_call.specs.inner.Outcome.{refused_by}
 use Rattle.llsc_call.specs.Trace.{Traces}
 use Rattle.llsc_call.proofs.Outcomes.{gives_refused}
 use Rattle.llsc_call.proofs.Statuses.{all_done}

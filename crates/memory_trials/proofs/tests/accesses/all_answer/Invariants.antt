@@ -1,4 +1,4 @@
-use Rattle.memory_trials.specs.Tried.{IsOf, IsPassOf}
+use Rattle.memory_trials.specs.inner.Tried.{IsOf, IsPassOf}
 use Rattle.memory_trials.proofs.tests.accesses.all_answer.Given as goal
 
 abbrev pub invariant-loop-case : goal.invariant-loop-case

@@ -1,4 +1,4 @@
-use Rattle.memory_trials.specs.Tried.{IsOf, IsPassOf}
+use Rattle.memory_trials.specs.inner.Tried.{IsOf, IsPassOf}
 use Rattle.memory_trials.proofs.tests.crossed.one_sees_the_other.Given as goal
 
 abbrev pub invariant-loop-k : goal.invariant-loop-k

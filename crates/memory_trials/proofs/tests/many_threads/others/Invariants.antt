@@ -1,7 +1,7 @@
 -- The passes of the highest numbers are split off; the pass has those below.
 use Rattle.std.proofs.Common.{◌≡◌, ◌+◌, ◌<◌, ℕ, nat_lt, vec_len}
 use Rattle.shared_memory.specs.Seen.{IsOneOf, joint}
-use Rattle.memory_trials.specs.Tried.{MayAllLog, numbers_of}
+use Rattle.memory_trials.specs.inner.Tried.{MayAllLog, numbers_of}
 use Rattle.memory_trials.proofs.tests.many_threads.others.Given as goal
 
 abbrev pub invariant-loop-count : goal.invariant-loop-count

@@ -1,4 +1,4 @@
-use Rattle.memory_trials.specs.Tried.{IsFor}
+use Rattle.memory_trials.specs.inner.Tried.{IsFor}
 use Rattle.memory_trials.proofs.tests.order.are_laid.Given as goal
 
 abbrev pub invariant-loop : goal.invariant-loop

@@ -1,7 +1,7 @@
 use Rattle.std.proofs.Common.{◌≢◌, ◌<◌, length, below_more, sym, subst, ◌∙◌, length-set, arith}
 use Rattle.std.proofs.lemmas.List.{get_or-set_other}
 use Rattle.guest_thread.specs.Ended.{HasEnded}
-use Rattle.run_checker.specs.Positions.{IsBrought}
+use Rattle.run_checker.specs.inner.Positions.{IsBrought}
 use Rattle.run_checker.proofs.checker.Checker.asks.Goals as goal
 
 pub loop-guest-preserved : goal.loop-guest-preserved

@@ -2,7 +2,7 @@ use Rattle.std.proofs.Common.{◌≡◌, ℕ, ◌≤◌, List, length, get_or}
 use Rattle.llsc_base.specs.Sizes.{Numbers}
 use Rattle.history.specs.declared.entry.Access.{Access}
 use Rattle.guest_thread.specs.ThreadState.{ThreadStateOf}
-use Rattle.run_checker.specs.Positions.{AreBrought, HaveEnded}
+use Rattle.run_checker.specs.inner.Positions.{AreBrought, HaveEnded}
 use Rattle.run_checker.proofs.checker.Checker.asks.Given as goal
 
 -- the threads from here on are as they were, and those before have stopped

@@ -3,8 +3,8 @@ use Rattle.history.specs.Operation.{clear, entries_of_operation}
 use Rattle.history.specs.declared.entry.Entry.TheVariants as entry
 use Rattle.version_memory.specs.Memory.{memory_id, memory_origin, pass_seen}
 use Rattle.llsc_base.specs.declared.outside.Ask.TheVariants as ask
-use Rattle.guest_thread.specs.Sharing.{IsServed}
-use Rattle.run_merge.specs.Logging.{IsLogged, LoggingState}
+use Rattle.guest_thread.specs.inner.Sharing.{IsServed}
+use Rattle.run_merge.specs.inner.Logging.{IsLogged, LoggingState}
 use Rattle.run_merge.specs.Logs.{access_of}
 use Rattle.run_merge.proofs.Grown.{grown_by_plain, logged_on, made}
 use Rattle.run_merge.proofs.Served.{clear_served, part}

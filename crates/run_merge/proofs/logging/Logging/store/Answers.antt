@@ -3,9 +3,9 @@ use Rattle.history.specs.Operation.{entries_of_operation, store}
 use Rattle.history.specs.declared.entry.Entry.TheVariants as entry
 use Rattle.version_memory.specs.Memory.{memory_id, memory_origin, pass_seen}
 use Rattle.llsc_base.specs.declared.outside.Ask.TheVariants as ask
-use Rattle.guest_thread.specs.Sharing.{IsServed}
+use Rattle.guest_thread.specs.inner.Sharing.{IsServed}
 use Rattle.guest_thread.proofs.Shared.{is_spent}
-use Rattle.run_merge.specs.Logging.{IsLogged, LoggingState}
+use Rattle.run_merge.specs.inner.Logging.{IsLogged, LoggingState}
 use Rattle.run_merge.specs.Logs.{access_of}
 use Rattle.run_merge.proofs.Grown.{grown_by_none, grown_by_stamped, logged_on, made}
 use Rattle.run_merge.proofs.Served.{one_write, part, store_served}

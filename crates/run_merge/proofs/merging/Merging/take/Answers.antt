@@ -4,7 +4,7 @@ use Rattle.llsc_base.specs.declared.access.Size.TheVariants.{B1}
 use Rattle.history.specs.Accesses.{history_of}
 use Rattle.history.specs.declared.entry.Deed.TheVariants as deed
 use Rattle.version_memory.specs.Memory.{pass_seen}
-use Rattle.run_merge.specs.Merging.{tables_of}
+use Rattle.run_merge.specs.inner.Merging.{tables_of}
 use Rattle.run_merge.specs.Taking.{row_at}
 use Rattle.run_merge.specs.declared.logs.Log.{Log}
 use Rattle.run_merge.specs.declared.logs.Stamped.{Stamped}

@@ -1,7 +1,7 @@
 use Rattle.std.proofs.Common.{◌-◌, length}
 use Rattle.history.specs.Parts.{accesses_of}
 use Rattle.version_memory.specs.Memory.{pass_seen}
-use Rattle.run_merge.specs.Merging.{IsMerging}
+use Rattle.run_merge.specs.inner.Merging.{IsMerging}
 use Rattle.run_merge.proofs.merging.Merging.take_all.Given as goal
 
 abbrev pub invariant-loop : goal.invariant-loop

@@ -1,6 +1,6 @@
 use Rattle.std.proofs.Common.{◌<◌, length}
 use Rattle.version_memory.specs.Memory.{pass_seen}
-use Rattle.run_merge.specs.Merging.{IsMerging}
+use Rattle.run_merge.specs.inner.Merging.{IsMerging}
 use Rattle.run_merge.proofs.merging.Merging.take_some.Given as goal
 
 abbrev pub invariant-loop : goal.invariant-loop

@@ -1,7 +1,7 @@
 use Rattle.std.proofs.Common.{◌≡◌, ℕ, ◌<◌, ◌≤◌, true, false, length}
 use Rattle.history.specs.Accesses.{history_of}
 use Rattle.version_memory.specs.Memory.{pass_seen}
-use Rattle.run_merge.specs.Merging.{IsMerging}
+use Rattle.run_merge.specs.inner.Merging.{IsMerging}
 use Rattle.run_merge.specs.Taking.{MayBeTaken}
 use Rattle.run_merge.specs.declared.logs.Stamped.{Stamped}
 use Rattle.run_merge.proofs.merging.Merging.turn.Given as goal

@@ -1,9 +1,9 @@
 use Rattle.std.proofs.Common.{rules, ◌≡◌, [], ap, subst, sym, ◌∙◌}
 use Rattle.llsc_base.specs.Effects.{asks}
 use Rattle.guest_core.specs.Known.{HasNone}
-use Rattle.rv32_guest.specs.Accesses.{asked_first}
+use Rattle.rv32_guest.specs.inner.Accesses.{asked_first}
 use Rattle.rv32_guest.specs.Machine.{Machine, instr_at}
-use Rattle.rv32_guest.specs.Outcome.{effect_by}
+use Rattle.rv32_guest.specs.inner.Outcome.{effect_by}
 use Rattle.rv32_guest.proofs.CarriedOn.{carried_at_once, carried_by_reply, first_held, found, held_at_none, held_next, held_on, held_still, not_on, refused_on, with_registers}
 use Rattle.rv32_guest.proofs.cores.RvCpuCore.carry.Goals as goal
 

@@ -1,5 +1,5 @@
 use Rattle.std.proofs.Common.{ℕ, zero, suc, List, [], ◌∷◌, ◌++◌, replicate, refl, arith}
-use Rattle.llsc_base.specs.Words.{AreWords}
+use Rattle.llsc_base.specs.inner.Words.{AreWords}
 use Rattle.llsc_base.proofs.Words.{words_none, words_more}
 use Rattle.rv32_guest.proofs.registers.Registers.start.Goals as goal
 

@@ -1,5 +1,5 @@
 use Rattle.version_rule.specs.Kept.{origin_of}
-use Rattle.shared_memory.specs.Told.{ask}
+use Rattle.shared_memory.specs.inner.Told.{ask}
 use Rattle.version_memory.proofs.memory.VersionMemory.load_ex_within.Given as goal
 
 abbrev pub ghosts-load_ex_cell : goal.ghosts-load_ex_cell

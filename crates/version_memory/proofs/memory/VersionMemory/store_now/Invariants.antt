@@ -1,5 +1,5 @@
 use Rattle.version_rule.specs.Kept.{origin_of}
-use Rattle.shared_memory.specs.Told.{ask}
+use Rattle.shared_memory.specs.inner.Told.{ask}
 use Rattle.version_memory.proofs.memory.VersionMemory.store_now.Given as goal
 
 abbrev pub ghosts-try_store : goal.ghosts-try_store

@@ -1,5 +1,5 @@
 use Rattle.version_rule.specs.Kept.{origin_of}
-use Rattle.shared_memory.specs.Told.{no_ask}
+use Rattle.shared_memory.specs.inner.Told.{no_ask}
 use Rattle.version_memory.proofs.sharing.VersionMemorySharedMemory.clear_ex.Given as goal
 
 abbrev pub ghosts-clear_reservation : goal.ghosts-clear_reservation

@@ -1,5 +1,5 @@
 use Rattle.version_rule.specs.Kept.{origin_of}
-use Rattle.shared_memory.specs.Told.{no_ask}
+use Rattle.shared_memory.specs.inner.Told.{no_ask}
 use Rattle.version_memory.proofs.starting.VersionMemoryStartMemory.enter.Given as goal
 
 abbrev pub ghosts-wait_for_start : goal.ghosts-wait_for_start

@@ -1,0 +1,9 @@
+-- What only proofs and inner contracts need.
+pub mod Acting
+pub mod Classes
+pub mod ExecutionState
+pub mod Inside
+pub mod Machine
+pub mod Passages
+pub mod Progress
+pub mod Slots

@@ -1,0 +1,4 @@
+-- What only proofs and inner contracts need.
+pub mod Machine
+pub mod Passages
+pub mod Sound

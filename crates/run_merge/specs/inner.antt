@@ -1,0 +1,6 @@
+-- What only proofs and inner contracts need.
+pub mod Crews
+pub mod Filling
+pub mod Logging
+pub mod Merging
+pub mod Tables

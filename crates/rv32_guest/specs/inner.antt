@@ -1,0 +1,7 @@
+-- What only proofs and inner contracts need.
+pub mod Accesses
+pub mod Classes
+pub mod Inside
+pub mod Outcome
+pub mod Registers
+pub mod Rows

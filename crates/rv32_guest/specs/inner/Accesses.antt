@@ -1,0 +1,16 @@
+-- Only proofs and inner contracts need these words beside those of `specs/Accesses`.
+use Rattle.std.specs.Prelude.{true, false}
+use Rattle.llsc_base.specs.Images.{Program, bar_of}
+use Rattle.llsc_base.specs.declared.outside.Ask.{Ask}
+use Rattle.llsc_base.specs.declared.outside.Ask.TheVariants.{Load, Store, LoadEx, StoreEx, Clear}
+use Rattle.llsc_base.specs.Effects.{asks}
+use Rattle.rv32_guest.specs.State.{Effect}
+use Rattle.rv32_guest.specs.Accesses.{asks_unless}
+
+-- what an instruction of this access does before it has had the reply
+abbrev pub asked_first : Program → Ask → Effect
+asked_first program (Load place) = asks_unless (bar_of program place false) place.addr (Load place)
+asked_first program (LoadEx place) = asks_unless (bar_of program place false) place.addr (LoadEx place)
+asked_first program (Store place value) = asks_unless (bar_of program place true) place.addr (Store place value)
+asked_first program (StoreEx place value) = asks_unless (bar_of program place true) place.addr (StoreEx place value)
+asked_first program Clear = asks Clear

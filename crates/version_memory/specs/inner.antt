@@ -1,0 +1,3 @@
+-- What only proofs and inner contracts need.
+pub mod Passes
+pub mod Stored
