@@ -1,5 +1,5 @@
 -- Which numbers handles hold that were split, have taken in others, or have all.
-use Rattle.std.proofs.Common.{◌≡◌, ◌≢◌, ◌==◌, ◌&&◌, ◌||◌, inl, inr, not, nat_lt, ℕ, ◌-◌, ◌<◌, ◌≤◌, Bool, true, false, sym, ap, ◌∙◌, arith}
+use Rattle.std.proofs.Common.{◌≡◌, ◌≢◌, ◌==◌, ◌&&◌, inl, inr, not, nat_lt, ℕ, ◌-◌, ◌<◌, Bool, true, sym, ap, ◌∙◌, arith}
 use Rattle.std.proofs.lemmas.Bool.{and_parts, cases_Bool, eq-eqb, eqb-true, ltb-false, ltb-true, ne_eqb, or_cases, or_left, or_right}
 use Rattle.std.specs.Cmp.Derive.{both_true}
 use Rattle.shared_memory.specs.Seen.{IsOneOf, all_but, joint}
