@@ -1,11 +1,12 @@
 /* Makes so many accesses of one thread that has its memory to itself, and tells the nanoseconds of one: the least of so many
-   turns.
+   turns. Behind them stands the sum of what the accesses found, or of the store-exclusives that succeeded.
 
        c_bench KIND ROUNDS TURNS
 
    A kind is `pair`, `store` or `load`, of eight bytes; behind it stands by what it is made: nothing is the library, with the
    width as a word of the call, `8` (and `load4`) the library's call for that width, `_c` the memory in plain C, and `_call` that
-   as a call which isn't inlined. */
+   as a call which isn't inlined. By `back8` and `back_c` another thread's stores change the word and change it back between the
+   two of a pair, and by `back_ex8` and `back_ex_c` its store-exclusives. */
 #include "llsc.h"
 
 #include HEADER /* the memory in plain C */
@@ -15,8 +16,8 @@
 #include <time.h>
 
 static uint8_t bytes[LLSC_MIN_BYTES];
-static llsc_thread t;
-static resv plain;
+static llsc_thread t, u;
+static resv plain, other = {.id = 1};
 
 enum { AT = 0x2000 };
 
@@ -37,10 +38,7 @@ static void must(uint32_t answer) {
         abort();
 }
 
-/* Makes the accesses, and adds up what they found. */
-static uint64_t make(const char *kind, uint32_t rounds) {
-    uint64_t sum = 0, value;
-    uint32_t failed;
+/* Makes so many rounds of accesses, where the kind has this name. */
 #define REPEAT(NAME, ...)                                                                                                         \
     if (strcmp(kind, NAME) == 0) {                                                                                               \
         for (uint32_t k = 0; k < rounds; k += 1) {                                                                               \
@@ -48,6 +46,11 @@ static uint64_t make(const char *kind, uint32_t rounds) {
         }                                                                                                                        \
         return sum;                                                                                                              \
     }
+
+/* Makes the accesses, and adds up what they found. */
+static uint64_t make(const char *kind, uint32_t rounds) {
+    uint64_t sum = 0, value;
+    uint32_t failed;
     REPEAT("pair", must((llsc_load_ex)(&t, AT, 8, &value)); must((llsc_store_ex)(&t, AT, 8, value + 1, &failed)); sum += !failed;)
     REPEAT("pair8", must(llsc_load_ex8(&t, AT, &value)); must(llsc_store_ex8(&t, AT, value + 1, &failed)); sum += !failed;)
     REPEAT("pair_c", value = m_ldex(&plain, AT, 8); sum += !m_stex(&plain, AT, 8, value + 1);)
@@ -65,6 +68,37 @@ static uint64_t make(const char *kind, uint32_t rounds) {
     abort();
 }
 
+/* The other thread's store-exclusives, each behind a load-exclusive of its own. */
+static void library_writes(uint64_t value) {
+    uint64_t found;
+    uint32_t failed;
+    must(llsc_load_ex8(&u, AT, &found));
+    must(llsc_store_ex8(&u, AT, value, &failed));
+    if (failed)
+        abort();
+}
+
+static void plain_writes(uint64_t value) {
+    m_ldex(&other, AT, 8);
+    if (m_stex(&other, AT, 8, value))
+        abort();
+}
+
+/* Makes pairs, between whose two the other thread changes the word and changes it back, and counts those that succeed. */
+static uint64_t make_back(const char *kind, uint32_t rounds) {
+    uint64_t sum = 0, value;
+    uint32_t failed;
+    REPEAT("back8", must(llsc_load_ex8(&t, AT, &value)); must(llsc_store8(&u, AT, value + 1)); must(llsc_store8(&u, AT, value));
+           must(llsc_store_ex8(&t, AT, value + 1, &failed)); sum += !failed;)
+    REPEAT("back_c", value = m_ldex(&plain, AT, 8); m_st(&other, AT, 8, value + 1); m_st(&other, AT, 8, value);
+           sum += !m_stex(&plain, AT, 8, value + 1);)
+    REPEAT("back_ex8", must(llsc_load_ex8(&t, AT, &value)); library_writes(value + 1); library_writes(value);
+           must(llsc_store_ex8(&t, AT, value + 1, &failed)); sum += !failed;)
+    REPEAT("back_ex_c", value = m_ldex(&plain, AT, 8); plain_writes(value + 1); plain_writes(value);
+           sum += !m_stex(&plain, AT, 8, value + 1);)
+    abort();
+}
+
 static double now(void) {
     struct timespec time;
     clock_gettime(CLOCK_MONOTONIC, &time);
@@ -78,15 +112,17 @@ int main(int argc, char **argv) {
     int turns = atoi(argv[3]);
     double least = 1e300;
     uint64_t sum = 0;
-    must(llsc_open(&t, bytes, sizeof bytes, 1, LLSC_MAX_CLASSES, LLSC_MAX_LIMIT, 0));
+    must(llsc_open(&t, bytes, sizeof bytes, 2, LLSC_MAX_CLASSES, LLSC_MAX_LIMIT, 0));
+    must(llsc_split(&t, &u));
     llsc_init(sizeof bytes);
     for (int turn = 0; turn < turns; turn += 1) {
         double begun = now();
-        sum += make(argv[1], rounds);
+        sum += strncmp(argv[1], "back", 4) == 0 ? make_back(argv[1], rounds) : make(argv[1], rounds);
         double spent = now() - begun;
         least = spent < least ? spent : least;
     }
     printf("%.3f %llu\n", least / rounds, (unsigned long long)sum);
     must(llsc_end(&t));
+    must(llsc_end(&u));
     return 0;
 }
