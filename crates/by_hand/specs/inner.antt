@@ -1,0 +1,2 @@
+-- What only proofs and inner contracts need.
+pub mod Counting
