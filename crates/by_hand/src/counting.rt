@@ -6,17 +6,19 @@
 //! both numbers into one pass again, with which the memory can be closed.
 //!
 //! What the memory promises: all accesses stand in one history, legal by Arm's memory and monitors, of which a pass has seen a
-//! front. What a call adds to that is the thread's own operation, once, and entries of other threads. A store-exclusive that gives
-//! true has stored, and no other thread wrote in the row since the load-exclusive, whatever the values: so no addition is lost, and
-//! the word is 2000. Proved here is that a legal and complete history leaves what [`count`] gives; that it is 2000 is tried
-//! (`counter_runs` proves such a sum, of a guest). Nobody promises that a loop of exclusive accesses ends, so that it is one by
-//! `rt.forever()`, which a bound `Wait` allows.
-ghost use Rattle.std.specs.Prelude.{◌≡◌, ◌<◌, ℕ, List, [], IfOk, nat_lt};
+//! front. What a call adds to that is the thread's own operation, once, and entries of other threads. So the contracts say what
+//! each thread has done by what its pass has seen: [`add_one`] adds one more addition to the thread's accesses (`AreAdditions`,
+//! `specs/inner/Counting`), [`add_all`] makes them [`ROUNDS`], and both threads' stand in the history with which memory is closed. A
+//! store-exclusive that succeeds finds in memory what the load-exclusive before it read, whatever came in between: a law of every
+//! legal history. So no addition is lost, and that [`count`] gives 2000 is proved (`proofs/Sums`), for every order in which the two
+//! threads' accesses may come. Nobody promises that a loop of exclusive accesses ends, so that it is one by `rt.forever()`, which a
+//! bound `Wait` allows.
+ghost use Rattle.std.specs.Prelude.{◌≡◌, ◌+◌, ◌<◌, ℕ, List, [], IfOk, nat_lt};
 ghost use Rattle.history.specs.declared.entry.Entry.{Entry};
 ghost use Rattle.shared_memory.specs.Origin.{Origin};
 ghost use Rattle.shared_memory.specs.Seen.{IsOneOf, IsSingle};
 ghost use Rattle.version_memory.specs.Memory.{memory_id, memory_origin, pass_home, pass_numbers, pass_seen};
-ghost use Rattle.by_hand.specs.inner.Counting.{IsOfTwo, Leaves};
+ghost use Rattle.by_hand.specs.inner.Counting.{AreAdditions, BothAdd, IsOfTwo, own_accesses};
 ghost use denote.Param.Send.{IsSync};
 
 use llsc_base::{Image, MachineSize, Place, Size};
@@ -39,6 +41,10 @@ const WORD: Place = Place {
 };
 
 /// A memory of zeros for two threads, and the pass that holds both of their numbers.
+///
+/// # Errors
+///
+/// [`AllocError`] is want of memory: the machine's numbers are in their ranges.
 fn zeros(alloc: Global) -> Result<(VersionMemory, VersionPass), AllocError>
     ensures origin { IfOk result (λ made. IsOfTwo (memory_origin made.0)) }
     ensures memory { IfOk result (λ made. pass_home made.1 ≡ memory_id made.0) }
@@ -46,7 +52,7 @@ fn zeros(alloc: Global) -> Result<(VersionMemory, VersionPass), AllocError>
     ensures seen { IfOk result (λ made. pass_seen made.1 ≡ []) }
 {
     let Ok(size) = MachineSize::new(65_536, 2, 4096, 1 << 62) else {
-        return Err(AllocError);
+        unreachable!()
     };
     let bytes = vec![in alloc; 0; 65_536]?;
     let image = Image::of(bytes, Vec::new(alloc), 0);
@@ -61,6 +67,8 @@ fn add_one<M: SharedMemory, R: Wait>(rt: &R, memory: &M, pass: &mut M::Pass)
     requires origin { IsOfTwo (M.origin memory.now) }
     ensures memory { M.home pass.new ≡ M.home pass.old }
     ensures numbers { M.numbers pass.new ≡ M.numbers pass.old }
+    ensures added { (t times : ℕ) → IsSingle t (M.numbers pass.old)
+        → AreAdditions t WORD times (own_accesses t (M.seen pass.old)) → AreAdditions t WORD (times + 1) (own_accesses t (M.seen pass.new)) }
 {
     for _ in rt.forever() {
         let value = memory.load_ex(rt, pass, WORD);
@@ -78,8 +86,10 @@ fn add_all<M: SharedMemory, R: Wait>(rt: &R, memory: &M, mut pass: M::Pass) -> M
     requires origin { IsOfTwo (M.origin memory.now) }
     ensures memory { M.home result ≡ M.home pass }
     ensures numbers { M.numbers result ≡ M.numbers pass }
+    ensures added { (t : ℕ) → IsSingle t (M.numbers pass) → M.seen pass ≡ []
+        → AreAdditions t WORD ROUNDS (own_accesses t (M.seen result)) }
 {
-    for _ in 0..ROUNDS {
+    for round in 0..ROUNDS {
         add_one(rt, memory, &mut pass);
     }
     pass
@@ -98,26 +108,35 @@ fn add_beside<M: SharedMemory, R: Threads + Wait + Sync>(
     requires origin { IsOfTwo (M.origin memory.now) }
     ensures memory { M.home result ≡ M.id memory.now }
     ensures both { (t : ℕ) → t < 2 → IsOneOf t (M.numbers result) }
+    ensures added { BothAdd WORD ROUNDS (M.seen result) }
 {
     let other = memory.split(&mut pass, 1);
     let (mut pass, other) = join(
         rt,
         move || -> M::Pass
-            requires { IsSync R.row × (M.home pass ≡ M.id memory.now) × IsSingle 0 (M.numbers pass) × IsOfTwo (M.origin memory.now) }
-            ensures { (M.home result ≡ M.id memory.entry.now) × IsSingle 0 (M.numbers result) }
+            requires { IsSync R.row × (M.home pass ≡ M.id memory.now) × IsSingle 0 (M.numbers pass) × (M.seen pass ≡ [])
+                × IsOfTwo (M.origin memory.now) }
+            ensures { (M.home result ≡ M.id memory.entry.now) × IsSingle 0 (M.numbers result)
+                × AreAdditions 0 WORD ROUNDS (own_accesses 0 (M.seen result)) }
         { add_all(rt, memory, pass) },
         move || -> M::Pass
-            requires { (M.home other ≡ M.id memory.now) × IsSingle 1 (M.numbers other) × IsOfTwo (M.origin memory.now) }
-            ensures { (M.home result ≡ M.id memory.entry.now) × IsSingle 1 (M.numbers result) }
+            requires { (M.home other ≡ M.id memory.now) × IsSingle 1 (M.numbers other) × (M.seen other ≡ [])
+                × IsOfTwo (M.origin memory.now) }
+            ensures { (M.home result ≡ M.id memory.entry.now) × IsSingle 1 (M.numbers result)
+                × AreAdditions 1 WORD ROUNDS (own_accesses 1 (M.seen result)) }
         { add_all(rt, memory, other) },
     );
     memory.join(&mut pass, other);
     pass
 }
 
-/// The word, once both threads have added and memory is closed: what a legal history of two threads leaves there.
+/// The word, once both threads have added and memory is closed: 2000.
+///
+/// # Errors
+///
+/// [`AllocError`] is want of memory.
 pub fn count<R: Threads + Wait + Sync>(rt: &R, alloc: Global) -> Result<u64, AllocError>
-    ensures { IfOk result (λ word. (origin : Origin) × (history : List Entry) × IsOfTwo origin × Leaves origin history 1024 word) }
+    ensures { IfOk result (λ word. word ≡ 2000) }
 {
     let (memory, pass) = zeros(alloc)?;
     let pass = add_beside(rt, &memory, pass);

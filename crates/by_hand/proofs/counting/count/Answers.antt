@@ -1,5 +1,6 @@
 use Rattle.std.proofs.Common.{◌≡◌, ◌*◌, ◌∙◌, length, arith}
 use Rattle.version_memory.specs.Memory.{memory_origin, pass_seen}
+use Rattle.by_hand.proofs.Sums.{both_leave}
 use Rattle.by_hand.proofs.counting.count.Goals as goal
 
 pub row-requires : goal.row-requires
@@ -9,13 +10,7 @@ row-requires g c =
 
 pub returns : goal.returns
 returns g c =
-    let count : 8 * length c.close-rows.result.0 ≡ 65536 = c.close-rows.ensures.count ∙ c.in_ok-memory.ensures.origin.mem in (
-      memory_origin c.in_ok-memory.memory,
-      pass_seen c.add_beside-pass.result,
-      c.in_ok-memory.ensures.origin,
-      record {
-        legal = c.close-rows.ensures.legal;
-        complete = c.close-rows.ensures.complete;
-        left = c.row.ensures ∙ c.close-rows.ensures.rows 1024 (omega (arith, count));
-      },
-    )
+    let count : 8 * length c.close-rows.result.0 ≡ 65536 = c.close-rows.ensures.count ∙ c.in_ok-memory.ensures.origin.mem in
+    c.row.ensures
+    ∙ c.close-rows.ensures.rows 1024 (omega (arith, count))
+    ∙ both_leave (memory_origin c.in_ok-memory.memory) (pass_seen c.add_beside-pass.result) c.in_ok-memory.ensures.origin c.add_beside-pass.ensures.added c.close-rows.ensures.legal
