@@ -10,7 +10,7 @@
 //! each thread has done by what its pass has seen: [`add_one`] adds one more addition to the thread's accesses (`AreAdditions`,
 //! `specs/inner/Counting`), [`add_all`] makes them [`ROUNDS`], and both threads' stand in the history with which memory is closed. A
 //! store-exclusive that succeeds finds in memory what the load-exclusive before it read, whatever came in between: a law of every
-//! legal history. So no addition is lost, and that [`count`] gives 2000 is proved (`proofs/Sums`), for every order in which the two
+//! legal history. So no addition is lost, and that [`count`] gives 2000 is proved (`proofs/Sums`, by `Additions` of `history`), for every order in which the two
 //! threads' accesses may come. Nobody promises that a loop of exclusive accesses ends, so that it is one by `rt.forever()`, which a
 //! bound `Wait` allows.
 ghost use Rattle.std.specs.Prelude.{◌≡◌, ◌+◌, ◌<◌, ℕ, List, [], IfOk, nat_lt};

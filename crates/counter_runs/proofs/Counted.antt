@@ -19,14 +19,15 @@ use Rattle.guest_thread.specs.declared.ends.GuestEnd.{GuestEnd}
 use Rattle.guest_gen.specs.Namings.{first_draw, drawn_after, named_by, named_in, namings_in, namings_of, one_at}
 use Rattle.counter_runs.specs.Tries.{AreTries}
 use Rattle.counter_runs.proofs.Onward.{RunsOn, exits_on}
-use Rattle.guest_calls.proofs.OwnAccesses.{own_accesses, own_first}
+use Rattle.guest_calls.proofs.OwnAccesses.{own_accesses}
+use Rattle.history.proofs.Additions.{AreAdditions, AreCounted, additions-times, holds_writes, is_at, own_first}
 use Rattle.history.proofs.SumsBelow.{sum_below, sum_below-same}
 use Rattle.history.proofs.WritesByThread.{writes_by_threads, writes_of}
 use Rattle.counter_runs.proofs.LeftRuns.{left_run}
 use Rattle.counter_runs.proofs.Rounds.{starts_so}
 use Rattle.counter_runs.proofs.States.{CounterGuest}
-use Rattle.counter_runs.proofs.Stores.{AreStores, stores_of}
-use Rattle.counter_runs.proofs.Holding.{AreCounted, holds_writes, is_at, small-named_in, stores-times, times-named_in}
+use Rattle.counter_runs.proofs.Stores.{stores_of}
+use Rattle.counter_runs.proofs.CounterWords.{below-named_in, counter_words, times-named_in}
 use Rattle.a32_step.specs.Machine.{a32}
 
 -- ---- the counters are 0 at first
@@ -76,12 +77,12 @@ tries_of_run seed rounds budget t steps size pairs output room few ends =
 -- the accesses of each thread
 own_stores : (seed rounds budget : ℕ) (size : Numbers) (history : List Entry) (ends : List GuestEnd) → 65536 ≤ size.mem → rounds < 2 ^ 32
     → IsOutcome a32 (counter_image seed rounds size) size budget history ends → HaveLeft ends
-    → (t : ℕ) → t < size.threads → AreStores t (named_in (first_draw seed t) rounds) (entries_of t (accesses_of history))
+    → (t : ℕ) → t < size.threads → AreAdditions t counter_place (named_in (first_draw seed t) rounds) (entries_of t (accesses_of history))
 own_stores seed rounds budget size history ends room few outcome left t member =
     let named = named_in (first_draw seed t) rounds in
     let tries = tries_from_start seed rounds size t (pairs_of t history) room few
     (left_run (counter_image seed rounds size) size budget history ends outcome left t member) in
-    subst (AreStores t named) (own_first t history)
+    subst (AreAdditions t counter_place named) (own_first t history)
     (stores_of t named (pairs_of t history) tries (accesses_of (entries_of t history)) (own_accesses t history) refl)
 
 -- ---- how often each counter is named
@@ -126,29 +127,29 @@ counters_hold seed rounds budget size history ends room crew few outcome left in
     let program = counter_image seed rounds size in
     let accesses = accesses_of history in
     let own = own_stores seed rounds budget size history ends room (omega (arith, few)) outcome left in
-    let counted : AreCounted size.granule program.bytes size.threads (λ t. named_in (first_draw seed t) rounds) accesses = record {
+    let counted : AreCounted counter_words size.granule program.bytes size.threads (λ t. named_in (first_draw seed t) rounds) accesses = record {
       legal = outcome.legal.accesses;
       each = own;
-      small = λ t. small-named_in (first_draw seed t) rounds;
-      room = omega (arith, room, length-values_below size.mem (unit_byte (counter_unit seed rounds)));
+      below = λ t. below-named_in (first_draw seed t) rounds;
+      room = λ i low. omega (arith, low, room, length-values_below size.mem (unit_byte (counter_unit seed rounds)));
       empty = λ i low. first_value seed rounds size.mem i (omega (arith, room)) low;
-      few = λ i. bounded i;
+      few = λ i low. bounded i low;
     } in
-    holds_writes size.granule program.bytes size.threads (λ t. named_in (first_draw seed t) rounds) accesses counted index known
-    ∙ sum index
+    holds_writes counter_words size.granule program.bytes size.threads (λ t. named_in (first_draw seed t) rounds) accesses counted index known
+    ∙ sum index known
   where
-    sum : (i : ℕ) → writes_of (is_at i) (accesses_of history) ≡ namings_of seed size.threads rounds i
-    sum i =
-        writes_by_threads (at_rest_by size.granule (counter_image seed rounds size).bytes size.threads) size.threads (is_at i) (accesses_of history) (length-replicate size.threads _) outcome.legal.accesses
+    sum : (i : ℕ) → i < 16 → writes_of (is_at (counter_place i)) (accesses_of history) ≡ namings_of seed size.threads rounds i
+    sum i low =
+        writes_by_threads (at_rest_by size.granule (counter_image seed rounds size).bytes size.threads) size.threads (is_at (counter_place i)) (accesses_of history) (length-replicate size.threads _) outcome.legal.accesses
         ∙ sum_below-same _ (λ t. namings_in (first_draw seed t) rounds i) size.threads (λ t member.
-        stores-times t i (named_in (first_draw seed t) rounds) (entries_of t (accesses_of history))
+        additions-times counter_words t i (named_in (first_draw seed t) rounds) (entries_of t (accesses_of history)) low (below-named_in (first_draw seed t) rounds)
         (own_stores seed rounds budget size history ends room (omega (arith, few)) outcome left t member)
         ∙ times-named_in i (first_draw seed t) rounds)
         ∙ namings_of-below seed size.threads rounds i
 
-    bounded : (i : ℕ) → writes_of (is_at i) (accesses_of history) < 2 ^ 32
-    bounded i =
-        let is = sum i in
+    bounded : (i : ℕ) → i < 16 → writes_of (is_at (counter_place i)) (accesses_of history) < 2 ^ 32
+    bounded i low =
+        let is = sum i low in
         let most = namings_of-le seed size.threads rounds i in
         let all : size.threads * rounds ≤ 16 * 50000 = mul-le-mul crew few in
         omega (arith, is, most, all)

@@ -7,5 +7,5 @@ pub mod States
 pub mod Blocks
 pub mod Rounds
 pub mod Stores
-pub mod Holding
+pub mod CounterWords
 pub mod Counted

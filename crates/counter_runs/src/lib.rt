@@ -1,9 +1,10 @@
 //! Runs of the counter guest: what each thread asks for, round by round, and what the counters hold once all threads have left.
 //!
 //! That each counter holds how often the threads name it is a law of every history ([`laws`]), by the run of each thread: it goes
-//! from block to block of the guest's words (`proofs/Blocks`, `Rounds`), and what it stored is in memory (`proofs/Stores`,
-//! `Holding`). In `proofs/` stands, too, what serves a proof about any A32 guest: what is left of a run from its beginning on
-//! (`Onward`, `LeftRuns`), a program as the list of its instructions (`Listing`), and where branches go on (`Branching`).
+//! from block to block of the guest's words (`proofs/Blocks`, `Rounds`), and what it stored is in memory (`proofs/Stores`, by
+//! `history/proofs/Additions`). In `proofs/` stands, too, what serves a proof about any A32 guest: what is left of a run from its
+//! beginning on (`Onward`, `LeftRuns`), a program as the list of its instructions (`Listing`), and where branches go on
+//! (`Branching`).
 #![tactic(auto)]
 
 pub mod laws;

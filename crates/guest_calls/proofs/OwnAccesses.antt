@@ -1,5 +1,5 @@
 -- The accesses of a thread in a history, and each of them by what was asked and replied: for any guest.
-use Rattle.std.proofs.Common.{◌≡◌, ℕ, ◌%◌, ◌^◌, ◌==◌, true, false, List, [], ◌∷◌, refl, ap, ◌∙◌, arith, eqb-true, inl, inr}
+use Rattle.std.proofs.Common.{◌≡◌, ℕ, ◌%◌, ◌^◌, ◌==◌, true, false, List, [], ◌∷◌, ap, ◌∙◌, arith, eqb-true, inl, inr}
 use Rattle.std.proofs.lemmas.Bool.{cases_Bool}
 use Rattle.llsc_base.specs.declared.access.Place.{Place}
 use Rattle.history.specs.Entry.{is_access, thread_of}
@@ -25,20 +25,6 @@ own_accesses t (entry ∷ history) = elim (cases_Bool (thread_of entry == t)) [
     | inr no_access ↦ rw (own, no_access) (own_accesses t history)
   ]
   | inr other ↦ rw other (own_accesses t history)
-]
-
--- and they are its entries among all accesses
-pub own_first : (t : ℕ) (history : List Entry) → accesses_of (entries_of t history) ≡ entries_of t (accesses_of history)
-own_first t [] = refl
-own_first t (entry ∷ history) = elim (cases_Bool (thread_of entry == t)) [
-  | inl own ↦ elim (cases_Bool (is_access entry)) [
-    | inl access ↦ rw (own, access, own) (ap (λ rest. entry ∷ rest) (own_first t history))
-    | inr no_access ↦ rw (own, no_access) (own_first t history)
-  ]
-  | inr other ↦ elim (cases_Bool (is_access entry)) [
-    | inl access ↦ rw (other, access, other) (own_first t history)
-    | inr no_access ↦ rw (other, no_access) (own_first t history)
-  ]
 ]
 
 -- ---- one access by its pair

@@ -20,3 +20,4 @@ pub mod Unmarked
 pub mod Held
 pub mod SumsBelow
 pub mod WritesByThread
+pub mod Additions
