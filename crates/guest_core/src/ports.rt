@@ -8,6 +8,20 @@ use llsc_base::Ask;
 /// Who replies to the accesses of a thread, each at once: a memory, say, with what is counted of it. Which replies may come is
 /// the port's to say (`replies`); what a thread does over a port it does with replies that lead from the port as it was to the
 /// port as it is (`specs/Ports`).
+///
+/// ```
+/// impl Port for Clock {
+///     ghost replies = { IsTicked }; // which reply leads from which clock to which
+///     ..
+///     fn reply(&mut self, ask: Ask) -> Option<u64> {
+///         Some(match ask {
+///             Ask::Load(_) | Ask::LoadEx(_) => self.read(),
+///             Ask::StoreEx(_, _) => 1,
+///             Ask::Store(_, _) | Ask::Clear => 0,
+///         })
+///     }
+/// }
+/// ```
 pub trait Port {
     /// Whether such an answer to an access, a reply or none, leads from a port, the first, to another, the last.
     ghost replies: { Self → Ask → Option ℕ → Self → Type 0 };

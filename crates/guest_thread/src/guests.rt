@@ -77,6 +77,12 @@ impl Called {
 }
 
 /// A guest thread under way: its core, its steps, and its output.
+///
+/// ```
+/// let mut guest = Guest::<Cpu>::start(alloc, &image, &size, 0)?;
+/// let mut code = Code::new(alloc, &image)?;
+/// let stop = guest.run(&mut code, 1000, &mut port); // at most 1000 steps
+/// ```
 #[derive(Drop)]
 pub struct Guest<C: Core> {
     pub(crate) cpu: C,

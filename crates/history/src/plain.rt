@@ -20,6 +20,15 @@ use std::marker::Model;
 ///
 /// Each call is one access. It has no classes and no limit, and a store-exclusive fails only where its thread
 /// isn't marked on the row.
+///
+/// ```
+/// let word = Place { addr: 8, size: Size::B4 };
+/// let mut memory = PlainMemory::new(alloc, &[0; 16], 2)?;
+/// let value = memory.load_ex(0, word);
+/// memory.store(1, word, 7);
+/// memory.store(1, word, value);
+/// let stored = memory.store_ex(0, word, value + 1); // false, though the word has its value again
+/// ```
 #[derive(Drop)]
 pub struct PlainMemory {
     cells: Vec<u64>,

@@ -18,6 +18,11 @@ pub struct Span {
 }
 
 /// A guest program as it stands in memory before its first instruction.
+///
+/// ```
+/// let words = [0x01, 0x70, 0xa0, 0xe3, 0x00, 0x00, 0x00, 0xef]; // mov r7, #1; svc #0
+/// let image = Image::flat(alloc, &words, &size)?;
+/// ```
 #[derive(Drop)]
 pub struct Image {
     bytes: Vec<u8>,

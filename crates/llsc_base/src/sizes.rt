@@ -42,6 +42,11 @@ impl SizeFault {
 }
 
 /// The numbers of a machine, each in its range.
+///
+/// ```
+/// let size = MachineSize::new(65_536, 2, 4096, 1 << 62)?;
+/// let refused = MachineSize::new(65_537, 2, 4096, 1 << 62); // Err(SizeFault::Mem): no whole pages
+/// ```
 #[derive(Clone, Copy, Debug, PartialEq, Eq)]
 pub struct MachineSize {
     mem: u32,

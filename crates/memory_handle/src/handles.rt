@@ -14,6 +14,16 @@ use version_memory::{VersionMemory, VersionPass};
 ///
 /// A handle of one thread makes its accesses. One handle's calls come one after the other; those of different handles may run
 /// beside each other on host threads.
+///
+/// ```
+/// let mut first = Handle::open(alloc, &bytes, &size)?; // threads 0 and 1
+/// let mut second = first.split()?; // thread 1
+/// let (value, reserved) = first.load_ex(0x2000, 4)?;
+/// second.store(0x2000, 4, 7)?;
+/// let stored = first.store_ex(0x2000, 4, value + 1)?; // false
+/// first.join(second);
+/// first.close(&mut bytes);
+/// ```
 #[derive(Drop)]
 pub struct Handle {
     pub(crate) memory: Arc<VersionMemory, Global>,

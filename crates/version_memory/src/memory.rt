@@ -12,6 +12,16 @@ use version_rule::VersionTable;
 /// stores it changed, and gives the class back with the next even tag. A load-exclusive keeps the even tag that it finds, and
 /// its store-exclusive claims the class by that tag alone: it succeeds just where no write has begun in the class since. A
 /// thread that doesn't begin by itself has a word, which the thread that starts it sets, and for which it waits.
+///
+/// ```
+/// let (memory, mut pass) = VersionMemory::new(alloc, &image, &size)?;
+/// let mut other = memory.split(&mut pass, 1); // thread 1's; `pass` keeps thread 0
+/// let value = memory.load_ex(rt, &mut pass, word);
+/// memory.store(rt, &mut other, word, 7)?;
+/// let stored = memory.store_ex(rt, &mut pass, word, value + 1); // false
+/// memory.join(&mut pass, other);
+/// let (cells, story) = memory.close(pass);
+/// ```
 #[derive(Drop)]
 pub struct VersionMemory {
     pub(crate) table: VersionTable,
