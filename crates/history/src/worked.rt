@@ -54,7 +54,8 @@ pub fn own_write_in_the_class()
 /// thread alone has; it may fail as absent where the thread's own write has ended its reservation.
 pub fn failing_by_a_write()
     ensures lost { MayFail (small_machine 1) (Entry.Watch 0 word ∷ Entry.Read 0 word 0 true ∷ Entry.Begin 1 next_row ∷ []) 0 word Cause.Lost }
-    ensures not_in_another_class { ¬ MayFail (small_machine 4096) (Entry.Watch 0 word ∷ Entry.Read 0 word 0 true ∷ Entry.Begin 1 next_row ∷ []) 0 word Cause.Lost }
+    ensures not_in_another_class { ¬ MayFail (small_machine 4096) (Entry.Watch 0 word ∷ Entry.Read 0 word 0 true
+        ∷ Entry.Begin 1 next_row ∷ []) 0 word Cause.Lost }
     ensures not_before { ¬ MayFail (small_machine 1) (Entry.Begin 1 next_row ∷ Entry.Watch 0 word ∷ Entry.Read 0 word 0 true ∷ []) 0 word Cause.Lost }
     ensures absent { MayFail (small_machine 1) (Entry.Watch 0 word ∷ Entry.Read 0 word 0 true ∷ Entry.Begin 0 next_row ∷ []) 0 word Cause.Absent }
     ensures not_absent { ¬ MayFail (small_machine 4096) (Entry.Watch 0 word ∷ Entry.Read 0 word 0 true ∷ Entry.Begin 0 next_row ∷ []) 0 word Cause.Absent }

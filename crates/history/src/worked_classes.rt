@@ -27,9 +27,12 @@ pub fn reservations_that_end()
 
 /// Another thread's entries end no reservation, and neither do the thread's own loads, plain Writes and Ends.
 pub fn reservations_that_stay()
-    ensures of_another { reservation_of (small_machine 4096) 0 (Entry.Watch 0 word ∷ Entry.Watch 1 word ∷ Entry.Miss 1 word ∷ Entry.Clear 1 ∷ Entry.Fail 1 word 9 Cause.Lost ∷ []) ≡ Some 1 }
-    ensures written_by_another { reservation_of (small_machine 4096) 0 (Entry.Watch 0 word ∷ Entry.Begin 1 word ∷ Entry.Write 1 word 9 true ∷ Entry.End 1 word ∷ []) ≡ Some 1 }
-    ensures own { reservation_of (small_machine 4096) 0 (Entry.Watch 0 word ∷ Entry.Read 0 word 0 true ∷ Entry.Write 0 word 5 false ∷ Entry.End 0 word ∷ []) ≡ Some 1 }
+    ensures of_another { reservation_of (small_machine 4096) 0 (Entry.Watch 0 word ∷ Entry.Watch 1 word ∷ Entry.Miss 1 word
+        ∷ Entry.Clear 1 ∷ Entry.Fail 1 word 9 Cause.Lost ∷ []) ≡ Some 1 }
+    ensures written_by_another { reservation_of (small_machine 4096) 0
+        (Entry.Watch 0 word ∷ Entry.Begin 1 word ∷ Entry.Write 1 word 9 true ∷ Entry.End 1 word ∷ []) ≡ Some 1 }
+    ensures own { reservation_of (small_machine 4096) 0 (Entry.Watch 0 word ∷ Entry.Read 0 word 0 true ∷ Entry.Write 0 word 5 false
+        ∷ Entry.End 0 word ∷ []) ≡ Some 1 }
 {}
 
 /// A store-exclusive may fail as lost where another thread's load-exclusive with a reservation has begun in the class since,
@@ -39,7 +42,8 @@ pub fn failing_by_a_load_exclusive()
     ensures not_in_another_class { ¬ MayFail (small_machine 4096) (Entry.Watch 0 word ∷ Entry.Watch 1 next_row ∷ []) 0 word Cause.Lost }
     ensures not_by_a_miss { ¬ MayFail (small_machine 1) (Entry.Watch 0 word ∷ Entry.Miss 1 word ∷ []) 0 word Cause.Lost }
     ensures not_by_its_own { ¬ MayFail (small_machine 1) (Entry.Watch 0 word ∷ Entry.Watch 0 word ∷ []) 0 word Cause.Lost }
-    ensures not_by_others { ¬ MayFail (small_machine 1) (Entry.Watch 0 word ∷ Entry.Read 1 word 0 true ∷ Entry.Clear 1 ∷ Entry.End 1 word ∷ []) 0 word Cause.Lost }
+    ensures not_by_others { ¬ MayFail (small_machine 1) (Entry.Watch 0 word ∷ Entry.Read 1 word 0 true ∷ Entry.Clear 1
+        ∷ Entry.End 1 word ∷ []) 0 word Cause.Lost }
     ensures full { MayFail (small_machine 1) (Entry.Write 1 word 5 false ∷ Entry.Watch 0 word ∷ Entry.Watch 1 word ∷ []) 0 word Cause.Limit }
 {}
 
@@ -68,13 +72,16 @@ pub fn classes_of_rows()
 /// Of a class a history says how many Writes it has had, how many Begins and Ends, who began its last write, and who
 /// came last.
 pub fn words_of_a_class()
-    ensures writes { writes_in_class (small_machine 1) 1 (Entry.Write 0 word 5 false ∷ Entry.Write 1 next_row 9 true ∷ Entry.Fail 0 word 9 Cause.Lost ∷ []) ≡ 2 }
+    ensures writes { writes_in_class (small_machine 1) 1 (Entry.Write 0 word 5 false ∷ Entry.Write 1 next_row 9 true
+        ∷ Entry.Fail 0 word 9 Cause.Lost ∷ []) ≡ 2 }
     ensures writes_elsewhere { writes_in_class (small_machine 4096) 1 (Entry.Write 0 word 5 false ∷ Entry.Write 1 next_row 9 true ∷ []) ≡ 1 }
-    ensures edges { edges_of (small_machine 1) 1 (Entry.Begin 0 word ∷ Entry.Write 0 word 5 false ∷ Entry.End 0 word ∷ Entry.Watch 0 word ∷ Entry.Begin 1 next_row ∷ []) ≡ 3 }
+    ensures edges { edges_of (small_machine 1) 1 (Entry.Begin 0 word ∷ Entry.Write 0 word 5 false ∷ Entry.End 0 word
+        ∷ Entry.Watch 0 word ∷ Entry.Begin 1 next_row ∷ []) ≡ 3 }
     ensures edges_elsewhere { edges_of (small_machine 4096) 1 (Entry.Begin 0 word ∷ Entry.End 0 word ∷ Entry.Begin 1 next_row ∷ []) ≡ 2 }
     ensures writer { last_of (writer_in (small_machine 1) 1) (Entry.Begin 0 word ∷ Entry.Begin 1 next_row ∷ Entry.Watch 0 word ∷ []) ≡ Some 1 }
     ensures writer_elsewhere { last_of (writer_in (small_machine 4096) 1) (Entry.Begin 0 word ∷ Entry.Begin 1 next_row ∷ Entry.Watch 1 word ∷ []) ≡ Some 0 }
-    ensures comer { last_of (comer_in (small_machine 4096) 1) (Entry.Begin 0 word ∷ Entry.Watch 1 word ∷ Entry.Miss 0 word ∷ Entry.Watch 0 next_row ∷ []) ≡ Some 1 }
+    ensures comer { last_of (comer_in (small_machine 4096) 1) (Entry.Begin 0 word ∷ Entry.Watch 1 word ∷ Entry.Miss 0 word
+        ∷ Entry.Watch 0 next_row ∷ []) ≡ Some 1 }
     ensures no_comer { last_of (comer_in (small_machine 4096) 1) (Entry.Begin 0 next_row ∷ Entry.End 0 word ∷ []) ≡ None }
     ensures names { name_of (Some 0) ≡ 1 }
     ensures no_name { name_of None ≡ 0 }

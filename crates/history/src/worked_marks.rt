@@ -72,5 +72,6 @@ pub fn undisturbed_rows()
 
 /// An undisturbed row has the bytes that it had when it was read.
 pub fn undisturbed_rows_are_kept(accesses: &[Entry], thread: u32, row: u32)
-    ensures { (since : IsUnwrittenSince small_memory accesses.now thread row) → KeepsRow 0 row (bytes_after_these since.before) (bytes_after_these accesses.now) }
+    ensures { (since : IsUnwrittenSince small_memory accesses.now thread row)
+        → KeepsRow 0 row (bytes_after_these since.before) (bytes_after_these accesses.now) }
 {}

@@ -10,8 +10,10 @@ use crate::entry::{Cause, Entry};
 /// Loads and stores of each kind, a store-exclusive that fails and CLREX are finished operations, one behind another; what
 /// lacks its end is none.
 pub fn finished_operations()
-    ensures loads { AreFinished 0 (Entry.Read 0 word 0 false ∷ Entry.Watch 0 word ∷ Entry.Read 0 word 0 true ∷ Entry.Miss 0 word ∷ Entry.Read 0 word 0 true ∷ []) }
-    ensures stores { AreFinished 0 (Entry.Begin 0 word ∷ Entry.Write 0 word 5 false ∷ Entry.End 0 word ∷ Entry.Begin 0 word ∷ Entry.Write 0 word 9 true ∷ Entry.End 0 word ∷ []) }
+    ensures loads { AreFinished 0 (Entry.Read 0 word 0 false ∷ Entry.Watch 0 word ∷ Entry.Read 0 word 0 true ∷ Entry.Miss 0 word
+        ∷ Entry.Read 0 word 0 true ∷ []) }
+    ensures stores { AreFinished 0 (Entry.Begin 0 word ∷ Entry.Write 0 word 5 false ∷ Entry.End 0 word ∷ Entry.Begin 0 word
+        ∷ Entry.Write 0 word 9 true ∷ Entry.End 0 word ∷ []) }
     ensures others { AreFinished 0 (Entry.Fail 0 word 9 Cause.Lost ∷ Entry.Clear 0 ∷ []) }
     ensures watching { ¬ AreFinished 0 (Entry.Watch 0 word ∷ []) }
     ensures writing { ¬ AreFinished 0 (Entry.Begin 0 word ∷ Entry.Write 0 word 5 false ∷ []) }

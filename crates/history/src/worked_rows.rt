@@ -62,7 +62,8 @@ pub fn classes_of_wide_rows()
     ensures same { is_in_class (wide_machine 4096) 0 cell_before ≡ true }
     ensures next { is_in_class (wide_machine 4096) 0 next_row ≡ false }
     ensures small { is_in_class (small_machine 4096) 1 cell_before ≡ false }
-    ensures writes { writes_in_class (wide_machine 4096) 0 (Entry.Write 1 cell_before 0 false ∷ Entry.Write 1 word 0 false ∷ Entry.Write 1 next_row 0 false ∷ []) ≡ 2 }
+    ensures writes { writes_in_class (wide_machine 4096) 0 (Entry.Write 1 cell_before 0 false ∷ Entry.Write 1 word 0 false
+        ∷ Entry.Write 1 next_row 0 false ∷ []) ≡ 2 }
     ensures edges { edges_of (wide_machine 4096) 0 (Entry.Begin 1 cell_before ∷ Entry.End 1 next_row ∷ []) ≡ 1 }
     ensures writer { last_of (writer_in (wide_machine 4096) 0) (Entry.Begin 1 cell_before ∷ Entry.Begin 0 next_row ∷ []) ≡ Some 1 }
     ensures comer { last_of (comer_in (wide_machine 4096) 0) (Entry.Watch 1 cell_before ∷ Entry.Watch 0 next_row ∷ []) ≡ Some 1 }

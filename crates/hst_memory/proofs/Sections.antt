@@ -10,7 +10,7 @@ use Rattle.hst_memory.specs.declared.hands.Doing.{Doing}
 use Rattle.hst_memory.specs.declared.hands.Doing.TheVariants.{Rest, Inside, Begun, Written, Alone, Watching, Done, AloneBegun, AloneWritten}
 use Rattle.hst_memory.specs.declared.hands.Hand.{Hand}
 use Rattle.hst_memory.specs.inner.Hands.{alone_word, total_of, weight_of}
-use Rattle.hst_memory.specs.inner.Kept.{IsAlone, IsSection}
+use Rattle.hst_memory.specs.inner.Kept.{HasOneAlone, IsSection}
 
 abbrev pub weight : View Hand → ℕ
 weight v = weight_of v.doing.doing
@@ -67,7 +67,7 @@ weightless (AloneWritten place) h = absurd (omega arith)
 
 -- ---- the section after a step
 
-alone-set : (views : List (View Hand)) (i : ℕ) (v w : View Hand) → get_elem? views i ≡ some v → weight w ≡ weight v → IsAlone views → IsAlone (set views i w)
+alone-set : (views : List (View Hand)) (i : ℕ) (v w : View Hand) → get_elem? views i ≡ some v → weight w ≡ weight v → HasOneAlone views → HasOneAlone (set views i w)
 alone-set views i v w at same alone = elim (cases_eq alone.seat i) [
   | inl here ↦
       let is : alone.view ≡ v = some-injective alone.view v (sym alone.at ∙ ap (get_elem? views) here ∙ at) in
@@ -102,7 +102,7 @@ section-leave threads word views i v w small at one none fits section =
       few = ⊎_elim (λ few. inl (omega arith)) (λ alone. absurd (not-alone alone (cases_eq alone.seat i))) section.few;
     }
   where
-    not-alone : (alone : IsAlone views) → (alone.seat ≡ i) ⊎ (alone.seat ≢ i) → ⊥
+    not-alone : (alone : HasOneAlone views) → (alone.seat ≡ i) ⊎ (alone.seat ≢ i) → ⊥
     not-alone alone (inl here) =
         let is : weight alone.view ≡ weight v = ap weight (some-injective alone.view v (sym alone.at ∙ ap (get_elem? views) here ∙ at)) in
         let heavy = alone.heavy in let one' = one in omega arith

@@ -12,7 +12,7 @@ ghost use Rattle.hst_memory.specs.inner.Hands.{hand};
 ghost use Rattle.shared_memory.specs.Layout.{cell_word, tag_word};
 ghost use Rattle.hst_memory.specs.Kept.{origin_of};
 ghost use Rattle.shared_memory.specs.inner.Targets.{IsPlace, IsTarget};
-ghost use Rattle.hst_memory.specs.inner.Passes.{IsReady};
+ghost use Rattle.hst_memory.specs.inner.Passes.{MayStep};
 ghost use Rattle.shared_memory.specs.Told.{Goes};
 ghost use Rattle.shared_memory.specs.inner.Told.{ask};
 ghost use Rattle.hst_memory.specs.inner.Told.{HasLost, HasWon};
@@ -41,11 +41,12 @@ fn try_enter_alone<J: Asks>(
     value: u64,
 ) -> bool
     requires asked { J.ask ≡ ask (origin_of shared.now.key) place value }
-    requires ready { IsReady shared.now.key shared.now.table_id seat.old.table_id seat.old.me }
+    requires ready { MayStep shared.now seat.old }
     requires rest { seat.old.me.0.doing.doing ≡ Rest }
-    ensures entered { OnTrue result (Goes (origin_of shared.now.key) seat.old.me [] (hand Alone seat.old.me.0.doing.reserve) seat.new.me) }
+    ensures entered { OnTrue result
+        (Goes (origin_of shared.now.key) seat.old.me [] (hand Alone seat.old.me.0.doing.reserve) seat.new.me) }
     ensures not_yet { OnFalse result (Goes (origin_of shared.now.key) seat.old.me [] seat.old.me.0.doing seat.new.me) }
-    ensures ready { IsReady shared.now.key shared.now.table_id seat.new.table_id seat.new.me }
+    ensures ready { MayStep shared.now seat.new }
     ensures home { seat.new.table_id ≡ seat.old.table_id }
 {
     let found = shared.compare_exchange::<EnterAlone<J>>(seat, 0, 0, ALONE);
@@ -61,10 +62,10 @@ fn enter_alone<R: Wait, J: Asks>(
     value: u64,
 )
     requires asked { J.ask ≡ ask (origin_of shared.now.key) place value }
-    requires ready { IsReady shared.now.key shared.now.table_id seat.old.table_id seat.old.me }
+    requires ready { MayStep shared.now seat.old }
     requires rest { seat.old.me.0.doing.doing ≡ Rest }
     ensures goes { Goes (origin_of shared.now.key) seat.old.me [] (hand Alone seat.old.me.0.doing.reserve) seat.new.me }
-    ensures ready { IsReady shared.now.key shared.now.table_id seat.new.table_id seat.new.me }
+    ensures ready { MayStep shared.now seat.new }
     ensures home { seat.new.table_id ≡ seat.old.table_id }
 {
     let backoff = Backoff::new();
@@ -88,12 +89,13 @@ fn watch<J: Asks>(
     name: u64,
 )
     requires asked { J.ask ≡ ask (origin_of shared.now.key) place value }
-    requires ready { IsReady shared.now.key shared.now.table_id seat.old.table_id seat.old.me }
+    requires ready { MayStep shared.now seat.old }
     requires alone { seat.old.me.0.doing.doing ≡ Alone }
     requires tag { tag ≡ tag_word (class_of shared.now.key.size.classes (row_of shared.now.key.size.granule place)) }
     requires name { name ≡ seat.old.me.0.lead + 1 }
-    ensures goes { Goes (origin_of shared.now.key) seat.old.me (Entry.Watch seat.old.me.0.lead place ∷ []) (hand (Watching place) (Row (row_of shared.now.key.size.granule place))) seat.new.me }
-    ensures ready { IsReady shared.now.key shared.now.table_id seat.new.table_id seat.new.me }
+    ensures goes { Goes (origin_of shared.now.key) seat.old.me (Entry.Watch seat.old.me.0.lead place ∷ [])
+        (hand (Watching place) (Row (row_of shared.now.key.size.granule place))) seat.new.me }
+    ensures ready { MayStep shared.now seat.new }
     ensures home { seat.new.table_id ≡ seat.old.table_id }
 {
     shared.store::<Watch<J>>(seat, tag, name);
@@ -109,12 +111,14 @@ fn read_ex<J: Asks>(
     word: usize,
 ) -> u64
     requires asked { J.ask ≡ ask (origin_of shared.now.key) place value }
-    requires ready { IsReady shared.now.key shared.now.table_id seat.old.table_id seat.old.me }
+    requires ready { MayStep shared.now seat.old }
     requires watching { seat.old.me.0.doing.doing ≡ Watching place }
     requires place { IsPlace shared.now.key place }
     requires word { word ≡ cell_word shared.now.key.size (cell_of place) }
-    ensures goes { Goes (origin_of shared.now.key) seat.old.me (Entry.Read seat.old.me.0.lead place (value_in_cell result place) true ∷ []) (hand Done seat.old.me.0.doing.reserve) seat.new.me }
-    ensures ready { IsReady shared.now.key shared.now.table_id seat.new.table_id seat.new.me }
+    ensures goes { Goes (origin_of shared.now.key) seat.old.me
+        (Entry.Read seat.old.me.0.lead place (value_in_cell result place) true ∷ [])
+        (hand Done seat.old.me.0.doing.reserve) seat.new.me }
+    ensures ready { MayStep shared.now seat.new }
     ensures home { seat.new.table_id ≡ seat.old.table_id }
 {
     shared.load::<ReadEx<J>>(seat, word)
@@ -124,7 +128,7 @@ fn read_ex<J: Asks>(
 #[inline]
 fn leave_alone<J: Asks>(shared: &HstShared, seat: &mut HstSeat, place: Place, value: u64)
     requires asked { J.ask ≡ ask (origin_of shared.now.key) place value }
-    requires ready { IsReady shared.now.key shared.now.table_id seat.old.table_id seat.old.me }
+    requires ready { MayStep shared.now seat.old }
     requires done { seat.old.me.0.doing.doing ≡ Done }
     ensures goes { Goes (origin_of shared.now.key) seat.old.me [] (hand Rest seat.old.me.0.doing.reserve) seat.new.me }
     ensures home { seat.new.table_id ≡ seat.old.table_id }
@@ -141,11 +145,13 @@ pub fn load_ex_cell<R: Wait, J: Asks>(
     name: u64,
 ) -> u64
     requires asked { J.ask ≡ ask (origin_of shared.now.key) target.place target.value }
-    requires ready { IsReady shared.now.key shared.now.table_id seat.old.table_id seat.old.me }
+    requires ready { MayStep shared.now seat.old }
     requires rest { seat.old.me.0.doing.doing ≡ Rest }
     requires target { IsTarget shared.now.key target }
     requires name { name ≡ seat.old.me.0.lead + 1 }
-    ensures goes { Goes (origin_of shared.now.key) seat.old.me (entries_of_operation seat.old.me.0.lead (load_watched target.place (value_in_cell result target.place))) (hand Rest (Row (row_of shared.now.key.size.granule target.place))) seat.new.me }
+    ensures goes { Goes (origin_of shared.now.key) seat.old.me
+        (entries_of_operation seat.old.me.0.lead (load_watched target.place (value_in_cell result target.place)))
+        (hand Rest (Row (row_of shared.now.key.size.granule target.place))) seat.new.me }
     ensures home { seat.new.table_id ≡ seat.old.table_id }
 {
     let (place, value) = (target.place, target.value);
@@ -160,13 +166,13 @@ pub fn load_ex_cell<R: Wait, J: Asks>(
 #[inline]
 fn test_tag<J: Asks>(shared: &HstShared, seat: &mut HstSeat, target: Target, name: u64) -> u64
     requires asked { J.ask ≡ ask (origin_of shared.now.key) target.place target.value }
-    requires ready { IsReady shared.now.key shared.now.table_id seat.old.table_id seat.old.me }
+    requires ready { MayStep shared.now seat.old }
     requires alone { seat.old.me.0.doing ≡ hand Alone (Row (row_of shared.now.key.size.granule target.place)) }
     requires target { IsTarget shared.now.key target }
     requires name { name ≡ seat.old.me.0.lead + 1 }
     ensures won { result ≡ name → HasWon (origin_of shared.now.key) target.place seat.old.me seat.new.me }
     ensures lost { result ≢ name → HasLost (origin_of shared.now.key) target.place target.value seat.old.me seat.new.me }
-    ensures ready { IsReady shared.now.key shared.now.table_id seat.new.table_id seat.new.me }
+    ensures ready { MayStep shared.now seat.new }
     ensures home { seat.new.table_id ≡ seat.old.table_id }
 {
     shared.load::<Test<J>>(seat, target.tag)
@@ -181,12 +187,14 @@ fn try_change_alone<J: Asks>(
     cell: u64,
 ) -> u64
     requires asked { J.ask ≡ ask (origin_of shared.now.key) target.place target.value }
-    requires ready { IsReady shared.now.key shared.now.table_id seat.old.table_id seat.old.me }
+    requires ready { MayStep shared.now seat.old }
     requires begun { seat.old.me.0.doing ≡ hand (AloneBegun target.place) Nothing }
     requires target { IsTarget shared.now.key target }
-    ensures written { result ≡ cell → Goes (origin_of shared.now.key) seat.old.me (Entry.Write seat.old.me.0.lead target.place target.value true ∷ []) (hand (AloneWritten target.place) Nothing) seat.new.me }
+    ensures written { result ≡ cell
+        → Goes (origin_of shared.now.key) seat.old.me (Entry.Write seat.old.me.0.lead target.place target.value true ∷ [])
+        (hand (AloneWritten target.place) Nothing) seat.new.me }
     ensures not_yet { result ≢ cell → Goes (origin_of shared.now.key) seat.old.me [] seat.old.me.0.doing seat.new.me }
-    ensures ready { IsReady shared.now.key shared.now.table_id seat.new.table_id seat.new.me }
+    ensures ready { MayStep shared.now seat.new }
     ensures home { seat.new.table_id ≡ seat.old.table_id }
 {
     let new = put(cell, target.place, target.value);
@@ -197,10 +205,10 @@ fn try_change_alone<J: Asks>(
 #[inline]
 fn look_at_cell<J: Asks>(shared: &HstShared, seat: &mut HstSeat, target: Target) -> u64
     requires asked { J.ask ≡ ask (origin_of shared.now.key) target.place target.value }
-    requires ready { IsReady shared.now.key shared.now.table_id seat.old.table_id seat.old.me }
+    requires ready { MayStep shared.now seat.old }
     requires target { IsTarget shared.now.key target }
     ensures goes { Goes (origin_of shared.now.key) seat.old.me [] seat.old.me.0.doing seat.new.me }
-    ensures ready { IsReady shared.now.key shared.now.table_id seat.new.table_id seat.new.me }
+    ensures ready { MayStep shared.now seat.new }
     ensures home { seat.new.table_id ≡ seat.old.table_id }
 {
     look::<J>(shared, seat, target.place, target.value, target.word)
@@ -209,11 +217,13 @@ fn look_at_cell<J: Asks>(shared: &HstShared, seat: &mut HstSeat, target: Target)
 /// A store-exclusive changes its cell.
 fn change_alone<R: Wait, J: Asks>(rt: &R, shared: &HstShared, seat: &mut HstSeat, target: Target)
     requires asked { J.ask ≡ ask (origin_of shared.now.key) target.place target.value }
-    requires ready { IsReady shared.now.key shared.now.table_id seat.old.table_id seat.old.me }
+    requires ready { MayStep shared.now seat.old }
     requires begun { seat.old.me.0.doing ≡ hand (AloneBegun target.place) Nothing }
     requires target { IsTarget shared.now.key target }
-    ensures goes { Goes (origin_of shared.now.key) seat.old.me (Entry.Write seat.old.me.0.lead target.place target.value true ∷ []) (hand (AloneWritten target.place) Nothing) seat.new.me }
-    ensures ready { IsReady shared.now.key shared.now.table_id seat.new.table_id seat.new.me }
+    ensures goes { Goes (origin_of shared.now.key) seat.old.me
+        (Entry.Write seat.old.me.0.lead target.place target.value true ∷ [])
+        (hand (AloneWritten target.place) Nothing) seat.new.me }
+    ensures ready { MayStep shared.now seat.new }
     ensures home { seat.new.table_id ≡ seat.old.table_id }
 {
     let backoff = Backoff::new();
@@ -232,9 +242,10 @@ fn change_alone<R: Wait, J: Asks>(rt: &R, shared: &HstShared, seat: &mut HstSeat
 #[inline]
 fn leave_written<J: Asks>(shared: &HstShared, seat: &mut HstSeat, place: Place, value: u64)
     requires asked { J.ask ≡ ask (origin_of shared.now.key) place value }
-    requires ready { IsReady shared.now.key shared.now.table_id seat.old.table_id seat.old.me }
+    requires ready { MayStep shared.now seat.old }
     requires written { seat.old.me.0.doing ≡ hand (AloneWritten place) Nothing }
-    ensures goes { Goes (origin_of shared.now.key) seat.old.me (Entry.End seat.old.me.0.lead place ∷ []) (hand Rest Nothing) seat.new.me }
+    ensures goes { Goes (origin_of shared.now.key) seat.old.me (Entry.End seat.old.me.0.lead place ∷ [])
+        (hand Rest Nothing) seat.new.me }
     ensures home { seat.new.table_id ≡ seat.old.table_id }
 {
     shared.store::<LeaveWritten<J>>(seat, 0, 0);
@@ -250,13 +261,18 @@ pub fn store_ex_cell<R: Wait, J: Asks>(
     name: u64,
 ) -> bool
     requires asked { J.ask ≡ ask (origin_of shared.now.key) target.place target.value }
-    requires ready { IsReady shared.now.key shared.now.table_id seat.old.table_id seat.old.me }
+    requires ready { MayStep shared.now seat.old }
     requires reserved { seat.old.me.0.doing ≡ hand Rest (Row (row_of shared.now.key.size.granule target.place)) }
     requires target { IsTarget shared.now.key target }
     requires name { name ≡ seat.old.me.0.lead + 1 }
-    ensures done { OnTrue result (Goes (origin_of shared.now.key) seat.old.me (entries_of_operation seat.old.me.0.lead (store target.place target.value true)) (hand Rest Nothing) seat.new.me) }
-    ensures failed { OnFalse result (Goes (origin_of shared.now.key) seat.old.me (entries_of_operation seat.old.me.0.lead (fail target.place target.value Cause.Lost)) (hand Rest Nothing) seat.new.me) }
-    ensures exact { IsExact shared.now.key.size seat.old.me.0.lead target.place target.value result seat.old.me.0.seen seat.new.me.0.seen }
+    ensures done { OnTrue result
+        (Goes (origin_of shared.now.key) seat.old.me
+        (entries_of_operation seat.old.me.0.lead (store target.place target.value true)) (hand Rest Nothing) seat.new.me) }
+    ensures failed { OnFalse result
+        (Goes (origin_of shared.now.key) seat.old.me
+        (entries_of_operation seat.old.me.0.lead (fail target.place target.value Cause.Lost)) (hand Rest Nothing) seat.new.me) }
+    ensures exact { IsExact shared.now.key.size seat.old.me.0.lead target.place target.value result
+        seat.old.me.0.seen seat.new.me.0.seen }
     ensures home { seat.new.table_id ≡ seat.old.table_id }
 {
     let (place, value) = (target.place, target.value);
@@ -274,13 +290,15 @@ pub fn store_ex_cell<R: Wait, J: Asks>(
 /// A store-exclusive of a thread that holds no reservation on the row: it fails.
 pub fn fail_absent<J: Asks>(shared: &HstShared, seat: &mut HstSeat, target: Target)
     requires asked { J.ask ≡ ask (origin_of shared.now.key) target.place target.value }
-    requires ready { IsReady shared.now.key shared.now.table_id seat.old.table_id seat.old.me }
+    requires ready { MayStep shared.now seat.old }
     requires rest { seat.old.me.0.doing.doing ≡ Rest }
     requires other { seat.old.me.0.doing.reserve ≢ Row (row_of shared.now.key.size.granule target.place) }
     requires one { seat.old.me.0.doing.reserve ≢ Several }
     requires target { IsTarget shared.now.key target }
-    ensures goes { Goes (origin_of shared.now.key) seat.old.me (entries_of_operation seat.old.me.0.lead (fail target.place target.value Cause.Absent)) (hand Rest Nothing) seat.new.me }
-    ensures exact { IsExact shared.now.key.size seat.old.me.0.lead target.place target.value false seat.old.me.0.seen seat.new.me.0.seen }
+    ensures goes { Goes (origin_of shared.now.key) seat.old.me
+        (entries_of_operation seat.old.me.0.lead (fail target.place target.value Cause.Absent)) (hand Rest Nothing) seat.new.me }
+    ensures exact { IsExact shared.now.key.size seat.old.me.0.lead target.place target.value false
+        seat.old.me.0.seen seat.new.me.0.seen }
     ensures home { seat.new.table_id ≡ seat.old.table_id }
 {
     shared.load::<Absent<J>>(seat, 0);
@@ -289,9 +307,10 @@ pub fn fail_absent<J: Asks>(shared: &HstShared, seat: &mut HstSeat, target: Targ
 /// CLREX.
 pub fn clear_reservation<J: Asks>(shared: &HstShared, seat: &mut HstSeat)
     requires asked { J.ask.origin ≡ origin_of shared.now.key }
-    requires ready { IsReady shared.now.key shared.now.table_id seat.old.table_id seat.old.me }
+    requires ready { MayStep shared.now seat.old }
     requires rest { seat.old.me.0.doing.doing ≡ Rest }
-    ensures goes { Goes (origin_of shared.now.key) seat.old.me (entries_of_operation seat.old.me.0.lead clear) (hand Rest Nothing) seat.new.me }
+    ensures goes { Goes (origin_of shared.now.key) seat.old.me (entries_of_operation seat.old.me.0.lead clear)
+        (hand Rest Nothing) seat.new.me }
     ensures home { seat.new.table_id ≡ seat.old.table_id }
 {
     shared.load::<Clear<J>>(seat, 0);

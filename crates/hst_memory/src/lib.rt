@@ -4,8 +4,8 @@
 //! function with one atomic operation. `plain` has those of loads and stores: `load_cell`; `enter`, `set_tag`, `try_change`
 //! and `leave`, of which `store_cell` is made. `alone` has those of exclusive accesses: `try_enter_alone`, `watch`, `read_ex` and
 //! `leave_alone`, of which `load_ex_cell` is made; `test_tag`, `try_change_alone` and `leave_written`, with which `store_ex_cell`
-//! goes on; `fail_absent`, and CLREX as `clear_reservation`. `seats` splits and joins, `making` makes a memory, and `sharing`
-//! has its calls.
+//! goes on; `fail_absent`, and CLREX as `clear_reservation`. `seats` splits and joins, `making` makes a memory, and `calls`
+//! has its calls as a shared memory.
 //!
 //! What a step tells its caller is named in `plays` and said in `specs/inner/Told`. What a seat is doing is `hands`, what its
 //! thread knows by that `specs/inner/Knowledge`, and what is kept between any two steps `specs/inner/Kept`; that each step keeps
@@ -15,6 +15,7 @@
 #![tactic(auto)]
 
 mod alone;
+mod calls;
 mod hands;
 mod making;
 mod memory;
@@ -23,7 +24,6 @@ mod plain;
 mod plans;
 mod plays;
 mod seats;
-mod sharing;
 pub mod worked;
 
 pub use memory::HstMemory;

@@ -6,7 +6,7 @@ use crate::memory::HstMemory;
 use crate::passes::HstPass;
 use crate::plans::HstTable;
 use llsc_base::{Image, MachineSize};
-use shared_memory::{Plan, first_marks, first_words};
+use shared_memory::{Plan, first_marks, initial_words};
 use std::alloc::{AllocError, Global};
 use std::snapshot::Snapshot;
 
@@ -22,14 +22,21 @@ impl HstMemory {
         size: &MachineSize,
     ) -> Result<(HstMemory, HstPass), AllocError>
         requires { length image.now.bytes ≡ size.now.mem }
-        ensures origin { IfOk result (λ made. memory_origin made.0 ≡ record { size = size.now; first = size.now.threads; spare = 0; bytes = image.now.bytes; spends = false; steady = false }) }
+        ensures origin { IfOk result (λ made. memory_origin made.0 ≡ record {
+          size = size.now;
+          first = size.now.threads;
+          spare = 0;
+          bytes = image.now.bytes;
+          spends = false;
+          steady = false;
+        }) }
         ensures pass { IfOk result (λ made. pass_home made.1 ≡ memory_id made.0) }
         ensures numbers { IfOk result (λ made. (t : ℕ) → pass_numbers made.1 t ≡ nat_lt t size.now.threads) }
         ensures seen { IfOk result (λ made. pass_seen made.1 ≡ []) }
     {
         let (threads, mem) = (size.threads(), size.mem());
         prove!(mem % 8 == 0);
-        let words = first_words(alloc, image.bytes(), 1 + size.classes() as usize, 0)?;
+        let words = initial_words(alloc, image.bytes(), 1 + size.classes() as usize, 0)?;
         let plan = Plan {
             size: *size,
             first: threads,

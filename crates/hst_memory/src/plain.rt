@@ -9,7 +9,7 @@ ghost use Rattle.hst_memory.specs.inner.Hands.{hand, reserve_after};
 ghost use Rattle.shared_memory.specs.Layout.{cell_word, tag_word};
 ghost use Rattle.hst_memory.specs.Kept.{origin_of};
 ghost use Rattle.shared_memory.specs.inner.Targets.{IsPlace, IsTarget};
-ghost use Rattle.hst_memory.specs.inner.Passes.{IsReady};
+ghost use Rattle.hst_memory.specs.inner.Passes.{MayStep};
 ghost use Rattle.shared_memory.specs.Told.{Goes};
 ghost use Rattle.shared_memory.specs.inner.Told.{ask};
 
@@ -26,11 +26,12 @@ use std::sync::Wait;
 #[inline]
 pub fn load_cell<J: Asks>(shared: &HstShared, seat: &mut HstSeat, place: Place, word: usize) -> u64
     requires asked { J.ask ≡ ask (origin_of shared.now.key) place 0 }
-    requires ready { IsReady shared.now.key shared.now.table_id seat.old.table_id seat.old.me }
+    requires ready { MayStep shared.now seat.old }
     requires rest { seat.old.me.0.doing.doing ≡ Rest }
     requires place { IsPlace shared.now.key place }
     requires word { word ≡ cell_word shared.now.key.size (cell_of place) }
-    ensures goes { Goes (origin_of shared.now.key) seat.old.me (Entry.Read seat.old.me.0.lead place (value_in_cell result place) false ∷ []) seat.old.me.0.doing seat.new.me }
+    ensures goes { Goes (origin_of shared.now.key) seat.old.me
+        (Entry.Read seat.old.me.0.lead place (value_in_cell result place) false ∷ []) seat.old.me.0.doing seat.new.me }
     ensures home { seat.new.table_id ≡ seat.old.table_id }
 {
     shared.load::<Load<J>>(seat, word)
@@ -46,10 +47,10 @@ pub fn look<J: Asks>(
     word: usize,
 ) -> u64
     requires asked { J.ask ≡ ask (origin_of shared.now.key) place value }
-    requires ready { IsReady shared.now.key shared.now.table_id seat.old.table_id seat.old.me }
+    requires ready { MayStep shared.now seat.old }
     requires word { word < shared.now.table_id.words }
     ensures goes { Goes (origin_of shared.now.key) seat.old.me [] seat.old.me.0.doing seat.new.me }
-    ensures ready { IsReady shared.now.key shared.now.table_id seat.new.table_id seat.new.me }
+    ensures ready { MayStep shared.now seat.new }
     ensures home { seat.new.table_id ≡ seat.old.table_id }
 {
     shared.load::<Look<J>>(seat, word)
@@ -65,12 +66,13 @@ fn try_enter<J: Asks>(
     threads: u32,
 ) -> bool
     requires asked { J.ask ≡ ask (origin_of shared.now.key) place value }
-    requires ready { IsReady shared.now.key shared.now.table_id seat.old.table_id seat.old.me }
+    requires ready { MayStep shared.now seat.old }
     requires rest { seat.old.me.0.doing.doing ≡ Rest }
     requires threads { threads ≡ shared.now.key.size.threads }
-    ensures entered { OnTrue result (Goes (origin_of shared.now.key) seat.old.me [] (hand (Inside place) seat.old.me.0.doing.reserve) seat.new.me) }
+    ensures entered { OnTrue result
+        (Goes (origin_of shared.now.key) seat.old.me [] (hand (Inside place) seat.old.me.0.doing.reserve) seat.new.me) }
     ensures not_yet { OnFalse result (Goes (origin_of shared.now.key) seat.old.me [] seat.old.me.0.doing seat.new.me) }
-    ensures ready { IsReady shared.now.key shared.now.table_id seat.new.table_id seat.new.me }
+    ensures ready { MayStep shared.now seat.new }
     ensures home { seat.new.table_id ≡ seat.old.table_id }
 {
     let inside = look::<J>(shared, seat, place, value, 0);
@@ -90,12 +92,13 @@ fn enter<J: Asks>(
     inside: u64,
 ) -> bool
     requires asked { J.ask ≡ ask (origin_of shared.now.key) place value }
-    requires ready { IsReady shared.now.key shared.now.table_id seat.old.table_id seat.old.me }
+    requires ready { MayStep shared.now seat.old }
     requires rest { seat.old.me.0.doing.doing ≡ Rest }
     requires few { inside < shared.now.key.size.threads }
-    ensures entered { OnTrue result (Goes (origin_of shared.now.key) seat.old.me [] (hand (Inside place) seat.old.me.0.doing.reserve) seat.new.me) }
+    ensures entered { OnTrue result
+        (Goes (origin_of shared.now.key) seat.old.me [] (hand (Inside place) seat.old.me.0.doing.reserve) seat.new.me) }
     ensures not_yet { OnFalse result (Goes (origin_of shared.now.key) seat.old.me [] seat.old.me.0.doing seat.new.me) }
-    ensures ready { IsReady shared.now.key shared.now.table_id seat.new.table_id seat.new.me }
+    ensures ready { MayStep shared.now seat.new }
     ensures home { seat.new.table_id ≡ seat.old.table_id }
 {
     let found = shared.compare_exchange::<Enter<J>>(seat, 0, inside, inside + 1);
@@ -113,12 +116,13 @@ fn set_tag<J: Asks>(
     name: u64,
 )
     requires asked { J.ask ≡ ask (origin_of shared.now.key) place value }
-    requires ready { IsReady shared.now.key shared.now.table_id seat.old.table_id seat.old.me }
+    requires ready { MayStep shared.now seat.old }
     requires inside { seat.old.me.0.doing.doing ≡ Inside place }
     requires tag { tag ≡ tag_word (class_of shared.now.key.size.classes (row_of shared.now.key.size.granule place)) }
     requires name { name ≡ seat.old.me.0.lead + 1 }
-    ensures goes { Goes (origin_of shared.now.key) seat.old.me (Entry.Begin seat.old.me.0.lead place ∷ []) (hand (Begun place) (reserve_after shared.now.key.size place seat.old.me.0.doing.reserve)) seat.new.me }
-    ensures ready { IsReady shared.now.key shared.now.table_id seat.new.table_id seat.new.me }
+    ensures goes { Goes (origin_of shared.now.key) seat.old.me (Entry.Begin seat.old.me.0.lead place ∷ [])
+        (hand (Begun place) (reserve_after shared.now.key.size place seat.old.me.0.doing.reserve)) seat.new.me }
+    ensures ready { MayStep shared.now seat.new }
     ensures home { seat.new.table_id ≡ seat.old.table_id }
 {
     shared.store::<Tag<J>>(seat, tag, name);
@@ -135,14 +139,16 @@ fn try_change<J: Asks>(
     cell: u64,
 ) -> u64
     requires asked { J.ask ≡ ask (origin_of shared.now.key) place value }
-    requires ready { IsReady shared.now.key shared.now.table_id seat.old.table_id seat.old.me }
+    requires ready { MayStep shared.now seat.old }
     requires begun { seat.old.me.0.doing.doing ≡ Begun place }
     requires place { IsPlace shared.now.key place }
     requires fits { value < 256 ^ size_bytes place.size }
     requires word { word ≡ cell_word shared.now.key.size (cell_of place) }
-    ensures written { result ≡ cell → Goes (origin_of shared.now.key) seat.old.me (Entry.Write seat.old.me.0.lead place value false ∷ []) (hand (Written place) seat.old.me.0.doing.reserve) seat.new.me }
+    ensures written { result ≡ cell
+        → Goes (origin_of shared.now.key) seat.old.me (Entry.Write seat.old.me.0.lead place value false ∷ [])
+        (hand (Written place) seat.old.me.0.doing.reserve) seat.new.me }
     ensures not_yet { result ≢ cell → Goes (origin_of shared.now.key) seat.old.me [] seat.old.me.0.doing seat.new.me }
-    ensures ready { IsReady shared.now.key shared.now.table_id seat.new.table_id seat.new.me }
+    ensures ready { MayStep shared.now seat.new }
     ensures home { seat.new.table_id ≡ seat.old.table_id }
 {
     shared.compare_exchange::<Change<J>>(seat, word, cell, put(cell, place, value))
@@ -152,9 +158,10 @@ fn try_change<J: Asks>(
 #[inline]
 fn leave<J: Asks>(shared: &HstShared, seat: &mut HstSeat, place: Place, value: u64)
     requires asked { J.ask ≡ ask (origin_of shared.now.key) place value }
-    requires ready { IsReady shared.now.key shared.now.table_id seat.old.table_id seat.old.me }
+    requires ready { MayStep shared.now seat.old }
     requires written { seat.old.me.0.doing.doing ≡ Written place }
-    ensures goes { Goes (origin_of shared.now.key) seat.old.me (Entry.End seat.old.me.0.lead place ∷ []) (hand Rest seat.old.me.0.doing.reserve) seat.new.me }
+    ensures goes { Goes (origin_of shared.now.key) seat.old.me (Entry.End seat.old.me.0.lead place ∷ [])
+        (hand Rest seat.old.me.0.doing.reserve) seat.new.me }
     ensures home { seat.new.table_id ≡ seat.old.table_id }
 {
     shared.fetch_sub::<Leave<J>>(seat, 0, 1);
@@ -170,11 +177,11 @@ fn enter_shared<R: Wait, J: Asks>(
     threads: u32,
 )
     requires asked { J.ask ≡ ask (origin_of shared.now.key) place value }
-    requires ready { IsReady shared.now.key shared.now.table_id seat.old.table_id seat.old.me }
+    requires ready { MayStep shared.now seat.old }
     requires rest { seat.old.me.0.doing.doing ≡ Rest }
     requires threads { threads ≡ shared.now.key.size.threads }
     ensures goes { Goes (origin_of shared.now.key) seat.old.me [] (hand (Inside place) seat.old.me.0.doing.reserve) seat.new.me }
-    ensures ready { IsReady shared.now.key shared.now.table_id seat.new.table_id seat.new.me }
+    ensures ready { MayStep shared.now seat.new }
     ensures home { seat.new.table_id ≡ seat.old.table_id }
 {
     let backoff = Backoff::new();
@@ -197,13 +204,14 @@ fn change<R: Wait, J: Asks>(
     word: usize,
 )
     requires asked { J.ask ≡ ask (origin_of shared.now.key) place value }
-    requires ready { IsReady shared.now.key shared.now.table_id seat.old.table_id seat.old.me }
+    requires ready { MayStep shared.now seat.old }
     requires begun { seat.old.me.0.doing.doing ≡ Begun place }
     requires place { IsPlace shared.now.key place }
     requires fits { value < 256 ^ size_bytes place.size }
     requires word { word ≡ cell_word shared.now.key.size (cell_of place) }
-    ensures goes { Goes (origin_of shared.now.key) seat.old.me (Entry.Write seat.old.me.0.lead place value false ∷ []) (hand (Written place) seat.old.me.0.doing.reserve) seat.new.me }
-    ensures ready { IsReady shared.now.key shared.now.table_id seat.new.table_id seat.new.me }
+    ensures goes { Goes (origin_of shared.now.key) seat.old.me (Entry.Write seat.old.me.0.lead place value false ∷ [])
+        (hand (Written place) seat.old.me.0.doing.reserve) seat.new.me }
+    ensures ready { MayStep shared.now seat.new }
     ensures home { seat.new.table_id ≡ seat.old.table_id }
 {
     let backoff = Backoff::new();
@@ -228,12 +236,14 @@ pub fn store_cell<R: Wait, J: Asks>(
     name: u64,
 )
     requires asked { J.ask ≡ ask (origin_of shared.now.key) target.place target.value }
-    requires ready { IsReady shared.now.key shared.now.table_id seat.old.table_id seat.old.me }
+    requires ready { MayStep shared.now seat.old }
     requires rest { seat.old.me.0.doing.doing ≡ Rest }
     requires target { IsTarget shared.now.key target }
     requires threads { threads ≡ shared.now.key.size.threads }
     requires name { name ≡ seat.old.me.0.lead + 1 }
-    ensures goes { Goes (origin_of shared.now.key) seat.old.me (entries_of_operation seat.old.me.0.lead (store target.place target.value false)) (hand Rest (reserve_after shared.now.key.size target.place seat.old.me.0.doing.reserve)) seat.new.me }
+    ensures goes { Goes (origin_of shared.now.key) seat.old.me
+        (entries_of_operation seat.old.me.0.lead (store target.place target.value false))
+        (hand Rest (reserve_after shared.now.key.size target.place seat.old.me.0.doing.reserve)) seat.new.me }
     ensures home { seat.new.table_id ≡ seat.old.table_id }
 {
     let (place, value) = (target.place, target.value);

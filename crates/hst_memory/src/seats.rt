@@ -69,7 +69,8 @@ pub fn join_numbers(shared: &HstShared, seat: &mut HstSeat, other: HstSeat)
     requires rest { (seat.old.me.0.doing.doing ≡ Rest) × (other.me.0.doing.doing ≡ Rest) }
     requires leads { IsOneOf seat.old.me.0.lead (marked seat.old.me.0.numbers) × IsOneOf other.me.0.lead (marked other.me.0.numbers) }
     requires slots { other.me.1 ≡ [] }
-    ensures both { Settles (joined_view (hand Rest (reserve_joined seat.old.me.0 other.me.0)) seat.old.me.0 other.me.0, seat.old.me.1) seat.new.me }
+    ensures both { Settles
+        (joined_view (hand Rest (reserve_joined seat.old.me.0 other.me.0)) seat.old.me.0 other.me.0, seat.old.me.1) seat.new.me }
     ensures home { seat.new.table_id ≡ seat.old.table_id }
 {
     shared.join_seat::<Both>(seat, other);

@@ -20,8 +20,10 @@ pub fn undisturbed_threads()
     ensures own_store_elsewhere { IsUndisturbed (small_machine 4096) 0 word (Entry.Watch 0 word ∷ Entry.Begin 0 next_row ∷ []) }
     ensures missed { IsUndisturbed (small_machine 1) 0 word (Entry.Watch 0 word ∷ Entry.Miss 1 word ∷ Entry.Read 1 word 0 true ∷ []) }
     ensures reserved_before { IsUndisturbed (small_machine 1) 0 word (Entry.Watch 1 word ∷ Entry.Watch 0 word ∷ []) }
-    ensures begun_before { IsUndisturbed (small_machine 1) 0 word (Entry.Begin 1 word ∷ Entry.Watch 0 word ∷ Entry.Write 1 word 5 false ∷ Entry.End 1 word ∷ []) }
-    ensures reserved_again { IsUndisturbed (small_machine 1) 0 word (Entry.Watch 0 word ∷ Entry.Begin 1 word ∷ Entry.Watch 0 word ∷ []) }
+    ensures begun_before { IsUndisturbed (small_machine 1) 0 word (Entry.Begin 1 word ∷ Entry.Watch 0 word
+        ∷ Entry.Write 1 word 5 false ∷ Entry.End 1 word ∷ []) }
+    ensures reserved_again { IsUndisturbed (small_machine 1) 0 word (Entry.Watch 0 word ∷ Entry.Begin 1 word
+        ∷ Entry.Watch 0 word ∷ []) }
 {}
 
 /// A thread isn't undisturbed that holds no reservation on the row, be it that its own store in the class has ended it, or
@@ -39,26 +41,40 @@ pub fn disturbed_threads()
 /// A store-exclusive has succeeded where its thread was undisturbed before its Begin, whatever came after that.
 #[tactic(auto, unfolding(llsc_base::specs::Memory::row_of, llsc_base::specs::Memory::class_of))]
 pub fn store_exclusives_that_succeeded()
-    ensures undisturbed { IsExact (small_machine 1) 0 word 9 true (Entry.Watch 0 word ∷ []) (Entry.Watch 0 word ∷ Entry.Begin 0 word ∷ []) }
-    ensures written_elsewhere { IsExact (small_machine 4096) 0 word 9 true (Entry.Watch 0 word ∷ []) (Entry.Watch 0 word ∷ Entry.Begin 1 next_row ∷ Entry.Begin 0 word ∷ []) }
-    ensures written_after { IsExact (small_machine 1) 0 word 9 true (Entry.Watch 0 word ∷ []) (Entry.Watch 0 word ∷ Entry.Begin 0 word ∷ Entry.Begin 1 next_row ∷ []) }
-    ensures written_before { ¬ IsExact (small_machine 1) 0 word 9 true (Entry.Watch 0 word ∷ []) (Entry.Watch 0 word ∷ Entry.Begin 1 next_row ∷ Entry.Begin 0 word ∷ []) }
-    ensures reserved_by_another { ¬ IsExact (small_machine 1) 0 word 9 true (Entry.Watch 0 word ∷ []) (Entry.Watch 0 word ∷ Entry.Watch 1 next_row ∷ Entry.Begin 0 word ∷ []) }
-    ensures of_another { ¬ IsExact (small_machine 1) 0 word 9 true (Entry.Watch 0 word ∷ []) (Entry.Watch 0 word ∷ Entry.Begin 1 word ∷ []) }
-    ensures elsewhere { ¬ IsExact (small_machine 1) 0 word 9 true (Entry.Watch 0 word ∷ []) (Entry.Watch 0 word ∷ Entry.Begin 0 next_row ∷ []) }
-    ensures seen_before { ¬ IsExact (small_machine 1) 0 word 9 true (Entry.Watch 0 word ∷ Entry.Begin 0 word ∷ []) (Entry.Watch 0 word ∷ Entry.Begin 0 word ∷ []) }
+    ensures undisturbed { IsExact (small_machine 1) 0 word 9 true (Entry.Watch 0 word ∷ [])
+        (Entry.Watch 0 word ∷ Entry.Begin 0 word ∷ []) }
+    ensures written_elsewhere { IsExact (small_machine 4096) 0 word 9 true (Entry.Watch 0 word ∷ [])
+        (Entry.Watch 0 word ∷ Entry.Begin 1 next_row ∷ Entry.Begin 0 word ∷ []) }
+    ensures written_after { IsExact (small_machine 1) 0 word 9 true (Entry.Watch 0 word ∷ [])
+        (Entry.Watch 0 word ∷ Entry.Begin 0 word ∷ Entry.Begin 1 next_row ∷ []) }
+    ensures written_before { ¬ IsExact (small_machine 1) 0 word 9 true (Entry.Watch 0 word ∷ [])
+        (Entry.Watch 0 word ∷ Entry.Begin 1 next_row ∷ Entry.Begin 0 word ∷ []) }
+    ensures reserved_by_another { ¬ IsExact (small_machine 1) 0 word 9 true (Entry.Watch 0 word ∷ [])
+        (Entry.Watch 0 word ∷ Entry.Watch 1 next_row ∷ Entry.Begin 0 word ∷ []) }
+    ensures of_another { ¬ IsExact (small_machine 1) 0 word 9 true (Entry.Watch 0 word ∷ [])
+        (Entry.Watch 0 word ∷ Entry.Begin 1 word ∷ []) }
+    ensures elsewhere { ¬ IsExact (small_machine 1) 0 word 9 true (Entry.Watch 0 word ∷ [])
+        (Entry.Watch 0 word ∷ Entry.Begin 0 next_row ∷ []) }
+    ensures seen_before { ¬ IsExact (small_machine 1) 0 word 9 true (Entry.Watch 0 word ∷ Entry.Begin 0 word ∷ [])
+        (Entry.Watch 0 word ∷ Entry.Begin 0 word ∷ []) }
 {}
 
 /// A store-exclusive has failed where its thread wasn't undisturbed before its Fail, whatever came after that.
 #[tactic(auto, unfolding(llsc_base::specs::Memory::row_of, llsc_base::specs::Memory::class_of))]
 pub fn store_exclusives_that_failed()
     ensures absent { IsExact (small_machine 1) 0 word 9 false [] (Entry.Fail 0 word 9 Cause.Absent ∷ Entry.Watch 0 word ∷ []) }
-    ensures own_store { IsExact (small_machine 1) 0 word 9 false (Entry.Watch 0 word ∷ Entry.Begin 0 next_row ∷ []) (Entry.Watch 0 word ∷ Entry.Begin 0 next_row ∷ Entry.Fail 0 word 9 Cause.Absent ∷ []) }
-    ensures written { IsExact (small_machine 1) 0 word 9 false (Entry.Watch 0 word ∷ []) (Entry.Watch 0 word ∷ Entry.Begin 1 next_row ∷ Entry.Fail 0 word 9 Cause.Lost ∷ []) }
-    ensures reserved_by_another { IsExact (small_machine 1) 0 word 9 false (Entry.Watch 0 word ∷ []) (Entry.Watch 0 word ∷ Entry.Watch 1 next_row ∷ Entry.Fail 0 word 9 Cause.Lost ∷ []) }
-    ensures undisturbed { ¬ IsExact (small_machine 1) 0 word 9 false (Entry.Watch 0 word ∷ []) (Entry.Watch 0 word ∷ Entry.Fail 0 word 9 Cause.Lost ∷ []) }
-    ensures written_elsewhere { ¬ IsExact (small_machine 4096) 0 word 9 false (Entry.Watch 0 word ∷ []) (Entry.Watch 0 word ∷ Entry.Begin 1 next_row ∷ Entry.Fail 0 word 9 Cause.Lost ∷ []) }
+    ensures own_store { IsExact (small_machine 1) 0 word 9 false (Entry.Watch 0 word ∷ Entry.Begin 0 next_row ∷ [])
+        (Entry.Watch 0 word ∷ Entry.Begin 0 next_row ∷ Entry.Fail 0 word 9 Cause.Absent ∷ []) }
+    ensures written { IsExact (small_machine 1) 0 word 9 false (Entry.Watch 0 word ∷ [])
+        (Entry.Watch 0 word ∷ Entry.Begin 1 next_row ∷ Entry.Fail 0 word 9 Cause.Lost ∷ []) }
+    ensures reserved_by_another { IsExact (small_machine 1) 0 word 9 false (Entry.Watch 0 word ∷ [])
+        (Entry.Watch 0 word ∷ Entry.Watch 1 next_row ∷ Entry.Fail 0 word 9 Cause.Lost ∷ []) }
+    ensures undisturbed { ¬ IsExact (small_machine 1) 0 word 9 false (Entry.Watch 0 word ∷ [])
+        (Entry.Watch 0 word ∷ Entry.Fail 0 word 9 Cause.Lost ∷ []) }
+    ensures written_elsewhere { ¬ IsExact (small_machine 4096) 0 word 9 false (Entry.Watch 0 word ∷ [])
+        (Entry.Watch 0 word ∷ Entry.Begin 1 next_row ∷ Entry.Fail 0 word 9 Cause.Lost ∷ []) }
     ensures another_value { ¬ IsExact (small_machine 1) 0 word 9 false [] (Entry.Fail 0 word 8 Cause.Absent ∷ []) }
     ensures of_another { ¬ IsExact (small_machine 1) 0 word 9 false [] (Entry.Fail 1 word 9 Cause.Absent ∷ []) }
-    ensures seen_before { ¬ IsExact (small_machine 1) 0 word 9 false (Entry.Fail 0 word 9 Cause.Absent ∷ []) (Entry.Fail 0 word 9 Cause.Absent ∷ []) }
+    ensures seen_before { ¬ IsExact (small_machine 1) 0 word 9 false (Entry.Fail 0 word 9 Cause.Absent ∷ [])
+        (Entry.Fail 0 word 9 Cause.Absent ∷ []) }
 {}

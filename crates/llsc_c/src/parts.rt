@@ -63,7 +63,8 @@ pub extern "C" fn llsc_split(alloc: Global, thread: &mut Thread, last: &mut Thre
 /// come next; and else [`DONE`].
 #[unsafe(no_mangle)]
 pub extern "C" fn llsc_join(alloc: Global, thread: &mut Thread, next: &mut Thread) -> u32
-    requires one_memory { (mine : Handle) → (yours : Handle) → thread.old.held.handle ≡ Some mine → next.old.held.handle ≡ Some yours → arc_value yours.memory ≡ arc_value mine.memory }
+    requires one_memory { (mine : Handle) → (yours : Handle) → thread.old.held.handle ≡ Some mine → next.old.held.handle ≡ Some yours
+        → arc_value yours.memory ≡ arc_value mine.memory }
     ensures answer { result ≡ join_answer thread.old.held.handle next.old.held.handle }
     ensures joined { result ≡ DONE → IsJoined thread.old.held.handle next.old.held.handle thread.new.held.handle }
     ensures taken { result ≡ DONE → next.new.held.handle ≡ None }

@@ -8,7 +8,7 @@ use Rattle.history.specs.declared.entry.Cause.{Cause}
 use Rattle.history.specs.declared.entry.Entry.{Entry}
 use Rattle.history.specs.declared.entry.Entry.TheVariants.{Begin}
 use Rattle.shared_memory.specs.Seen.{Sees}
-use Rattle.version_rule.specs.Exact.{IsSpent, IsUndisturbed}
+use Rattle.version_rule.specs.Exact.{IsAtLimit, IsUndisturbed}
 use Rattle.version_memory.specs.Exact.{HasFailedAt, IsContended}
 use Rattle.version_memory.specs.Stands.{HasRoom, Stands}
 use Rattle.memory_handle.specs.Handles.{handle_origin, handle_seen}
@@ -48,7 +48,7 @@ pub record HasFoundSpent (addr width : ℕ) (old new : Handle) : Type 0 where
   pub place : Place
   pub place_is : IsPlaceOf addr width place
   pub sees : Adds [] old new
-  pub spent : IsSpent (handle_origin old).size place (handle_seen new)
+  pub spent : IsAtLimit (handle_origin old).size place (handle_seen new)
 
 -- a store-exclusive has succeeded: its thread was undisturbed where it began
 pub record HasStoredEx (addr width value : ℕ) (old new : Handle) : Type 0 where

@@ -90,7 +90,8 @@ impl Handle {
     #[inline]
     pub fn store(&mut self, addr: u64, width: u32, value: u64) -> Result<(), Misuse>
         ensures stored { IfOk result (λ _. HasStored addr width value self.old self.new) }
-        ensures fault { MatchResult result (λ _. store_fault self.old addr width value ≡ None) (λ misuse. (store_fault self.old addr width value ≡ Some misuse) ⊎ IsRefused self.old addr width value misuse) }
+        ensures fault { MatchResult result (λ _. store_fault self.old addr width value ≡ None)
+            (λ misuse. (store_fault self.old addr width value ≡ Some misuse) ⊎ IsRefused self.old addr width value misuse) }
         ensures busy { IfErr result (λ misuse. misuse ≡ Misuse.Busy → HasMetWrite addr width self.old self.new) }
         ensures spent { IfErr result (λ misuse. misuse ≡ Misuse.Spent → HasFoundSpent addr width self.old self.new) }
         ensures alike { AreAlike self.old self.new }

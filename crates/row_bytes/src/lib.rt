@@ -1,8 +1,9 @@
 //! Bytes in a cell of memory.
 //!
-//! Memory is kept as cells: eight aligned bytes as one number, their first byte the least significant.
-//! [`take`] is the value of a place in its cell, and [`put`] is the cell with that value set. Both are
-//! defined on the cell's eight bytes, as loads and stores of bytes are (DDI 0406C A3.3, little-endian).
+//! Memory is kept as cells: eight aligned bytes as one number, their first byte the least significant. The crate's name says
+//! row for a cell; everywhere else a row is what a reservation is held on, of one cell or of more by the granule. [`take`] is
+//! the value of a place in its cell, and [`put`] is the cell with that value set. Both are defined on the cell's eight bytes,
+//! as loads and stores of bytes are (DDI 0406C A3.3, little-endian).
 #![tactic(auto)]
 
 pub mod laws;
@@ -14,7 +15,7 @@ ghost use Rattle.row_bytes.specs.Cell.{cell_with, value_in_cell};
 use llsc_base::{Place, Size};
 
 /// The value of an aligned place, its least significant byte first, from the cell in which it lies: below 2 to the 8,
-/// 16, 32 or 64 by the place's size.
+/// 16, 32 or 64 by the place's size. It is no `take` of a list, which contracts know by the same name.
 #[inline(always)]
 pub fn take(cell: u64, place: Place) -> u64
     requires aligned { IsTrue (is_aligned place) }

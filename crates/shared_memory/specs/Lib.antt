@@ -1,5 +1,6 @@
 pub mod Origin
 pub mod Seen
+pub mod Calls
 pub mod Passes
 pub mod Rule
 pub mod Told

@@ -1,4 +1,10 @@
 //! What a call is about, and what the steps that every memory makes tell their caller.
+//!
+//! A step of a memory is one atomic operation on its table. A type that is its [`Play`], as [`Load`], says in `then` what the
+//! step tells its caller: how what the seat knows has moved on, by the number that the operation gave. That is about the call's
+//! memory, place and value, which the operation isn't given: they are the `ask` of a type that is [`Asks`], a parameter of the
+//! play and of each function on the way. A public call passes [`Brand`] for it, and its proof picks the `ask` of that: what the
+//! call was given. No value of these types is made.
 use crate::views::View;
 use atomic_table::Play;
 use std::marker::{Brand, PhantomData};

@@ -9,13 +9,12 @@ ghost use Rattle.history.specs.Cause.{KeepsLimit};
 ghost use Rattle.history.specs.Legal.{IsComplete};
 ghost use Rattle.history.specs.Monitor.{at_rest_by, monitor_after};
 ghost use Rattle.history.specs.Parts.{accesses_of, entries_of};
-ghost use Rattle.history.specs.Operation.{clear, entries_of_operation, fail, load, load_missed, load_watched, store};
-ghost use Rattle.history.specs.Started.{MayAct};
+ghost use Rattle.history.specs.Operation.{clear, load, load_missed, load_watched, store};
 ghost use Rattle.history.specs.Steady.{AreSteady};
-ghost use Rattle.history.specs.declared.entry.Cause.{Cause};
 ghost use Rattle.history.specs.declared.entry.Entry.{Entry};
 ghost use Rattle.shared_memory.specs.Origin.{Origin, IsLegalFrom};
-ghost use Rattle.shared_memory.specs.Seen.{IsFront, IsOneOf, IsSingle, IsUsedUp, SaysAllOf, Sees, all_but, joint, longer};
+ghost use Rattle.shared_memory.specs.Seen.{IsFront, IsOneOf, IsSingle, IsUsedUp, SaysAllOf, all_but, joint, longer};
+ghost use Rattle.shared_memory.specs.Calls.{DoesNothing, FailsToStore, MayUse, Performs, PerformsEither};
 
 use crate::rows::Rows;
 use llsc_base::{MachineSize, Place};
@@ -80,10 +79,10 @@ pub trait SharedMemory: Sync + Drop {
     /// A load: the value of the place, which is aligned and lies in memory, here as below.
     fn load(&self, pass: &mut Self::Pass, place: Place) -> u64
         requires memory { home pass.old ≡ id self.now }
-        requires single { (t : ℕ) × IsSingle t (numbers pass.old) × (MayAct (origin self.now).first t (seen pass.old)) }
+        requires single { MayUse (origin self.now) (numbers pass.old) (seen pass.old) }
         requires aligned { IsTrue (is_aligned place) }
         requires inside { place.addr + size_bytes place.size ≤ (origin self.now).size.mem }
-        ensures seen { (t : ℕ) → IsSingle t (numbers pass.old) → Sees (origin self.now) t (seen pass.old) (entries_of_operation t (load place result)) (seen pass.new) }
+        ensures seen { Performs (origin self.now) (numbers pass.old) (seen pass.old) (load place result) (seen pass.new) }
         ensures fits { result < 256 ^ size_bytes place.size }
         ensures memory { home pass.new ≡ home pass.old }
         ensures numbers { numbers pass.new ≡ numbers pass.old };
@@ -102,13 +101,14 @@ pub trait SharedMemory: Sync + Drop {
         value: u64,
     ) -> Result<(), Spent>
         requires memory { home pass.old ≡ id self.now }
-        requires single { (t : ℕ) × IsSingle t (numbers pass.old) × (MayAct (origin self.now).first t (seen pass.old)) }
+        requires single { MayUse (origin self.now) (numbers pass.old) (seen pass.old) }
         requires aligned { IsTrue (is_aligned place) }
         requires inside { place.addr + size_bytes place.size ≤ (origin self.now).size.mem }
         requires fits { value < 256 ^ size_bytes place.size }
-        ensures done { OnOk result ((t : ℕ) → IsSingle t (numbers pass.old) → Sees (origin self.now) t (seen pass.old) (entries_of_operation t (store place value false)) (seen pass.new)) }
+        ensures done { OnOk result
+            (Performs (origin self.now) (numbers pass.old) (seen pass.old) (store place value false) (seen pass.new)) }
         ensures spent { IfErr result (λ s. IsUsedUp (origin self.now) place s.class s.writes (seen pass.new)) }
-        ensures refused { IfErr result (λ _. (t : ℕ) → IsSingle t (numbers pass.old) → Sees (origin self.now) t (seen pass.old) [] (seen pass.new)) }
+        ensures refused { IfErr result (λ _. DoesNothing (origin self.now) (numbers pass.old) (seen pass.old) (seen pass.new)) }
         ensures memory { home pass.new ≡ home pass.old }
         ensures numbers { numbers pass.new ≡ numbers pass.old };
 
@@ -116,12 +116,11 @@ pub trait SharedMemory: Sync + Drop {
     /// another thread in the class of the row is in flight. It may wait for other threads.
     fn load_ex<R: Wait>(&self, rt: &R, pass: &mut Self::Pass, place: Place) -> u64
         requires memory { home pass.old ≡ id self.now }
-        requires single { (t : ℕ) × IsSingle t (numbers pass.old) × (MayAct (origin self.now).first t (seen pass.old)) }
+        requires single { MayUse (origin self.now) (numbers pass.old) (seen pass.old) }
         requires aligned { IsTrue (is_aligned place) }
         requires inside { place.addr + size_bytes place.size ≤ (origin self.now).size.mem }
-        ensures seen { (t : ℕ) → IsSingle t (numbers pass.old)
-            → Sees (origin self.now) t (seen pass.old) (entries_of_operation t (load_watched place result)) (seen pass.new)
-            ⊎ Sees (origin self.now) t (seen pass.old) (entries_of_operation t (load_missed place result)) (seen pass.new) }
+        ensures seen { PerformsEither (origin self.now) (numbers pass.old) (seen pass.old)
+            (load_watched place result) (load_missed place result) (seen pass.new) }
         ensures fits { result < 256 ^ size_bytes place.size }
         ensures memory { home pass.new ≡ home pass.old }
         ensures numbers { numbers pass.new ≡ numbers pass.old };
@@ -130,20 +129,22 @@ pub trait SharedMemory: Sync + Drop {
     /// failed stores nothing, and has its cause in what was seen. It may wait for other threads.
     fn store_ex<R: Wait>(&self, rt: &R, pass: &mut Self::Pass, place: Place, value: u64) -> bool
         requires memory { home pass.old ≡ id self.now }
-        requires single { (t : ℕ) × IsSingle t (numbers pass.old) × (MayAct (origin self.now).first t (seen pass.old)) }
+        requires single { MayUse (origin self.now) (numbers pass.old) (seen pass.old) }
         requires aligned { IsTrue (is_aligned place) }
         requires inside { place.addr + size_bytes place.size ≤ (origin self.now).size.mem }
         requires fits { value < 256 ^ size_bytes place.size }
-        ensures done { OnTrue result ((t : ℕ) → IsSingle t (numbers pass.old) → Sees (origin self.now) t (seen pass.old) (entries_of_operation t (store place value true)) (seen pass.new)) }
-        ensures failed { OnFalse result ((t : ℕ) → IsSingle t (numbers pass.old) → (cause : Cause) × Sees (origin self.now) t (seen pass.old) (entries_of_operation t (fail place value cause)) (seen pass.new)) }
+        ensures done { OnTrue result
+            (Performs (origin self.now) (numbers pass.old) (seen pass.old) (store place value true) (seen pass.new)) }
+        ensures failed { OnFalse result
+            (FailsToStore (origin self.now) (numbers pass.old) (seen pass.old) place value (seen pass.new)) }
         ensures memory { home pass.new ≡ home pass.old }
         ensures numbers { numbers pass.new ≡ numbers pass.old };
 
     /// CLREX: the thread holds no reservation from now on.
     fn clear_ex(&self, pass: &mut Self::Pass)
         requires memory { home pass.old ≡ id self.now }
-        requires single { (t : ℕ) × IsSingle t (numbers pass.old) × (MayAct (origin self.now).first t (seen pass.old)) }
-        ensures seen { (t : ℕ) → IsSingle t (numbers pass.old) → Sees (origin self.now) t (seen pass.old) (entries_of_operation t clear) (seen pass.new) }
+        requires single { MayUse (origin self.now) (numbers pass.old) (seen pass.old) }
+        ensures seen { Performs (origin self.now) (numbers pass.old) (seen pass.old) clear (seen pass.new) }
         ensures memory { home pass.new ≡ home pass.old }
         ensures numbers { numbers pass.new ≡ numbers pass.old };
 
@@ -182,5 +183,6 @@ pub trait SharedMemory: Sync + Drop {
         ensures few { (origin self).spends ≡ true → KeepsLimit (origin self).size (seen pass) }
         ensures steady { (origin self).steady ≡ true → AreSteady (origin self).size (seen pass) }
         ensures count { 8 * length result.0 ≡ (origin self).size.mem }
-        ensures rows { (i : ℕ) → i < length result.0 → slice_index result.0 i ≡ cell_at (monitor_after (at_rest_by (origin self).size.granule (origin self).bytes (origin self).size.threads) (accesses_of (seen pass))).memory i };
+        ensures cells { let start = at_rest_by (origin self).size.granule (origin self).bytes (origin self).size.threads in
+            (i : ℕ) → i < length result.0 → slice_index result.0 i ≡ cell_at (monitor_after start (accesses_of (seen pass))).memory i };
 }

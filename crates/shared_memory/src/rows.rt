@@ -6,11 +6,16 @@ use atomic_table::Closed;
 use std::alloc::Global;
 use std::marker::Model;
 
-/// The cells of a memory that was closed, from address 0 up. A contract sees them as a list; its elements are cells of eight
-/// bytes, whatever the granule.
+/// The cells of a memory that was closed, from address 0 up.
+///
+/// A cell is eight aligned bytes as one number, the first the least significant, whatever the granule. The name says row for
+/// it, and so does [`Rows::row`]; everywhere else a row is what a reservation is held on, of one cell or of more by the granule.
+/// A contract sees the cells as a list.
 pub struct Rows {
     closed: Closed<(), Global>,
-    first: usize,
+    /// The word of the table that is the first cell.
+    base: usize,
+    /// How many cells there are.
     count: u32,
 }
 
@@ -20,22 +25,23 @@ impl Model for Rows {
 
     ghost Value = { List ℕ };
 
-    ghost view = { λ r. take r.count (drop r.first (slots_items r.closed.words)) };
+    ghost view = { λ r. take r.count (drop r.base (slots_items r.closed.words)) };
 
-    ghost invariant = { λ r. IsFull r.closed.words × (r.first + r.count ≤ slots_len r.closed.words) × (slots_len r.closed.slots ≡ 0) };
+    ghost invariant = { λ r. IsFull r.closed.words
+        × (r.base + r.count ≤ slots_len r.closed.words) × (slots_len r.closed.slots ≡ 0) };
 }
 
 impl Rows {
-    /// So many words of a table that was closed, from one on.
-    pub fn new(closed: Closed<(), Global>, first: usize, count: u32) -> Rows
+    /// So many words of a table that was closed, from one on, as cells.
+    pub fn new(closed: Closed<(), Global>, base: usize, count: u32) -> Rows
         requires full { IsFull closed.words }
-        requires within { first + count ≤ slots_len closed.words }
+        requires within { base + count ≤ slots_len closed.words }
         requires none { slots_len closed.slots ≡ 0 }
-        ensures { result ≡ take count (drop first (slots_items closed.words)) }
+        ensures { result ≡ take count (drop base (slots_items closed.words)) }
     {
         Rows {
             closed,
-            first,
+            base,
             count,
         }
     }
@@ -47,12 +53,13 @@ impl Rows {
         self.count
     }
 
-    /// The cell of this index, from 0 up and below the count.
+    /// The cell of this index, from 0 up and below the count: the eight bytes from eight times the index up, the first the
+    /// least significant. It isn't a row of the granule.
     pub fn row(&self, i: u32) -> u64
         requires { i < length self.now }
         ensures { result ≡ slice_index self.now i }
     {
-        self.closed.word(self.first + i as usize)
+        self.closed.word(self.base + i as usize)
     }
 }
 
@@ -60,7 +67,7 @@ impl Drop for Rows {
     fn drop(self) {
         let Self {
             closed,
-            first: _,
+            base: _,
             count: _,
         } = self;
         closed.free();

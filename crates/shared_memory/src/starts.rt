@@ -1,8 +1,9 @@
 //! The contract of a memory on which guest threads start others.
 ghost use Rattle.std.specs.Prelude.{◌≡◌, ◌+◌, ◌*◌, ◌<◌, ◌≤◌, ℕ, [], true};
-ghost use Rattle.history.specs.Operation.{entries_of_operation, start};
+ghost use Rattle.history.specs.Operation.{start};
 ghost use Rattle.history.specs.Started.{child_of, is_started, starts_of};
-ghost use Rattle.shared_memory.specs.Seen.{IsSingle, Sees};
+ghost use Rattle.shared_memory.specs.Seen.{IsSingle};
+ghost use Rattle.shared_memory.specs.Calls.{DoesNothing, Performs};
 
 use crate::memory::SharedMemory;
 use std::sync::Wait;
@@ -21,9 +22,12 @@ pub trait StartMemory: SharedMemory {
     /// number. The pass's thread is one of the first, and has started fewer than it may.
     fn start(&self, pass: &mut Self::Pass, entry: u32, arg: u32) -> u32
         requires memory { Self.home pass.old ≡ Self.id self.now }
-        requires single { (t : ℕ) × IsSingle t (Self.numbers pass.old) × (t < (Self.origin self.now).first) × (starts_of t (Self.seen pass.old) < (Self.origin self.now).spare) }
-        ensures seen { (t : ℕ) → IsSingle t (Self.numbers pass.old) → Sees (Self.origin self.now) t (Self.seen pass.old) (entries_of_operation t (start result entry arg)) (Self.seen pass.new) }
-        ensures child { (t : ℕ) → IsSingle t (Self.numbers pass.old) → result ≡ child_of (Self.origin self.now).first (Self.origin self.now).spare t (starts_of t (Self.seen pass.old)) }
+        requires single { (t : ℕ) × IsSingle t (Self.numbers pass.old) × (t < (Self.origin self.now).first)
+            × (starts_of t (Self.seen pass.old) < (Self.origin self.now).spare) }
+        ensures seen { Performs (Self.origin self.now) (Self.numbers pass.old) (Self.seen pass.old)
+            (start result entry arg) (Self.seen pass.new) }
+        ensures child { (t : ℕ) → IsSingle t (Self.numbers pass.old)
+            → result ≡ child_of (Self.origin self.now).first (Self.origin self.now).spare t (starts_of t (Self.seen pass.old)) }
         ensures memory { Self.home pass.new ≡ Self.home pass.old }
         ensures numbers { Self.numbers pass.new ≡ Self.numbers pass.old };
 
@@ -32,7 +36,7 @@ pub trait StartMemory: SharedMemory {
     fn enter<R: Wait>(&self, rt: &R, pass: &mut Self::Pass)
         requires memory { Self.home pass.old ≡ Self.id self.now }
         requires single { (t : ℕ) × IsSingle t (Self.numbers pass.old) × ((Self.origin self.now).first ≤ t) }
-        ensures seen { (t : ℕ) → IsSingle t (Self.numbers pass.old) → Sees (Self.origin self.now) t (Self.seen pass.old) [] (Self.seen pass.new) }
+        ensures seen { DoesNothing (Self.origin self.now) (Self.numbers pass.old) (Self.seen pass.old) (Self.seen pass.new) }
         ensures started { (t : ℕ) → IsSingle t (Self.numbers pass.old) → is_started t (Self.seen pass.new) ≡ true }
         ensures memory { Self.home pass.new ≡ Self.home pass.old }
         ensures numbers { Self.numbers pass.new ≡ Self.numbers pass.old };

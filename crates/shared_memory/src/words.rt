@@ -1,4 +1,4 @@
-//! The words of the table of a memory that is made.
+//! The words that the table of a memory has when it is made.
 ghost use Rattle.std.specs.Prelude.{◌≡◌, ◌+◌, ◌/◌, ◌<◌, ◌≤◌, ℕ, IfOk, length, slice_index, vec_len};
 ghost use Rattle.row_bytes.specs.Cell.{cell_at};
 
@@ -6,7 +6,7 @@ use row_bytes::first_cell;
 use std::alloc::{AllocError, Global};
 
 /// The words of the table at first: so many that are 0, then the cells that spell these bytes, and then more that are 0.
-pub fn first_words(
+pub fn initial_words(
     alloc: Global,
     bytes: &[u8],
     zeros: usize,

@@ -71,12 +71,14 @@ pub fn what_is_seen()
     ensures own { Sees (made (small_machine 1) true) 0 (Entry.Clear 0 ∷ []) (Entry.Clear 0 ∷ []) (Entry.Clear 0 ∷ Entry.Clear 1 ∷ Entry.Clear 0 ∷ []) }
     ensures of_others { Sees (made (small_machine 1) true) 0 (Entry.Clear 0 ∷ []) [] (Entry.Clear 0 ∷ Entry.Clear 1 ∷ []) }
     ensures mark { Sees (made (small_machine 1) true) 0 [] (Entry.Watch 0 word ∷ []) (Entry.Watch 0 word ∷ []) }
-    ensures begun_before { Sees (made (small_machine 1) true) 0 (Entry.Begin 0 word ∷ []) (Entry.Write 0 word 5 false ∷ []) (Entry.Begin 0 word ∷ Entry.Write 0 word 5 false ∷ []) }
+    ensures begun_before { Sees (made (small_machine 1) true) 0 (Entry.Begin 0 word ∷ []) (Entry.Write 0 word 5 false ∷ [])
+        (Entry.Begin 0 word ∷ Entry.Write 0 word 5 false ∷ []) }
     ensures seen_before { ¬ Sees (made (small_machine 1) true) 0 (Entry.Clear 0 ∷ []) (Entry.Clear 0 ∷ []) (Entry.Clear 0 ∷ []) }
     ensures more_of_its_own { ¬ Sees (made (small_machine 1) true) 0 [] (Entry.Clear 0 ∷ []) (Entry.Clear 0 ∷ Entry.Clear 0 ∷ []) }
     ensures of_another { ¬ Sees (made (small_machine 1) true) 0 [] (Entry.Clear 1 ∷ []) (Entry.Clear 1 ∷ []) }
     ensures not_behind { ¬ Sees (made (small_machine 1) true) 0 (Entry.Clear 1 ∷ []) (Entry.Clear 0 ∷ []) (Entry.Clear 0 ∷ Entry.Clear 1 ∷ []) }
-    ensures not_legal_as_a_whole { ¬ Sees (made (small_machine 1) true) 0 (Entry.Begin 0 word ∷ []) (Entry.Clear 0 ∷ []) (Entry.Begin 0 word ∷ Entry.Clear 0 ∷ []) }
+    ensures not_legal_as_a_whole { ¬ Sees (made (small_machine 1) true) 0 (Entry.Begin 0 word ∷ []) (Entry.Clear 0 ∷ [])
+        (Entry.Begin 0 word ∷ Entry.Clear 0 ∷ []) }
 {}
 
 /// A class may take no write where memory counts them and the class has had the limit of them, in any of its rows, or more. It
@@ -84,12 +86,15 @@ pub fn what_is_seen()
 #[tactic(auto, unfolding(llsc_base::specs::Memory::row_of, llsc_base::specs::Memory::class_of))]
 pub fn classes_that_are_used_up()
     ensures full { IsUsedUp (made (limited_machine 2 2) true) next_row 0 2 (Entry.Write 1 cell_before 5 false ∷ Entry.Write 0 next_row 9 true ∷ []) }
-    ensures overfull { IsUsedUp (made (limited_machine 2 2) true) next_row 0 2 (Entry.Write 1 next_row 5 false ∷ Entry.Write 0 next_row 6 false ∷ Entry.Write 0 next_row 7 false ∷ []) }
+    ensures overfull { IsUsedUp (made (limited_machine 2 2) true) next_row 0 2
+        (Entry.Write 1 next_row 5 false ∷ Entry.Write 0 next_row 6 false ∷ Entry.Write 0 next_row 7 false ∷ []) }
     ensures wide_row { IsUsedUp (made (wide_limited_machine 2 2) true) word 0 2 (Entry.Write 1 cell_before 5 false ∷ Entry.Write 0 word 9 true ∷ []) }
     ensures by_its_row { ¬ IsUsedUp (made (limited_machine 2 2) true) next_row 2 2 (Entry.Write 1 cell_before 5 false ∷ Entry.Write 0 next_row 9 true ∷ []) }
-    ensures by_its_writes { ¬ IsUsedUp (made (limited_machine 2 2) true) next_row 0 3 (Entry.Write 1 next_row 5 false ∷ Entry.Write 0 next_row 6 false ∷ Entry.Write 0 next_row 7 false ∷ []) }
+    ensures by_its_writes { ¬ IsUsedUp (made (limited_machine 2 2) true) next_row 0 3
+        (Entry.Write 1 next_row 5 false ∷ Entry.Write 0 next_row 6 false ∷ Entry.Write 0 next_row 7 false ∷ []) }
     ensures one_below { ¬ IsUsedUp (made (limited_machine 2 2) true) next_row 0 2 (Entry.Write 1 cell_before 5 false ∷ []) }
     ensures in_another_class { ¬ IsUsedUp (made (limited_machine 2 2) true) next_row 0 2 (Entry.Write 1 word 5 false ∷ Entry.Write 0 beside 9 true ∷ []) }
-    ensures only_begun { ¬ IsUsedUp (made (limited_machine 2 2) true) next_row 0 2 (Entry.Write 1 next_row 5 false ∷ Entry.End 1 next_row ∷ Entry.Begin 0 next_row ∷ []) }
+    ensures only_begun { ¬ IsUsedUp (made (limited_machine 2 2) true) next_row 0 2
+        (Entry.Write 1 next_row 5 false ∷ Entry.End 1 next_row ∷ Entry.Begin 0 next_row ∷ []) }
     ensures not_counted { ¬ IsUsedUp (made (limited_machine 2 2) false) next_row 0 2 (Entry.Write 1 cell_before 5 false ∷ Entry.Write 0 next_row 9 true ∷ []) }
 {}

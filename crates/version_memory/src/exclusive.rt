@@ -12,7 +12,7 @@ ghost use Rattle.shared_memory.specs.Told.{Goes};
 ghost use Rattle.shared_memory.specs.inner.Told.{ask};
 ghost use Rattle.version_rule.specs.Told.{Decides, HasLost, IsDisturbed, IsUndisturbedAt};
 ghost use Rattle.shared_memory.specs.inner.Targets.{IsTarget};
-ghost use Rattle.version_memory.specs.inner.Passes.{IsReady};
+ghost use Rattle.version_memory.specs.inner.Passes.{MayStep};
 ghost use Rattle.version_memory.specs.inner.Stored.{HasFailed, HasStoredEx};
 
 use crate::plain::write_held;
@@ -36,14 +36,18 @@ pub struct Linked {
 #[inline]
 fn watch<J: Asks>(shared: &VersionShared, seat: &mut VersionSeat, target: Target) -> u64
     requires asked { J.ask ≡ ask (origin_of shared.now.key) target.place target.value }
-    requires ready { IsReady shared.now.key shared.now.table_id seat.old.table_id seat.old.me }
+    requires ready { MayStep shared.now seat.old }
     requires rest { seat.old.me.0.doing.doing ≡ Rest }
     requires target { IsTarget shared.now.key target }
-    ensures reserved { result % 2 ≡ 0 → Goes (origin_of shared.now.key) seat.old.me (Entry.Watch seat.old.me.0.lead target.place ∷ []) (hand (Looking target.place) (Row (row_of shared.now.key.size.granule target.place) result)) seat.new.me }
-    ensures missed { result % 2 ≢ 0 → Goes (origin_of shared.now.key) seat.old.me (Entry.Miss seat.old.me.0.lead target.place ∷ []) (hand (Looking target.place) Nothing) seat.new.me }
+    ensures reserved { result % 2 ≡ 0
+        → Goes (origin_of shared.now.key) seat.old.me (Entry.Watch seat.old.me.0.lead target.place ∷ [])
+        (hand (Looking target.place) (Row (row_of shared.now.key.size.granule target.place) result)) seat.new.me }
+    ensures missed { result % 2 ≢ 0
+        → Goes (origin_of shared.now.key) seat.old.me (Entry.Miss seat.old.me.0.lead target.place ∷ [])
+        (hand (Looking target.place) Nothing) seat.new.me }
     ensures most { result ≤ 2 * shared.now.key.size.limit }
     ensures looking { seat.new.me.0.doing.doing ≡ Looking target.place }
-    ensures ready { IsReady shared.now.key shared.now.table_id seat.new.table_id seat.new.me }
+    ensures ready { MayStep shared.now seat.new }
     ensures home { seat.new.table_id ≡ seat.old.table_id }
 {
     shared.load::<Watch<J>>(seat, target.tag)
@@ -53,13 +57,15 @@ fn watch<J: Asks>(shared: &VersionShared, seat: &mut VersionSeat, target: Target
 #[inline]
 fn try_watch<J: Asks>(shared: &VersionShared, seat: &mut VersionSeat, target: Target) -> u64
     requires asked { J.ask ≡ ask (origin_of shared.now.key) target.place target.value }
-    requires ready { IsReady shared.now.key shared.now.table_id seat.old.table_id seat.old.me }
+    requires ready { MayStep shared.now seat.old }
     requires rest { seat.old.me.0.doing.doing ≡ Rest }
     requires target { IsTarget shared.now.key target }
-    ensures reserved { result % 2 ≡ 0 → Goes (origin_of shared.now.key) seat.old.me (Entry.Watch seat.old.me.0.lead target.place ∷ []) (hand (Looking target.place) (Row (row_of shared.now.key.size.granule target.place) result)) seat.new.me }
+    ensures reserved { result % 2 ≡ 0
+        → Goes (origin_of shared.now.key) seat.old.me (Entry.Watch seat.old.me.0.lead target.place ∷ [])
+        (hand (Looking target.place) (Row (row_of shared.now.key.size.granule target.place) result)) seat.new.me }
     ensures not_yet { result % 2 ≢ 0 → Goes (origin_of shared.now.key) seat.old.me [] seat.old.me.0.doing seat.new.me }
     ensures most { result ≤ 2 * shared.now.key.size.limit }
-    ensures ready { IsReady shared.now.key shared.now.table_id seat.new.table_id seat.new.me }
+    ensures ready { MayStep shared.now seat.new }
     ensures home { seat.new.table_id ≡ seat.old.table_id }
 {
     shared.load::<TryWatch<J>>(seat, target.tag)
@@ -75,14 +81,18 @@ fn watch_within<J: Asks>(
     looks: u32,
 ) -> u64
     requires asked { J.ask ≡ ask (origin_of shared.now.key) target.place target.value }
-    requires ready { IsReady shared.now.key shared.now.table_id seat.old.table_id seat.old.me }
+    requires ready { MayStep shared.now seat.old }
     requires rest { seat.old.me.0.doing.doing ≡ Rest }
     requires target { IsTarget shared.now.key target }
-    ensures reserved { result % 2 ≡ 0 → Goes (origin_of shared.now.key) seat.old.me (Entry.Watch seat.old.me.0.lead target.place ∷ []) (hand (Looking target.place) (Row (row_of shared.now.key.size.granule target.place) result)) seat.new.me }
-    ensures missed { result % 2 ≢ 0 → Goes (origin_of shared.now.key) seat.old.me (Entry.Miss seat.old.me.0.lead target.place ∷ []) (hand (Looking target.place) Nothing) seat.new.me }
+    ensures reserved { result % 2 ≡ 0
+        → Goes (origin_of shared.now.key) seat.old.me (Entry.Watch seat.old.me.0.lead target.place ∷ [])
+        (hand (Looking target.place) (Row (row_of shared.now.key.size.granule target.place) result)) seat.new.me }
+    ensures missed { result % 2 ≢ 0
+        → Goes (origin_of shared.now.key) seat.old.me (Entry.Miss seat.old.me.0.lead target.place ∷ [])
+        (hand (Looking target.place) Nothing) seat.new.me }
     ensures most { result ≤ 2 * shared.now.key.size.limit }
     ensures looking { seat.new.me.0.doing.doing ≡ Looking target.place }
-    ensures ready { IsReady shared.now.key shared.now.table_id seat.new.table_id seat.new.me }
+    ensures ready { MayStep shared.now seat.new }
     ensures home { seat.new.table_id ≡ seat.old.table_id }
 {
     let backoff = Backoff::new();
@@ -100,10 +110,12 @@ fn watch_within<J: Asks>(
 #[inline]
 fn read_ex<J: Asks>(shared: &VersionShared, seat: &mut VersionSeat, target: Target) -> u64
     requires asked { J.ask ≡ ask (origin_of shared.now.key) target.place target.value }
-    requires ready { IsReady shared.now.key shared.now.table_id seat.old.table_id seat.old.me }
+    requires ready { MayStep shared.now seat.old }
     requires looking { seat.old.me.0.doing.doing ≡ Looking target.place }
     requires target { IsTarget shared.now.key target }
-    ensures goes { Goes (origin_of shared.now.key) seat.old.me (Entry.Read seat.old.me.0.lead target.place (value_in_cell result target.place) true ∷ []) (hand Rest seat.old.me.0.doing.reserve) seat.new.me }
+    ensures goes { Goes (origin_of shared.now.key) seat.old.me
+        (Entry.Read seat.old.me.0.lead target.place (value_in_cell result target.place) true ∷ [])
+        (hand Rest seat.old.me.0.doing.reserve) seat.new.me }
     ensures home { seat.new.table_id ≡ seat.old.table_id }
 {
     shared.load::<ReadEx<J>>(seat, target.word)
@@ -118,11 +130,17 @@ pub fn load_ex_cell<J: Asks>(
     looks: u32,
 ) -> Linked
     requires asked { J.ask ≡ ask (origin_of shared.now.key) target.place target.value }
-    requires ready { IsReady shared.now.key shared.now.table_id seat.old.table_id seat.old.me }
+    requires ready { MayStep shared.now seat.old }
     requires rest { seat.old.me.0.doing.doing ≡ Rest }
     requires target { IsTarget shared.now.key target }
-    ensures reserved { result.tag % 2 ≡ 0 → Goes (origin_of shared.now.key) seat.old.me (entries_of_operation seat.old.me.0.lead (load_watched target.place (value_in_cell result.cell target.place))) (hand Rest (Row (row_of shared.now.key.size.granule target.place) result.tag)) seat.new.me }
-    ensures missed { result.tag % 2 ≢ 0 → Goes (origin_of shared.now.key) seat.old.me (entries_of_operation seat.old.me.0.lead (load_missed target.place (value_in_cell result.cell target.place))) (hand Rest Nothing) seat.new.me }
+    ensures reserved { result.tag % 2 ≡ 0
+        → Goes (origin_of shared.now.key) seat.old.me
+        (entries_of_operation seat.old.me.0.lead (load_watched target.place (value_in_cell result.cell target.place)))
+        (hand Rest (Row (row_of shared.now.key.size.granule target.place) result.tag)) seat.new.me }
+    ensures missed { result.tag % 2 ≢ 0
+        → Goes (origin_of shared.now.key) seat.old.me
+        (entries_of_operation seat.old.me.0.lead (load_missed target.place (value_in_cell result.cell target.place)))
+        (hand Rest Nothing) seat.new.me }
     ensures short { result.tag ≤ 2 ^ 63 }
     ensures home { seat.new.table_id ≡ seat.old.table_id }
 {
@@ -140,14 +158,19 @@ fn claim_ex<J: Asks>(
     version: u64,
 ) -> u64
     requires asked { J.ask ≡ ask (origin_of shared.now.key) target.place target.value }
-    requires ready { IsReady shared.now.key shared.now.table_id seat.old.table_id seat.old.me }
+    requires ready { MayStep shared.now seat.old }
     requires reserved { seat.old.me.0.doing ≡ hand Rest (Row (row_of shared.now.key.size.granule target.place) version) }
     requires target { IsTarget shared.now.key target }
     requires short { version ≤ 2 ^ 63 }
     requires room { version ≢ 2 * shared.now.key.size.limit }
-    ensures won { result ≡ version → Decides (origin_of shared.now.key) seat.old.me (Entry.Begin seat.old.me.0.lead target.place ∷ []) (IsUndisturbedAt (ask (origin_of shared.now.key) target.place target.value) seat.old.me.0.lead version) (hand (Claimed target.place version true) Nothing) seat.new.me }
-    ensures lost { result ≢ version → Decides (origin_of shared.now.key) seat.old.me (Entry.Fail seat.old.me.0.lead target.place target.value Cause.Lost ∷ []) (HasLost (ask (origin_of shared.now.key) target.place target.value) seat.old.me.0.lead) (hand Rest Nothing) seat.new.me }
-    ensures ready { IsReady shared.now.key shared.now.table_id seat.new.table_id seat.new.me }
+    ensures won { result ≡ version → Decides (origin_of shared.now.key) seat.old.me
+        (Entry.Begin seat.old.me.0.lead target.place ∷ [])
+        (IsUndisturbedAt (ask (origin_of shared.now.key) target.place target.value) seat.old.me.0.lead version)
+        (hand (Claimed target.place version true) Nothing) seat.new.me }
+    ensures lost { result ≢ version → Decides (origin_of shared.now.key) seat.old.me
+        (Entry.Fail seat.old.me.0.lead target.place target.value Cause.Lost ∷ [])
+        (HasLost (ask (origin_of shared.now.key) target.place target.value) seat.old.me.0.lead) (hand Rest Nothing) seat.new.me }
+    ensures ready { MayStep shared.now seat.new }
     ensures home { seat.new.table_id ≡ seat.old.table_id }
 {
     shared.compare_exchange::<ClaimEx<J>>(seat, target.tag, version, version + 1)
@@ -162,11 +185,14 @@ fn fail_limited<J: Asks>(
     version: u64,
 )
     requires asked { J.ask ≡ ask (origin_of shared.now.key) target.place target.value }
-    requires ready { IsReady shared.now.key shared.now.table_id seat.old.table_id seat.old.me }
+    requires ready { MayStep shared.now seat.old }
     requires reserved { seat.old.me.0.doing ≡ hand Rest (Row (row_of shared.now.key.size.granule target.place) version) }
     requires target { IsTarget shared.now.key target }
     requires limit { version ≡ 2 * shared.now.key.size.limit }
-    ensures decides { Decides (origin_of shared.now.key) seat.old.me (Entry.Fail seat.old.me.0.lead target.place target.value Cause.Limit ∷ []) (IsDisturbed (ask (origin_of shared.now.key) target.place target.value) seat.old.me.0.lead) (hand Rest Nothing) seat.new.me }
+    ensures decides { Decides (origin_of shared.now.key) seat.old.me
+        (Entry.Fail seat.old.me.0.lead target.place target.value Cause.Limit ∷ [])
+        (IsDisturbed (ask (origin_of shared.now.key) target.place target.value) seat.old.me.0.lead)
+        (hand Rest Nothing) seat.new.me }
     ensures home { seat.new.table_id ≡ seat.old.table_id }
 {
     shared.load::<Limited<J>>(seat, 0);
@@ -182,12 +208,13 @@ pub fn store_ex_cell<J: Asks>(
     limit: u64,
 ) -> Option<u64>
     requires asked { J.ask ≡ ask (origin_of shared.now.key) target.place target.value }
-    requires ready { IsReady shared.now.key shared.now.table_id seat.old.table_id seat.old.me }
+    requires ready { MayStep shared.now seat.old }
     requires reserved { seat.old.me.0.doing ≡ hand Rest (Row (row_of shared.now.key.size.granule target.place) version) }
     requires target { IsTarget shared.now.key target }
     requires short { version ≤ 2 ^ 63 }
     requires limit { limit ≡ shared.now.key.size.limit }
-    ensures done { IfSome result (λ stamp. HasStoredEx (origin_of shared.now.key) target.place target.value stamp seat.old.me seat.new.me) }
+    ensures done { IfSome result
+        (λ stamp. HasStoredEx (origin_of shared.now.key) target.place target.value stamp seat.old.me seat.new.me) }
     ensures failed { result ≡ None → HasFailed (origin_of shared.now.key) target.place target.value seat.old.me seat.new.me }
     ensures home { seat.new.table_id ≡ seat.old.table_id }
 {
@@ -207,7 +234,7 @@ pub fn store_ex_cell<J: Asks>(
 #[inline]
 pub fn fail_absent<J: Asks>(shared: &VersionShared, seat: &mut VersionSeat, target: Target)
     requires asked { J.ask ≡ ask (origin_of shared.now.key) target.place target.value }
-    requires ready { IsReady shared.now.key shared.now.table_id seat.old.table_id seat.old.me }
+    requires ready { MayStep shared.now seat.old }
     requires rest { seat.old.me.0.doing.doing ≡ Rest }
     requires other { (version : ℕ) → seat.old.me.0.doing.reserve ≢ Row (row_of shared.now.key.size.granule target.place) version }
     requires one { seat.old.me.0.doing.reserve ≢ Several }
@@ -222,9 +249,10 @@ pub fn fail_absent<J: Asks>(shared: &VersionShared, seat: &mut VersionSeat, targ
 #[inline]
 pub fn clear_reservation<J: Asks>(shared: &VersionShared, seat: &mut VersionSeat)
     requires asked { J.ask.origin ≡ origin_of shared.now.key }
-    requires ready { IsReady shared.now.key shared.now.table_id seat.old.table_id seat.old.me }
+    requires ready { MayStep shared.now seat.old }
     requires rest { seat.old.me.0.doing.doing ≡ Rest }
-    ensures goes { Goes (origin_of shared.now.key) seat.old.me (entries_of_operation seat.old.me.0.lead clear) (hand Rest Nothing) seat.new.me }
+    ensures goes { Goes (origin_of shared.now.key) seat.old.me (entries_of_operation seat.old.me.0.lead clear)
+        (hand Rest Nothing) seat.new.me }
     ensures home { seat.new.table_id ≡ seat.old.table_id }
 {
     shared.load::<Clear<J>>(seat, 0);

@@ -9,12 +9,14 @@
 //! makes a memory, `leaving` looks at one that all threads have left, and `pauses` says how long a thread waits whose
 //! store-exclusives failed.
 //!
-//! Its calls are in `sharing`, those by which threads start others in `starting`, those that wait for nobody in `now`, and those
-//! of accesses that give their stamps in `stamps`. `specs/Stands` says where an entry stands in what a pass has seen, and what
-//! was so before it; `specs/Exact` says when a store-exclusive has failed, and when a store that is tried once is not done;
-//! [`worked`] has small cases, what holds and what doesn't.
+//! Its calls as a shared memory are in `calls`, those by which threads start others in `starting`, those that wait for nobody
+//! in `now`, and those of accesses that give their stamps in `stamps`. A store-exclusive is made in `store_ex_stamped`:
+//! `store_ex_now` drops its stamp, and `store_ex` besides keeps count of the pauses of its thread. `specs/Stands` says where an
+//! entry stands in what a pass has seen, and what was so before it; `specs/Exact` says when a store-exclusive has failed, and
+//! when a store that is tried once is not done; [`worked`] has small cases, what holds and what doesn't.
 #![tactic(auto)]
 
+mod calls;
 mod exclusive;
 mod leaving;
 mod making;
@@ -24,7 +26,6 @@ mod passes;
 mod pauses;
 mod plain;
 mod seats;
-mod sharing;
 mod stamped;
 mod stamps;
 mod starting;

@@ -5,7 +5,7 @@ ghost use Rattle.version_memory.specs.Memory.{memory_id, memory_origin, pass_hom
 use crate::memory::VersionMemory;
 use crate::passes::VersionPass;
 use llsc_base::{Image, MachineSize};
-use shared_memory::{Plan, first_marks, first_words};
+use shared_memory::{Plan, first_marks, initial_words};
 use std::alloc::{AllocError, Global};
 use std::snapshot::Snapshot;
 use version_rule::VersionTable;
@@ -22,7 +22,14 @@ impl VersionMemory {
         size: &MachineSize,
     ) -> Result<(VersionMemory, VersionPass), AllocError>
         requires { length image.now.bytes ≡ size.now.mem }
-        ensures origin { IfOk result (λ made. memory_origin made.0 ≡ record { size = size.now; first = size.now.threads; spare = 0; bytes = image.now.bytes; spends = true; steady = true }) }
+        ensures origin { IfOk result (λ made. memory_origin made.0 ≡ record {
+          size = size.now;
+          first = size.now.threads;
+          spare = 0;
+          bytes = image.now.bytes;
+          spends = true;
+          steady = true;
+        }) }
         ensures pass { IfOk result (λ made. pass_home made.1 ≡ memory_id made.0) }
         ensures numbers { IfOk result (λ made. (t : ℕ) → pass_numbers made.1 t ≡ nat_lt t size.now.threads) }
         ensures seen { IfOk result (λ made. pass_seen made.1 ≡ []) }
@@ -47,7 +54,14 @@ impl VersionMemory {
         requires bytes { length image.now.bytes ≡ size.now.mem }
         requires some { 1 ≤ first }
         requires all { first * (1 + spare) ≡ size.now.threads }
-        ensures origin { IfOk result (λ made. memory_origin made.0 ≡ record { size = size.now; first = first; spare = spare; bytes = image.now.bytes; spends = true; steady = true }) }
+        ensures origin { IfOk result (λ made. memory_origin made.0 ≡ record {
+          size = size.now;
+          first = first;
+          spare = spare;
+          bytes = image.now.bytes;
+          spends = true;
+          steady = true;
+        }) }
         ensures pass { IfOk result (λ made. pass_home made.1 ≡ memory_id made.0) }
         ensures numbers { IfOk result (λ made. (t : ℕ) → pass_numbers made.1 t ≡ nat_lt t size.now.threads) }
         ensures seen { IfOk result (λ made. pass_seen made.1 ≡ []) }
@@ -56,7 +70,7 @@ impl VersionMemory {
         prove!(mem % 8 == 0);
         prove!(limit <= 1 << 62);
         let (tags, starts) = (1 + size.classes() as usize, (threads - first) as usize);
-        let words = first_words(alloc, image.bytes(), tags, starts)?;
+        let words = initial_words(alloc, image.bytes(), tags, starts)?;
         let plan = Plan {
             size: *size,
             first,

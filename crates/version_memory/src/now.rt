@@ -2,14 +2,13 @@
 ghost use Rattle.std.specs.Prelude.{◌≡◌, ◌+◌, ◌^◌, ◌<◌, ◌≤◌, ℕ, [], IfErr, IfOk, IsTrue, false, true};
 ghost use Rattle.std.specs.Bool.{OnFalse, OnTrue};
 ghost use Rattle.llsc_base.specs.Memory.{is_aligned, size_bytes};
-ghost use Rattle.history.specs.Operation.{entries_of_operation, fail, load_missed, load_watched, store};
-ghost use Rattle.history.specs.declared.entry.Cause.{Cause};
-ghost use Rattle.history.specs.Started.{MayAct};
-ghost use Rattle.shared_memory.specs.Seen.{IsSingle, IsUsedUp, Sees};
-ghost use Rattle.version_rule.specs.Exact.{IsSpent, IsUndisturbed};
+ghost use Rattle.history.specs.Operation.{load_missed, load_watched, store};
+ghost use Rattle.shared_memory.specs.Seen.{IsSingle, IsUsedUp};
+ghost use Rattle.version_rule.specs.Exact.{IsAtLimit, IsUndisturbed};
 ghost use Rattle.version_memory.specs.Exact.{HasFailedAt, IsContended};
 ghost use Rattle.version_memory.specs.Memory.{memory_id, memory_origin, pass_home, pass_numbers, pass_seen};
 ghost use Rattle.version_memory.specs.Stands.{HasRoom, Stands};
+ghost use Rattle.shared_memory.specs.Calls.{DoesNothing, FailsToStore, MayUse, Performs};
 
 use crate::exclusive::load_ex_cell;
 use crate::memory::VersionMemory;
@@ -32,11 +31,13 @@ impl VersionMemory {
         looks: u32,
     ) -> (u64, bool)
         requires memory { pass_home pass.old ≡ memory_id self.now }
-        requires single { (t : ℕ) × IsSingle t (pass_numbers pass.old) × (MayAct (memory_origin self.now).first t (pass_seen pass.old)) }
+        requires single { MayUse (memory_origin self.now) (pass_numbers pass.old) (pass_seen pass.old) }
         requires aligned { IsTrue (is_aligned place) }
         requires inside { place.addr + size_bytes place.size ≤ (memory_origin self.now).size.mem }
-        ensures reserved { OnTrue result.1 ((t : ℕ) → IsSingle t (pass_numbers pass.old) → Sees (memory_origin self.now) t (pass_seen pass.old) (entries_of_operation t (load_watched place result.0)) (pass_seen pass.new)) }
-        ensures missed { OnFalse result.1 ((t : ℕ) → IsSingle t (pass_numbers pass.old) → Sees (memory_origin self.now) t (pass_seen pass.old) (entries_of_operation t (load_missed place result.0)) (pass_seen pass.new)) }
+        ensures reserved { OnTrue result.1 (Performs (memory_origin self.now) (pass_numbers pass.old) (pass_seen pass.old)
+            (load_watched place result.0) (pass_seen pass.new)) }
+        ensures missed { OnFalse result.1 (Performs (memory_origin self.now) (pass_numbers pass.old) (pass_seen pass.old)
+            (load_missed place result.0) (pass_seen pass.new)) }
         ensures fits { result.0 < 256 ^ size_bytes place.size }
         ensures memory { pass_home pass.new ≡ pass_home pass.old }
         ensures numbers { pass_numbers pass.new ≡ pass_numbers pass.old }
@@ -59,11 +60,13 @@ impl VersionMemory {
     /// unless a write of another thread in the class of the row is in flight.
     pub fn load_ex_now(&self, pass: &mut VersionPass, place: Place) -> (u64, bool)
         requires memory { pass_home pass.old ≡ memory_id self.now }
-        requires single { (t : ℕ) × IsSingle t (pass_numbers pass.old) × (MayAct (memory_origin self.now).first t (pass_seen pass.old)) }
+        requires single { MayUse (memory_origin self.now) (pass_numbers pass.old) (pass_seen pass.old) }
         requires aligned { IsTrue (is_aligned place) }
         requires inside { place.addr + size_bytes place.size ≤ (memory_origin self.now).size.mem }
-        ensures reserved { OnTrue result.1 ((t : ℕ) → IsSingle t (pass_numbers pass.old) → Sees (memory_origin self.now) t (pass_seen pass.old) (entries_of_operation t (load_watched place result.0)) (pass_seen pass.new)) }
-        ensures missed { OnFalse result.1 ((t : ℕ) → IsSingle t (pass_numbers pass.old) → Sees (memory_origin self.now) t (pass_seen pass.old) (entries_of_operation t (load_missed place result.0)) (pass_seen pass.new)) }
+        ensures reserved { OnTrue result.1 (Performs (memory_origin self.now) (pass_numbers pass.old) (pass_seen pass.old)
+            (load_watched place result.0) (pass_seen pass.new)) }
+        ensures missed { OnFalse result.1 (Performs (memory_origin self.now) (pass_numbers pass.old) (pass_seen pass.old)
+            (load_missed place result.0) (pass_seen pass.new)) }
         ensures fits { result.0 < 256 ^ size_bytes place.size }
         ensures memory { pass_home pass.new ≡ pass_home pass.old }
         ensures numbers { pass_numbers pass.new ≡ pass_numbers pass.old }
@@ -76,17 +79,23 @@ impl VersionMemory {
     /// since, and the class may take another.
     pub fn store_ex_now(&self, pass: &mut VersionPass, place: Place, value: u64) -> bool
         requires memory { pass_home pass.old ≡ memory_id self.now }
-        requires single { (t : ℕ) × IsSingle t (pass_numbers pass.old) × (MayAct (memory_origin self.now).first t (pass_seen pass.old)) }
+        requires single { MayUse (memory_origin self.now) (pass_numbers pass.old) (pass_seen pass.old) }
         requires aligned { IsTrue (is_aligned place) }
         requires inside { place.addr + size_bytes place.size ≤ (memory_origin self.now).size.mem }
         requires fits { value < 256 ^ size_bytes place.size }
-        ensures done { OnTrue result ((t : ℕ) → IsSingle t (pass_numbers pass.old) → Sees (memory_origin self.now) t (pass_seen pass.old) (entries_of_operation t (store place value true)) (pass_seen pass.new)) }
-        ensures failed { OnFalse result ((t : ℕ) → IsSingle t (pass_numbers pass.old) → (cause : Cause) × Sees (memory_origin self.now) t (pass_seen pass.old) (entries_of_operation t (fail place value cause)) (pass_seen pass.new)) }
-        ensures exact_done { OnTrue result ((t : ℕ) → IsSingle t (pass_numbers pass.old) → Stands (IsUndisturbed (memory_origin self.now).size t place) (Entry.Begin t place) (pass_seen pass.old) (pass_seen pass.new)) }
-        ensures exact_failed { OnFalse result ((t : ℕ) → IsSingle t (pass_numbers pass.old) → HasFailedAt (memory_origin self.now).size t place value (pass_seen pass.old) (pass_seen pass.new)) }
+        ensures done { OnTrue result (Performs (memory_origin self.now) (pass_numbers pass.old) (pass_seen pass.old)
+            (store place value true) (pass_seen pass.new)) }
+        ensures failed { OnFalse result (FailsToStore (memory_origin self.now) (pass_numbers pass.old) (pass_seen pass.old)
+            place value (pass_seen pass.new)) }
+        ensures exact_done { OnTrue result ((t : ℕ) → IsSingle t (pass_numbers pass.old)
+            → Stands (IsUndisturbed (memory_origin self.now).size t place) (Entry.Begin t place)
+            (pass_seen pass.old) (pass_seen pass.new)) }
+        ensures exact_failed { OnFalse result ((t : ℕ) → IsSingle t (pass_numbers pass.old)
+            → HasFailedAt (memory_origin self.now).size t place value (pass_seen pass.old) (pass_seen pass.new)) }
         ensures memory { pass_home pass.new ≡ pass_home pass.old }
         ensures numbers { pass_numbers pass.new ≡ pass_numbers pass.old }
     {
+        // It needs no stamp, and is otherwise the stamped one.
         self.store_ex_stamped(pass, place, value).is_some()
     }
 
@@ -100,17 +109,24 @@ impl VersionMemory {
     /// stored.
     pub fn store_now(&self, pass: &mut VersionPass, place: Place, value: u64) -> Result<bool, Spent>
         requires memory { pass_home pass.old ≡ memory_id self.now }
-        requires single { (t : ℕ) × IsSingle t (pass_numbers pass.old) × (MayAct (memory_origin self.now).first t (pass_seen pass.old)) }
+        requires single { MayUse (memory_origin self.now) (pass_numbers pass.old) (pass_seen pass.old) }
         requires aligned { IsTrue (is_aligned place) }
         requires inside { place.addr + size_bytes place.size ≤ (memory_origin self.now).size.mem }
         requires fits { value < 256 ^ size_bytes place.size }
-        ensures done { IfOk result (λ done. OnTrue done ((t : ℕ) → IsSingle t (pass_numbers pass.old) → Sees (memory_origin self.now) t (pass_seen pass.old) (entries_of_operation t (store place value false)) (pass_seen pass.new))) }
-        ensures room { IfOk result (λ done. OnTrue done ((t : ℕ) → IsSingle t (pass_numbers pass.old) → HasRoom (memory_origin self.now).size place (Entry.Begin t place) (pass_seen pass.old) (pass_seen pass.new))) }
-        ensures contended { IfOk result (λ done. OnFalse done (IsContended (memory_origin self.now).size place (pass_seen pass.old) (pass_seen pass.new))) }
-        ensures not_yet { IfOk result (λ done. OnFalse done ((t : ℕ) → IsSingle t (pass_numbers pass.old) → Sees (memory_origin self.now) t (pass_seen pass.old) [] (pass_seen pass.new))) }
+        ensures done { IfOk result
+            (λ done. OnTrue done (Performs (memory_origin self.now) (pass_numbers pass.old) (pass_seen pass.old)
+            (store place value false) (pass_seen pass.new))) }
+        ensures room { IfOk result (λ done. OnTrue done ((t : ℕ) → IsSingle t (pass_numbers pass.old)
+            → HasRoom (memory_origin self.now).size place (Entry.Begin t place) (pass_seen pass.old) (pass_seen pass.new))) }
+        ensures contended { IfOk result
+            (λ done. OnFalse done (IsContended (memory_origin self.now).size place (pass_seen pass.old) (pass_seen pass.new))) }
+        ensures not_yet { IfOk result
+            (λ done. OnFalse done (DoesNothing (memory_origin self.now) (pass_numbers pass.old) (pass_seen pass.old)
+            (pass_seen pass.new))) }
         ensures spent { IfErr result (λ s. IsUsedUp (memory_origin self.now) place s.class s.writes (pass_seen pass.new)) }
-        ensures exact { IfErr result (λ _. IsSpent (memory_origin self.now).size place (pass_seen pass.new)) }
-        ensures refused { IfErr result (λ _. (t : ℕ) → IsSingle t (pass_numbers pass.old) → Sees (memory_origin self.now) t (pass_seen pass.old) [] (pass_seen pass.new)) }
+        ensures exact { IfErr result (λ _. IsAtLimit (memory_origin self.now).size place (pass_seen pass.new)) }
+        ensures refused { IfErr result (λ _. DoesNothing (memory_origin self.now) (pass_numbers pass.old) (pass_seen pass.old)
+            (pass_seen pass.new)) }
         ensures memory { pass_home pass.new ≡ pass_home pass.old }
         ensures numbers { pass_numbers pass.new ≡ pass_numbers pass.old }
     {

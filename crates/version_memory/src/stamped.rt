@@ -11,7 +11,7 @@ ghost use Rattle.shared_memory.specs.Told.{Goes};
 ghost use Rattle.shared_memory.specs.inner.Told.{ask};
 ghost use Rattle.version_rule.specs.Told.{Decides};
 ghost use Rattle.shared_memory.specs.inner.Targets.{IsTarget};
-ghost use Rattle.version_memory.specs.inner.Passes.{IsReady};
+ghost use Rattle.version_memory.specs.inner.Passes.{MayStep};
 ghost use Rattle.version_memory.specs.inner.Stored.{HasLoaded, HasLoadedEx};
 
 use crate::exclusive::Linked;
@@ -34,13 +34,14 @@ pub struct Found {
 #[inline]
 fn find_version<J: Asks>(shared: &VersionShared, seat: &mut VersionSeat, target: Target) -> u64
     requires asked { J.ask ≡ ask (origin_of shared.now.key) target.place target.value }
-    requires ready { IsReady shared.now.key shared.now.table_id seat.old.table_id seat.old.me }
+    requires ready { MayStep shared.now seat.old }
     requires rest { seat.old.me.0.doing.doing ≡ Rest }
     requires target { IsTarget shared.now.key target }
-    ensures found { result % 2 ≡ 0 → Goes (origin_of shared.now.key) seat.old.me [] (hand (First target.place result) seat.old.me.0.doing.reserve) seat.new.me }
+    ensures found { result % 2 ≡ 0 → Goes (origin_of shared.now.key) seat.old.me []
+        (hand (First target.place result) seat.old.me.0.doing.reserve) seat.new.me }
     ensures not_yet { result % 2 ≢ 0 → Goes (origin_of shared.now.key) seat.old.me [] seat.old.me.0.doing seat.new.me }
     ensures most { result ≤ 2 * shared.now.key.size.limit }
-    ensures ready { IsReady shared.now.key shared.now.table_id seat.new.table_id seat.new.me }
+    ensures ready { MayStep shared.now seat.new }
     ensures home { seat.new.table_id ≡ seat.old.table_id }
 {
     shared.load::<FirstLook<J>>(seat, target.tag)
@@ -55,11 +56,12 @@ fn find_cell<J: Asks>(
     version: u64,
 ) -> u64
     requires asked { J.ask ≡ ask (origin_of shared.now.key) target.place target.value }
-    requires ready { IsReady shared.now.key shared.now.table_id seat.old.table_id seat.old.me }
+    requires ready { MayStep shared.now seat.old }
     requires target { IsTarget shared.now.key target }
     requires first { seat.old.me.0.doing.doing ≡ First target.place version }
-    ensures goes { Goes (origin_of shared.now.key) seat.old.me [] (hand (Second target.place version result) seat.old.me.0.doing.reserve) seat.new.me }
-    ensures ready { IsReady shared.now.key shared.now.table_id seat.new.table_id seat.new.me }
+    ensures goes { Goes (origin_of shared.now.key) seat.old.me []
+        (hand (Second target.place version result) seat.old.me.0.doing.reserve) seat.new.me }
+    ensures ready { MayStep shared.now seat.new }
     ensures home { seat.new.table_id ≡ seat.old.table_id }
 {
     shared.load::<SecondLook<J>>(seat, target.word)
@@ -75,12 +77,15 @@ fn find_again<J: Asks>(
     cell: u64,
 ) -> u64
     requires asked { J.ask ≡ ask (origin_of shared.now.key) target.place target.value }
-    requires ready { IsReady shared.now.key shared.now.table_id seat.old.table_id seat.old.me }
+    requires ready { MayStep shared.now seat.old }
     requires target { IsTarget shared.now.key target }
     requires second { seat.old.me.0.doing.doing ≡ Second target.place version cell }
-    ensures same { result ≡ version → Decides (origin_of shared.now.key) seat.old.me (Entry.Read seat.old.me.0.lead target.place (value_in_cell cell target.place) false ∷ []) (IsVersion shared.now.key.size target.place version) (hand Rest seat.old.me.0.doing.reserve) seat.new.me }
-    ensures other { result ≢ version → Goes (origin_of shared.now.key) seat.old.me [] (hand Rest seat.old.me.0.doing.reserve) seat.new.me }
-    ensures ready { IsReady shared.now.key shared.now.table_id seat.new.table_id seat.new.me }
+    ensures same { result ≡ version → Decides (origin_of shared.now.key) seat.old.me
+        (Entry.Read seat.old.me.0.lead target.place (value_in_cell cell target.place) false ∷ [])
+        (IsVersion shared.now.key.size target.place version) (hand Rest seat.old.me.0.doing.reserve) seat.new.me }
+    ensures other { result ≢ version → Goes (origin_of shared.now.key) seat.old.me []
+        (hand Rest seat.old.me.0.doing.reserve) seat.new.me }
+    ensures ready { MayStep shared.now seat.new }
     ensures home { seat.new.table_id ≡ seat.old.table_id }
 {
     shared.load::<ThirdLook<J>>(seat, target.tag)
@@ -94,12 +99,13 @@ fn try_load<J: Asks>(
     target: Target,
 ) -> Option<Found>
     requires asked { J.ask ≡ ask (origin_of shared.now.key) target.place target.value }
-    requires ready { IsReady shared.now.key shared.now.table_id seat.old.table_id seat.old.me }
+    requires ready { MayStep shared.now seat.old }
     requires rest { seat.old.me.0.doing.doing ≡ Rest }
     requires target { IsTarget shared.now.key target }
-    ensures loaded { IfSome result (λ found. HasLoaded (origin_of shared.now.key) target.place found.cell found.stamp seat.old.me seat.new.me) }
+    ensures loaded { IfSome result
+        (λ found. HasLoaded (origin_of shared.now.key) target.place found.cell found.stamp seat.old.me seat.new.me) }
     ensures not_yet { result ≡ None → Goes (origin_of shared.now.key) seat.old.me [] seat.old.me.0.doing seat.new.me }
-    ensures ready { IsReady shared.now.key shared.now.table_id seat.new.table_id seat.new.me }
+    ensures ready { MayStep shared.now seat.new }
     ensures home { seat.new.table_id ≡ seat.old.table_id }
 {
     let version = find_version::<J>(shared, seat, target);
@@ -125,7 +131,7 @@ pub fn load_stamped_cell<R: Wait, J: Asks>(
     target: Target,
 ) -> Found
     requires asked { J.ask ≡ ask (origin_of shared.now.key) target.place target.value }
-    requires ready { IsReady shared.now.key shared.now.table_id seat.old.table_id seat.old.me }
+    requires ready { MayStep shared.now seat.old }
     requires rest { seat.old.me.0.doing.doing ≡ Rest }
     requires target { IsTarget shared.now.key target }
     ensures loaded { HasLoaded (origin_of shared.now.key) target.place result.cell result.stamp seat.old.me seat.new.me }
@@ -151,12 +157,16 @@ fn find_again_ex<J: Asks>(
     cell: u64,
 ) -> u64
     requires asked { J.ask ≡ ask (origin_of shared.now.key) target.place target.value }
-    requires ready { IsReady shared.now.key shared.now.table_id seat.old.table_id seat.old.me }
+    requires ready { MayStep shared.now seat.old }
     requires target { IsTarget shared.now.key target }
     requires second { seat.old.me.0.doing.doing ≡ Second target.place version cell }
-    ensures same { result ≡ version → Decides (origin_of shared.now.key) seat.old.me (Entry.Watch seat.old.me.0.lead target.place ∷ Entry.Read seat.old.me.0.lead target.place (value_in_cell cell target.place) true ∷ []) (IsVersion shared.now.key.size target.place version) (hand Rest (Row (row_of shared.now.key.size.granule target.place) version)) seat.new.me }
-    ensures other { result ≢ version → Goes (origin_of shared.now.key) seat.old.me [] (hand Rest seat.old.me.0.doing.reserve) seat.new.me }
-    ensures ready { IsReady shared.now.key shared.now.table_id seat.new.table_id seat.new.me }
+    ensures same { result ≡ version → Decides (origin_of shared.now.key) seat.old.me (Entry.Watch seat.old.me.0.lead target.place
+        ∷ Entry.Read seat.old.me.0.lead target.place (value_in_cell cell target.place) true ∷ [])
+        (IsVersion shared.now.key.size target.place version)
+        (hand Rest (Row (row_of shared.now.key.size.granule target.place) version)) seat.new.me }
+    ensures other { result ≢ version → Goes (origin_of shared.now.key) seat.old.me []
+        (hand Rest seat.old.me.0.doing.reserve) seat.new.me }
+    ensures ready { MayStep shared.now seat.new }
     ensures home { seat.new.table_id ≡ seat.old.table_id }
 {
     shared.load::<ThirdLookEx<J>>(seat, target.tag)
@@ -170,13 +180,14 @@ fn try_load_ex<J: Asks>(
     target: Target,
 ) -> Option<Linked>
     requires asked { J.ask ≡ ask (origin_of shared.now.key) target.place target.value }
-    requires ready { IsReady shared.now.key shared.now.table_id seat.old.table_id seat.old.me }
+    requires ready { MayStep shared.now seat.old }
     requires rest { seat.old.me.0.doing.doing ≡ Rest }
     requires target { IsTarget shared.now.key target }
-    ensures loaded { IfSome result (λ linked. HasLoadedEx (origin_of shared.now.key) target.place linked.cell linked.tag seat.old.me seat.new.me) }
+    ensures loaded { IfSome result
+        (λ linked. HasLoadedEx (origin_of shared.now.key) target.place linked.cell linked.tag seat.old.me seat.new.me) }
     ensures short { IfSome result (λ linked. linked.tag ≤ 2 ^ 63) }
     ensures not_yet { result ≡ None → Goes (origin_of shared.now.key) seat.old.me [] seat.old.me.0.doing seat.new.me }
-    ensures ready { IsReady shared.now.key shared.now.table_id seat.new.table_id seat.new.me }
+    ensures ready { MayStep shared.now seat.new }
     ensures home { seat.new.table_id ≡ seat.old.table_id }
 {
     let version = find_version::<J>(shared, seat, target);
@@ -199,7 +210,7 @@ pub fn load_ex_stamped_cell<R: Wait, J: Asks>(
     target: Target,
 ) -> Linked
     requires asked { J.ask ≡ ask (origin_of shared.now.key) target.place target.value }
-    requires ready { IsReady shared.now.key shared.now.table_id seat.old.table_id seat.old.me }
+    requires ready { MayStep shared.now seat.old }
     requires rest { seat.old.me.0.doing.doing ≡ Rest }
     requires target { IsTarget shared.now.key target }
     ensures loaded { HasLoadedEx (origin_of shared.now.key) target.place result.cell result.tag seat.old.me seat.new.me }

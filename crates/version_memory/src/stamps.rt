@@ -2,14 +2,13 @@
 ghost use Rattle.std.specs.Prelude.{◌≡◌, ◌≢◌, ◌+◌, ◌^◌, ◌<◌, ◌≤◌, ℕ, [], None, Some, IfErr, IfOk, IfSome, IsTrue, false, true};
 ghost use Rattle.std.specs.Result.{OnOk};
 ghost use Rattle.llsc_base.specs.Memory.{is_aligned, size_bytes};
-ghost use Rattle.history.specs.Operation.{entries_of_operation, fail, load, load_watched, store};
-ghost use Rattle.history.specs.declared.entry.Cause.{Cause};
-ghost use Rattle.history.specs.Started.{MayAct};
-ghost use Rattle.shared_memory.specs.Seen.{IsSingle, IsUsedUp, Sees};
-ghost use Rattle.version_rule.specs.Exact.{IsSpent, IsUndisturbed};
+ghost use Rattle.history.specs.Operation.{load, load_watched, store};
+ghost use Rattle.shared_memory.specs.Seen.{IsSingle, IsUsedUp};
+ghost use Rattle.version_rule.specs.Exact.{IsAtLimit, IsUndisturbed};
 ghost use Rattle.version_memory.specs.Exact.{HasFailedAt};
 ghost use Rattle.version_memory.specs.Memory.{memory_id, memory_origin, pass_home, pass_numbers, pass_seen};
 ghost use Rattle.version_memory.specs.Stands.{HasRoom, IsStamped, Stands};
+ghost use Rattle.shared_memory.specs.Calls.{DoesNothing, FailsToStore, MayUse, Performs};
 
 use crate::exclusive::{fail_absent, store_ex_cell};
 use crate::memory::VersionMemory;
@@ -40,11 +39,14 @@ impl VersionMemory {
     /// A load, and its stamp: how many writes the class of the place had had before. It may wait for other threads.
     pub fn load_stamped<R: Wait>(&self, rt: &R, pass: &mut VersionPass, place: Place) -> (u64, u64)
         requires memory { pass_home pass.old ≡ memory_id self.now }
-        requires single { (t : ℕ) × IsSingle t (pass_numbers pass.old) × (MayAct (memory_origin self.now).first t (pass_seen pass.old)) }
+        requires single { MayUse (memory_origin self.now) (pass_numbers pass.old) (pass_seen pass.old) }
         requires aligned { IsTrue (is_aligned place) }
         requires inside { place.addr + size_bytes place.size ≤ (memory_origin self.now).size.mem }
-        ensures seen { (t : ℕ) → IsSingle t (pass_numbers pass.old) → Sees (memory_origin self.now) t (pass_seen pass.old) (entries_of_operation t (load place result.0)) (pass_seen pass.new) }
-        ensures stamp { (t : ℕ) → IsSingle t (pass_numbers pass.old) → IsStamped (memory_origin self.now).size place result.1 (Entry.Read t place result.0 false) (pass_seen pass.old) (pass_seen pass.new) }
+        ensures seen { Performs (memory_origin self.now) (pass_numbers pass.old) (pass_seen pass.old)
+            (load place result.0) (pass_seen pass.new) }
+        ensures stamp { (t : ℕ) → IsSingle t (pass_numbers pass.old)
+            → IsStamped (memory_origin self.now).size place result.1 (Entry.Read t place result.0 false)
+            (pass_seen pass.old) (pass_seen pass.new) }
         ensures fits { result.0 < 256 ^ size_bytes place.size }
         ensures memory { pass_home pass.new ≡ pass_home pass.old }
         ensures numbers { pass_numbers pass.new ≡ pass_numbers pass.old }
@@ -69,16 +71,21 @@ impl VersionMemory {
         value: u64,
     ) -> Result<u64, Spent>
         requires memory { pass_home pass.old ≡ memory_id self.now }
-        requires single { (t : ℕ) × IsSingle t (pass_numbers pass.old) × (MayAct (memory_origin self.now).first t (pass_seen pass.old)) }
+        requires single { MayUse (memory_origin self.now) (pass_numbers pass.old) (pass_seen pass.old) }
         requires aligned { IsTrue (is_aligned place) }
         requires inside { place.addr + size_bytes place.size ≤ (memory_origin self.now).size.mem }
         requires fits { value < 256 ^ size_bytes place.size }
-        ensures done { OnOk result ((t : ℕ) → IsSingle t (pass_numbers pass.old) → Sees (memory_origin self.now) t (pass_seen pass.old) (entries_of_operation t (store place value false)) (pass_seen pass.new)) }
-        ensures stamp { IfOk result (λ stamp. (t : ℕ) → IsSingle t (pass_numbers pass.old) → IsStamped (memory_origin self.now).size place stamp (Entry.Write t place value false) (pass_seen pass.old) (pass_seen pass.new)) }
-        ensures room { OnOk result ((t : ℕ) → IsSingle t (pass_numbers pass.old) → HasRoom (memory_origin self.now).size place (Entry.Begin t place) (pass_seen pass.old) (pass_seen pass.new)) }
+        ensures done { OnOk result (Performs (memory_origin self.now) (pass_numbers pass.old) (pass_seen pass.old)
+            (store place value false) (pass_seen pass.new)) }
+        ensures stamp { IfOk result (λ stamp. (t : ℕ) → IsSingle t (pass_numbers pass.old)
+            → IsStamped (memory_origin self.now).size place stamp (Entry.Write t place value false)
+            (pass_seen pass.old) (pass_seen pass.new)) }
+        ensures room { OnOk result ((t : ℕ) → IsSingle t (pass_numbers pass.old)
+            → HasRoom (memory_origin self.now).size place (Entry.Begin t place) (pass_seen pass.old) (pass_seen pass.new)) }
         ensures spent { IfErr result (λ s. IsUsedUp (memory_origin self.now) place s.class s.writes (pass_seen pass.new)) }
-        ensures exact { IfErr result (λ _. IsSpent (memory_origin self.now).size place (pass_seen pass.new)) }
-        ensures refused { IfErr result (λ _. (t : ℕ) → IsSingle t (pass_numbers pass.old) → Sees (memory_origin self.now) t (pass_seen pass.old) [] (pass_seen pass.new)) }
+        ensures exact { IfErr result (λ _. IsAtLimit (memory_origin self.now).size place (pass_seen pass.new)) }
+        ensures refused { IfErr result (λ _. DoesNothing (memory_origin self.now) (pass_numbers pass.old) (pass_seen pass.old)
+            (pass_seen pass.new)) }
         ensures memory { pass_home pass.new ≡ pass_home pass.old }
         ensures numbers { pass_numbers pass.new ≡ pass_numbers pass.old }
     {
@@ -104,11 +111,14 @@ impl VersionMemory {
         place: Place,
     ) -> (u64, u64)
         requires memory { pass_home pass.old ≡ memory_id self.now }
-        requires single { (t : ℕ) × IsSingle t (pass_numbers pass.old) × (MayAct (memory_origin self.now).first t (pass_seen pass.old)) }
+        requires single { MayUse (memory_origin self.now) (pass_numbers pass.old) (pass_seen pass.old) }
         requires aligned { IsTrue (is_aligned place) }
         requires inside { place.addr + size_bytes place.size ≤ (memory_origin self.now).size.mem }
-        ensures seen { (t : ℕ) → IsSingle t (pass_numbers pass.old) → Sees (memory_origin self.now) t (pass_seen pass.old) (entries_of_operation t (load_watched place result.0)) (pass_seen pass.new) }
-        ensures stamp { (t : ℕ) → IsSingle t (pass_numbers pass.old) → IsStamped (memory_origin self.now).size place result.1 (Entry.Read t place result.0 true) (pass_seen pass.old) (pass_seen pass.new) }
+        ensures seen { Performs (memory_origin self.now) (pass_numbers pass.old) (pass_seen pass.old)
+            (load_watched place result.0) (pass_seen pass.new) }
+        ensures stamp { (t : ℕ) → IsSingle t (pass_numbers pass.old)
+            → IsStamped (memory_origin self.now).size place result.1 (Entry.Read t place result.0 true)
+            (pass_seen pass.old) (pass_seen pass.new) }
         ensures fits { result.0 < 256 ^ size_bytes place.size }
         ensures memory { pass_home pass.new ≡ pass_home pass.old }
         ensures numbers { pass_numbers pass.new ≡ pass_numbers pass.old }
@@ -133,15 +143,22 @@ impl VersionMemory {
     /// another.
     pub fn store_ex_stamped(&self, pass: &mut VersionPass, place: Place, value: u64) -> Option<u64>
         requires memory { pass_home pass.old ≡ memory_id self.now }
-        requires single { (t : ℕ) × IsSingle t (pass_numbers pass.old) × (MayAct (memory_origin self.now).first t (pass_seen pass.old)) }
+        requires single { MayUse (memory_origin self.now) (pass_numbers pass.old) (pass_seen pass.old) }
         requires aligned { IsTrue (is_aligned place) }
         requires inside { place.addr + size_bytes place.size ≤ (memory_origin self.now).size.mem }
         requires fits { value < 256 ^ size_bytes place.size }
-        ensures done { IfSome result (λ _. (t : ℕ) → IsSingle t (pass_numbers pass.old) → Sees (memory_origin self.now) t (pass_seen pass.old) (entries_of_operation t (store place value true)) (pass_seen pass.new)) }
-        ensures stamp { IfSome result (λ stamp. (t : ℕ) → IsSingle t (pass_numbers pass.old) → IsStamped (memory_origin self.now).size place stamp (Entry.Write t place value true) (pass_seen pass.old) (pass_seen pass.new)) }
-        ensures failed { result ≡ None → (t : ℕ) → IsSingle t (pass_numbers pass.old) → (cause : Cause) × Sees (memory_origin self.now) t (pass_seen pass.old) (entries_of_operation t (fail place value cause)) (pass_seen pass.new) }
-        ensures exact_done { IfSome result (λ _. (t : ℕ) → IsSingle t (pass_numbers pass.old) → Stands (IsUndisturbed (memory_origin self.now).size t place) (Entry.Begin t place) (pass_seen pass.old) (pass_seen pass.new)) }
-        ensures exact_failed { result ≡ None → (t : ℕ) → IsSingle t (pass_numbers pass.old) → HasFailedAt (memory_origin self.now).size t place value (pass_seen pass.old) (pass_seen pass.new) }
+        ensures done { IfSome result (λ _. Performs (memory_origin self.now) (pass_numbers pass.old) (pass_seen pass.old)
+            (store place value true) (pass_seen pass.new)) }
+        ensures stamp { IfSome result (λ stamp. (t : ℕ) → IsSingle t (pass_numbers pass.old)
+            → IsStamped (memory_origin self.now).size place stamp (Entry.Write t place value true)
+            (pass_seen pass.old) (pass_seen pass.new)) }
+        ensures failed { result ≡ None → FailsToStore (memory_origin self.now) (pass_numbers pass.old) (pass_seen pass.old)
+            place value (pass_seen pass.new) }
+        ensures exact_done { IfSome result (λ _. (t : ℕ) → IsSingle t (pass_numbers pass.old)
+            → Stands (IsUndisturbed (memory_origin self.now).size t place) (Entry.Begin t place)
+            (pass_seen pass.old) (pass_seen pass.new)) }
+        ensures exact_failed { result ≡ None → (t : ℕ) → IsSingle t (pass_numbers pass.old)
+            → HasFailedAt (memory_origin self.now).size t place value (pass_seen pass.old) (pass_seen pass.new) }
         ensures memory { pass_home pass.new ≡ pass_home pass.old }
         ensures numbers { pass_numbers pass.new ≡ pass_numbers pass.old }
     {

@@ -8,7 +8,7 @@ ghost use Rattle.version_rule.specs.declared.hands.Doing.TheVariants.{Rest};
 ghost use Rattle.version_rule.specs.Kept.{origin_of};
 ghost use Rattle.version_rule.specs.StartWords.{start_word};
 ghost use Rattle.version_rule.specs.inner.Told.{birth};
-ghost use Rattle.version_memory.specs.inner.Passes.{IsAwaiting, IsReady};
+ghost use Rattle.version_memory.specs.inner.Passes.{MayAwait, MayStep};
 
 use crossbeam_utils::Backoff;
 use shared_memory::Asks;
@@ -25,13 +25,15 @@ pub fn start_child<J: Births>(
     arg: u32,
 )
     requires born { J.birth ≡ birth (origin_of shared.now.key) child entry arg }
-    requires ready { IsReady shared.now.key shared.now.table_id seat.old.table_id seat.old.me }
+    requires ready { MayStep shared.now seat.old }
     requires rest { seat.old.me.0.doing.doing ≡ Rest }
     requires first { seat.old.me.0.lead < shared.now.key.first }
     requires few { starts_of seat.old.me.0.lead seat.old.me.0.seen < shared.now.key.spare }
-    requires child { child ≡ child_of shared.now.key.first shared.now.key.spare seat.old.me.0.lead (starts_of seat.old.me.0.lead seat.old.me.0.seen) }
+    requires child { child ≡ child_of shared.now.key.first shared.now.key.spare seat.old.me.0.lead
+        (starts_of seat.old.me.0.lead seat.old.me.0.seen) }
     requires word { word ≡ start_word shared.now.key child }
-    ensures goes { Goes (origin_of shared.now.key) seat.old.me (entries_of_operation seat.old.me.0.lead (start child entry arg)) seat.old.me.0.doing seat.new.me }
+    ensures goes { Goes (origin_of shared.now.key) seat.old.me (entries_of_operation seat.old.me.0.lead (start child entry arg))
+        seat.old.me.0.doing seat.new.me }
     ensures home { seat.new.table_id ≡ seat.old.table_id }
 {
     shared.store::<StartChild<J>>(seat, word, 1);
@@ -40,10 +42,10 @@ pub fn start_child<J: Births>(
 /// A seat learns that its thread is one of the machine's.
 fn know_own<J: Asks>(shared: &VersionShared, seat: &mut VersionSeat)
     requires asked { J.ask.origin ≡ origin_of shared.now.key }
-    requires awaiting { IsAwaiting shared.now.key shared.now.table_id seat.old.table_id seat.old.me }
+    requires awaiting { MayAwait shared.now seat.old }
     ensures goes { Goes (origin_of shared.now.key) seat.old.me [] seat.old.me.0.doing seat.new.me }
     ensures below { seat.new.me.0.lead < shared.now.key.size.threads }
-    ensures awaiting { IsAwaiting shared.now.key shared.now.table_id seat.new.table_id seat.new.me }
+    ensures awaiting { MayAwait shared.now seat.new }
     ensures home { seat.new.table_id ≡ seat.old.table_id }
 {
     shared.load::<Know<J>>(seat, 0);
@@ -52,12 +54,12 @@ fn know_own<J: Asks>(shared: &VersionShared, seat: &mut VersionSeat)
 /// Whether the thread was started.
 fn look_at_start<J: Asks>(shared: &VersionShared, seat: &mut VersionSeat, word: usize) -> bool
     requires asked { J.ask.origin ≡ origin_of shared.now.key }
-    requires awaiting { IsAwaiting shared.now.key shared.now.table_id seat.old.table_id seat.old.me }
+    requires awaiting { MayAwait shared.now seat.old }
     requires below { seat.old.me.0.lead < shared.now.key.size.threads }
     requires word { word ≡ start_word shared.now.key seat.old.me.0.lead }
     ensures goes { Goes (origin_of shared.now.key) seat.old.me [] seat.old.me.0.doing seat.new.me }
     ensures started { OnTrue result (is_started seat.old.me.0.lead seat.new.me.0.seen ≡ true) }
-    ensures awaiting { IsAwaiting shared.now.key shared.now.table_id seat.new.table_id seat.new.me }
+    ensures awaiting { MayAwait shared.now seat.new }
     ensures home { seat.new.table_id ≡ seat.old.table_id }
 {
     shared.load::<LookAtStart<J>>(seat, word) == 1
@@ -71,7 +73,7 @@ pub fn wait_for_start<R: Wait, J: Asks>(
     word: usize,
 )
     requires asked { J.ask.origin ≡ origin_of shared.now.key }
-    requires awaiting { IsAwaiting shared.now.key shared.now.table_id seat.old.table_id seat.old.me }
+    requires awaiting { MayAwait shared.now seat.old }
     requires word { word ≡ start_word shared.now.key seat.old.me.0.lead }
     ensures goes { Goes (origin_of shared.now.key) seat.old.me [] seat.old.me.0.doing seat.new.me }
     ensures started { is_started seat.old.me.0.lead seat.new.me.0.seen ≡ true }

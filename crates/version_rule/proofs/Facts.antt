@@ -23,7 +23,7 @@ use Rattle.shared_memory.specs.Seen.{IsSingle}
 use Rattle.shared_memory.specs.Passes.{marked}
 use Rattle.version_rule.specs.declared.hands.Hand.{Hand}
 use Rattle.shared_memory.specs.declared.plans.Plan.{Plan}
-use Rattle.version_rule.specs.Exact.{IsSpent}
+use Rattle.version_rule.specs.Exact.{IsAtLimit}
 use Rattle.version_rule.specs.Hands.{class_at}
 use Rattle.version_rule.specs.Knowledge.{Knows}
 use Rattle.shared_memory.specs.Layout.{cell_word, tag_word}
@@ -78,7 +78,7 @@ module _ (plan : Plan) where
     twice-even n = omega arith
 
     -- a class whose tag is twice the limit has had all of its writes
-    pub spent : (p : Place) → k.standing.edges (class_at plan.size p) ≡ 2 * plan.size.limit → IsSpent plan.size p k.history
+    pub spent : (p : Place) → k.standing.edges (class_at plan.size p) ≡ 2 * plan.size.limit → IsAtLimit plan.size p k.history
     spent p tag =
         let class = class_at plan.size p in
         let even : k.standing.edges class % 2 ≡ 0 = ap (λ (n : ℕ). n % 2) tag ∙ twice-even plan.size.limit in

@@ -23,7 +23,7 @@ use Rattle.version_rule.specs.declared.hands.Hand.{Hand}
 use Rattle.version_rule.specs.declared.hands.Doing.{Doing}
 use Rattle.version_rule.specs.declared.hands.Doing.TheVariants.{Rest, Claimed, Holding, Written}
 use Rattle.shared_memory.specs.declared.plans.Plan.{Plan}
-use Rattle.version_rule.specs.Exact.{IsSpent, IsVersion}
+use Rattle.version_rule.specs.Exact.{IsAtLimit, IsVersion}
 use Rattle.version_rule.specs.Hands.{class_at, hand, reserve_after}
 use Rattle.version_rule.specs.Knowledge.{IsAt, Knows}
 use Rattle.shared_memory.specs.Layout.{cell_word, tag_word}
@@ -84,7 +84,7 @@ module _ (plan : Plan) where
           goes = told-none plan s.words s.views k seat v at single v.doing me.1 knows;
           edges = tag-edges s.words s.views k p some_class;
           most = subst (λ (n : ℕ). n ≤ 2 * plan.size.limit) (sym tag) (k.classes.most (class_at plan.size p));
-          spent = λ is. subst (λ (l : List Entry). IsSpent plan.size p l) (sym (append-nil k.history)) (spent plan s.words s.views k p (sym tag ∙ is));
+          spent = λ is. subst (λ (l : List Entry). IsAtLimit plan.size p l) (sym (append-nil k.history)) (spent plan s.words s.views k p (sym tag ∙ is));
         },
       )
 

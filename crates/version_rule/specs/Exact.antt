@@ -23,7 +23,7 @@ pub record IsOvertaken (size : Numbers) (thread : ℕ) (place : Place) (history 
   pub begun : list_any (is_begin_of_another size thread (row_of size.granule place)) (since_watch thread history) ≡ true
 
 -- after a history the class of a place has had as many writes as it may have, and none of its writes is in flight
-pub record IsSpent (size : Numbers) (place : Place) (history : List Entry) : Type 0 where
+pub record IsAtLimit (size : Numbers) (place : Place) (history : List Entry) : Type 0 where
   pub writes : writes_in_class size (row_of size.granule place) history ≡ size.limit
   pub idle : (thread : ℕ) (target : Place) → flight_of thread history ≡ Some target → is_in_class size (row_of size.granule place) target ≡ true → ⊥
 

@@ -14,7 +14,7 @@ use Rattle.shared_memory.specs.Seen.{IsFront}
 use Rattle.version_rule.specs.declared.hands.Hand.{Hand}
 use Rattle.version_rule.specs.declared.hands.Doing.TheVariants.{Rest, Claimed, Holding, Written, Looking, First, Second}
 use Rattle.version_rule.specs.declared.hands.Reserve.TheVariants.{Nothing, Row}
-use Rattle.version_rule.specs.Exact.{IsOvertaken, IsSpent, IsUndisturbed, IsVersion}
+use Rattle.version_rule.specs.Exact.{IsOvertaken, IsAtLimit, IsUndisturbed, IsVersion}
 use Rattle.version_rule.specs.Hands.{hand, reserve_after}
 use Rattle.version_rule.specs.Left.{IsOver, cell_left}
 
@@ -42,7 +42,7 @@ pub record HasFoundTag (q : Ask) (old : Mine) (tag : ℕ) (new : Mine) : Type 0 
   pub goes : Goes q.origin old [] old.0.doing new
   pub edges : edges_of q.origin.size (row_of q.origin.size.granule q.place) new.0.seen ≡ tag
   pub most : tag ≤ 2 * q.origin.size.limit
-  pub spent : tag ≡ 2 * q.origin.size.limit → IsSpent q.origin.size q.place new.0.seen
+  pub spent : tag ≡ 2 * q.origin.size.limit → IsAtLimit q.origin.size q.place new.0.seen
 
 abbrev pub tag_found : Ask → Step (Unit {0}) → Mine → ℕ → Mine → Type 0
 tag_found q st old n new = HasFoundTag q old n new

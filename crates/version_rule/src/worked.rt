@@ -4,7 +4,7 @@
 //! Where there is one class, the next row falls into it, and where there are 4096 it doesn't.
 ghost use Rattle.std.specs.Prelude.{◌≡◌, ◌∷◌, [], false, true};
 ghost use Rattle.history.specs.Worked.{beside, cell_before, next_row, small_machine, wide_machine, word};
-ghost use Rattle.version_rule.specs.Exact.{IsOvertaken, IsSpent, IsUndisturbed, IsVersion};
+ghost use Rattle.version_rule.specs.Exact.{IsOvertaken, IsAtLimit, IsUndisturbed, IsVersion};
 ghost use Rattle.version_rule.specs.Left.{IsOver, cell_left};
 ghost use Rattle.version_rule.specs.StartWords.{start_mark};
 ghost use Rattle.shared_memory.specs.Worked.{limited_machine, made};
@@ -21,7 +21,8 @@ pub fn undisturbed_threads()
     ensures reserved_by_another { IsUndisturbed (limited_machine 1 1) 0 word (Entry.Watch 0 word ∷ Entry.Watch 1 word ∷ Entry.Read 1 word 0 true ∷ []) }
     ensures begun_elsewhere { IsUndisturbed (limited_machine 4096 1) 0 word (Entry.Watch 0 word ∷ Entry.Begin 1 next_row ∷ []) }
     ensures own_store_elsewhere { IsUndisturbed (limited_machine 4096 1) 0 word (Entry.Watch 0 word ∷ Entry.Begin 0 next_row ∷ []) }
-    ensures begun_before { IsUndisturbed (limited_machine 1 2) 0 word (Entry.Begin 1 word ∷ Entry.Watch 0 word ∷ Entry.Write 1 word 5 false ∷ Entry.End 1 word ∷ []) }
+    ensures begun_before { IsUndisturbed (limited_machine 1 2) 0 word
+        (Entry.Begin 1 word ∷ Entry.Watch 0 word ∷ Entry.Write 1 word 5 false ∷ Entry.End 1 word ∷ []) }
     ensures room_for_one { IsUndisturbed (limited_machine 1 2) 0 word (Entry.Write 1 word 5 false ∷ Entry.Watch 0 word ∷ []) }
     ensures full_elsewhere { IsUndisturbed (limited_machine 4096 1) 0 word (Entry.Write 1 next_row 5 false ∷ Entry.Watch 0 word ∷ []) }
 {}
@@ -54,14 +55,14 @@ pub fn overtaken_threads()
 /// A class is spent that has had just as many writes as it may have, in any of its rows, and has none in flight.
 #[tactic(auto, unfolding(llsc_base::specs::Memory::row_of, llsc_base::specs::Memory::class_of))]
 pub fn spent_classes()
-    ensures spent { IsSpent (limited_machine 1 1) word (Entry.Begin 1 next_row ∷ Entry.Write 1 next_row 5 false ∷ Entry.End 1 next_row ∷ []) }
-    ensures wide_row { IsSpent (wide_machine 4096) word (Entry.Write 1 cell_before 5 false ∷ []) }
-    ensures in_flight_elsewhere { IsSpent (limited_machine 4096 1) word (Entry.Write 1 word 5 false ∷ Entry.Begin 0 next_row ∷ []) }
-    ensures one_below { ¬ IsSpent (limited_machine 1 2) word (Entry.Write 1 word 5 false ∷ []) }
-    ensures one_above { ¬ IsSpent (limited_machine 1 1) word (Entry.Write 1 word 5 false ∷ Entry.Write 0 word 6 false ∷ []) }
-    ensures written_elsewhere { ¬ IsSpent (limited_machine 4096 1) word (Entry.Write 1 next_row 5 false ∷ []) }
-    ensures only_begun { ¬ IsSpent (limited_machine 1 1) word (Entry.Begin 1 word ∷ Entry.End 1 word ∷ []) }
-    ensures in_flight { ¬ IsSpent (limited_machine 1 1) word (Entry.Begin 1 next_row ∷ Entry.Write 1 next_row 5 false ∷ []) }
+    ensures spent { IsAtLimit (limited_machine 1 1) word (Entry.Begin 1 next_row ∷ Entry.Write 1 next_row 5 false ∷ Entry.End 1 next_row ∷ []) }
+    ensures wide_row { IsAtLimit (wide_machine 4096) word (Entry.Write 1 cell_before 5 false ∷ []) }
+    ensures in_flight_elsewhere { IsAtLimit (limited_machine 4096 1) word (Entry.Write 1 word 5 false ∷ Entry.Begin 0 next_row ∷ []) }
+    ensures one_below { ¬ IsAtLimit (limited_machine 1 2) word (Entry.Write 1 word 5 false ∷ []) }
+    ensures one_above { ¬ IsAtLimit (limited_machine 1 1) word (Entry.Write 1 word 5 false ∷ Entry.Write 0 word 6 false ∷ []) }
+    ensures written_elsewhere { ¬ IsAtLimit (limited_machine 4096 1) word (Entry.Write 1 next_row 5 false ∷ []) }
+    ensures only_begun { ¬ IsAtLimit (limited_machine 1 1) word (Entry.Begin 1 word ∷ Entry.End 1 word ∷ []) }
+    ensures in_flight { ¬ IsAtLimit (limited_machine 1 1) word (Entry.Begin 1 next_row ∷ Entry.Write 1 next_row 5 false ∷ []) }
 {}
 
 /// A version is twice the writes that the class has had; one that has only begun doesn't count.
@@ -91,7 +92,8 @@ pub fn histories_that_are_over()
     ensures nothing { IsOver (made (small_machine 1) true) [] }
     ensures half_a_store { ¬ IsOver (made (small_machine 1) true) (Entry.Begin 0 word ∷ Entry.Write 0 word 5 false ∷ []) }
     ensures of_nobody { ¬ IsOver (made (small_machine 1) true) (Entry.Clear 2 ∷ []) }
-    ensures past_the_limit { ¬ IsOver (made (small_machine 1) true) (Entry.Begin 0 word ∷ Entry.Write 0 word 5 false ∷ Entry.End 0 word ∷ Entry.Begin 0 word ∷ Entry.Write 0 word 5 false ∷ Entry.End 0 word ∷ []) }
+    ensures past_the_limit { ¬ IsOver (made (small_machine 1) true) (Entry.Begin 0 word ∷ Entry.Write 0 word 5 false ∷ Entry.End 0 word
+        ∷ Entry.Begin 0 word ∷ Entry.Write 0 word 5 false ∷ Entry.End 0 word ∷ []) }
     ensures lost_to_nobody { ¬ IsOver (made (small_machine 1) true) (Entry.Watch 0 word ∷ Entry.Read 0 word 0 true ∷ Entry.Fail 0 word 9 Cause.Lost ∷ []) }
 {}
 

@@ -17,7 +17,7 @@ use Rattle.hst_memory.specs.inner.Hands.{alone_word, total_of, weight_of}
 use Rattle.hst_memory.specs.inner.Knowledge.{Knows}
 
 -- one thread is inside alone
-pub record IsAlone (views : List (View Hand)) : Type 0 where
+pub record HasOneAlone (views : List (View Hand)) : Type 0 where
   pub seat : ℕ
   pub view : View Hand
   pub at : get_elem? views seat ≡ some view
@@ -27,7 +27,7 @@ pub record IsAlone (views : List (View Hand)) : Type 0 where
 -- the section's word is the number of stores inside, at most that of the threads, or says that one thread is inside alone
 pub record IsSection (threads word : ℕ) (views : List (View Hand)) : Type 0 where
   pub counts : word ≡ total_of views
-  pub few : (total_of views ≤ threads) ⊎ IsAlone views
+  pub few : (total_of views ≤ threads) ⊎ HasOneAlone views
 
 -- the words are those of how things stand: each tag is the name of its class, and each cell is memory's
 pub record IsLaid (size : Numbers) (words : List ℕ) (s : Standing) : Type 0 where

@@ -12,5 +12,5 @@ pub returns : goal.returns
 returns g c =
     let count : 8 * length c.close-rows.result.0 ≡ 65536 = c.close-rows.ensures.count ∙ c.in_ok-memory.ensures.origin.mem in
     c.row.ensures
-    ∙ c.close-rows.ensures.rows 1024 (omega (arith, count))
+    ∙ c.close-rows.ensures.cells 1024 (omega (arith, count))
     ∙ both_leave (memory_origin c.in_ok-memory.memory) (pass_seen c.add_beside-pass.result) c.in_ok-memory.ensures.origin c.add_beside-pass.ensures.added c.close-rows.ensures.legal

@@ -18,7 +18,7 @@ of_words-requires c =
     let memory : IsMemory size c.of.result.value.bytes = record {
       sized = ap (λ (p : Program). length p.bytes) is ∙ long;
       whole = (let pages = c.mem-mem.ensures.pages in let number = c.mem-mem.ensures.number in omega arith);
-      small = λ k. rw (is, ← bytes) (c.first_words.ensures.bytes k);
+      small = λ k. rw (is, ← bytes) (c.initial_words.ensures.bytes k);
     } in
     opens (record { size = size; first = c.threads-threads.result; spare = 0; image = c.of.result }) c.as_slice.result.now memory
     (rw c.as_slice.ensures.value (omega (arith, first.long, ap length bytes)))

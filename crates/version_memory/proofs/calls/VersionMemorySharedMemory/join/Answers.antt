@@ -1,0 +1,21 @@
+use Rattle.std.proofs.Common.{ap, ◌∙◌}
+use Rattle.shared_memory.specs.Passes.{marked}
+use Rattle.shared_memory.specs.declared.views.View.{View}
+use Rattle.shared_memory.proofs.Marks.{marked-merged}
+use Rattle.version_rule.specs.declared.hands.Hand.{Hand}
+use Rattle.version_memory.proofs.Betweens.{between-joined}
+use Rattle.version_memory.proofs.Counted.{counted-joined}
+use Rattle.version_memory.proofs.calls.VersionMemorySharedMemory.join.Goals as goal
+
+pub invariant_of-pass : goal.invariant_of-pass
+invariant_of-pass c = record {
+  between = between-joined c.args.pass.now.seat.me c.args.other.seat.me c.join_numbers.new.seat.me c.args.pass.now.has c.args.other.has c.merge_marks-pass.result
+      c.args.pass.now.number c.args.other.number c.args.pass.now.reserved c.args.other.reserved c.args.pass.now.between c.args.other.between c.join_numbers.ensures.both c.merge_marks-pass.ensures;
+  few = c.args.pass.now.few;
+  counted = counted-joined c.args.pass.now.seat.me c.args.other.seat.me c.join_numbers.new.seat.me c.args.pass.now.has c.args.pass.now.number c.args.pass.now.reserved c.args.pass.now.started
+      c.args.pass.now.between c.args.pass.now.counted c.join_numbers.ensures.both;
+}
+
+pub returns-clause-numbers : goal.returns-clause-numbers
+returns-clause-numbers c i u =
+    (ap (λ (v : View Hand). marked v.numbers u) c.join_numbers.ensures.both.settled.view ∙ marked-merged c.args.pass.now.seat.me.0.numbers c.args.other.seat.me.0.numbers u) i

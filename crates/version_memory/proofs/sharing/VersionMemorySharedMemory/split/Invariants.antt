@@ -1,4 +1,0 @@
-use Rattle.version_memory.proofs.sharing.VersionMemorySharedMemory.split.Given as goal
-
-abbrev pub ghosts-split_number : goal.ghosts-split_number
-ghosts-split_number a = record { thread = a.t; lead = a.lead }
