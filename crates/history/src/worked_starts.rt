@@ -34,8 +34,8 @@ pub fn histories_of_started_threads()
 
 /// What a thread has started, in order, each behind so many of its accesses, whatever others do.
 pub fn threads_that_were_started()
-    ensures two { starts_in 0 (Entry.Clear 0 ∷ Entry.Start 0 2 4096 7 ∷ Entry.Clear 1 ∷ Entry.Start 1 4 4096 7 ∷ Entry.Watch 0 word
-        ∷ Entry.Read 0 word 0 true ∷ Entry.Start 0 3 8192 9 ∷ [])
+    ensures two { starts_in 0 (Entry.Clear 0 ∷ Entry.Start 0 2 4096 7 ∷ Entry.Clear 1 ∷ Entry.Start 1 4 4096 7
+        ∷ Entry.Watch 0 word ∷ Entry.Read 0 word 0 true ∷ Entry.Start 0 3 8192 9 ∷ [])
         ≡ record { child = 2; entry = 4096; arg = 7; place = 1 } ∷ record { child = 3; entry = 8192; arg = 9; place = 2 } ∷ [] }
     ensures none { starts_in 1 (Entry.Start 0 1 4096 7 ∷ Entry.Clear 1 ∷ []) ≡ [] }
 {}

@@ -1,5 +1,5 @@
 //! The calls of the memory as one that threads share: it keeps the promise of `SharedMemory`.
-ghost use Rattle.std.specs.Prelude.{◌≡◌, ◌⊎◌, ◌+◌, ◌^◌, ◌<◌, ◌≤◌, ℕ, IsTrue, false, true};
+ghost use Rattle.std.specs.Prelude.{◌≡◌, ◌+◌, ◌^◌, ◌<◌, ◌≤◌, ℕ, IsTrue, false, true};
 ghost use Rattle.llsc_base.specs.Memory.{is_aligned, size_bytes};
 ghost use Rattle.hst_memory.specs.inner.Hands.{row_after};
 ghost use Rattle.hst_memory.specs.Exact.{IsExact};

@@ -28,9 +28,9 @@ pub extern "C" fn llsc_open(
     limit: u64,
     granule: u64,
 ) -> u32
-    ensures opened { result ≡ DONE
-        → IsOpened (record { mem = length bytes.now; threads = threads; classes = classes; limit = limit; granule = granule }) bytes.now
-        thread.new.held.handle }
+    ensures opened { result ≡ DONE → IsOpened
+        (record { mem = length bytes.now; threads = threads; classes = classes; limit = limit; granule = granule })
+        bytes.now thread.new.held.handle }
     ensures answer { let told = open_answer (size_fault (numbers (length bytes.now) threads classes limit)) granule thread.old.held.handle in
         (result ≡ told) ⊎ ((told ≡ DONE) × (result ≡ NO_MEMORY)) }
     ensures kept { result ≢ DONE → thread.new.held.handle ≡ thread.old.held.handle }

@@ -119,8 +119,8 @@ pub extern "C" fn llsc_store_now(
     value: u64,
 ) -> u32
     ensures stored { result ≡ DONE → Becomes (HasStored addr width value) thread.old.held.handle thread.new.held.handle }
-    ensures answer { let told = store_answer thread.old.held.handle addr width value in (result ≡ told)
-        ⊎ ((told ≡ DONE) × ((result ≡ BUSY) ⊎ (result ≡ SPENT))) }
+    ensures answer { let told = store_answer thread.old.held.handle addr width value in
+        (result ≡ told) ⊎ ((told ≡ DONE) × ((result ≡ BUSY) ⊎ (result ≡ SPENT))) }
     ensures busy { result ≡ BUSY → Becomes (HasMetWrite addr width) thread.old.held.handle thread.new.held.handle }
     ensures spent { result ≡ SPENT → Becomes (HasFoundSpent addr width) thread.old.held.handle thread.new.held.handle }
     ensures kept { result ≢ DONE → result ≢ BUSY → result ≢ SPENT → thread.new.held.handle ≡ thread.old.held.handle }

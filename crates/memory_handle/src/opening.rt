@@ -17,9 +17,14 @@ impl Handle {
     /// `AllocError` is want of memory.
     pub fn open(alloc: Global, bytes: &[u8], size: &MachineSize) -> Result<Handle, AllocError>
         requires { length bytes.now ≡ size.now.mem }
-        ensures origin { IfOk result
-            (λ handle. handle_origin handle
-            ≡ record { size = size.now; first = size.now.threads; spare = 0; bytes = bytes.now; spends = true; steady = true }) }
+        ensures origin { IfOk result (λ handle. handle_origin handle ≡ record {
+          size = size.now;
+          first = size.now.threads;
+          spare = 0;
+          bytes = bytes.now;
+          spends = true;
+          steady = true;
+        }) }
         ensures seen { IfOk result (λ handle. handle_seen handle ≡ []) }
         ensures all { IfOk result (λ handle. (handle.first ≡ 0) × (handle.upto ≡ size.now.threads)) }
         ensures fresh { IfOk result (λ handle. handle.fresh ≡ true) }

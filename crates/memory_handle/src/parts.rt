@@ -34,8 +34,8 @@ impl Handle {
         ensures seen { IfOk result (λ other. (handle_seen other ≡ handle_seen self.old) × (handle_seen self.new ≡ handle_seen self.old)) }
         ensures fresh { IfOk result (λ other. (other.fresh ≡ true) × (self.new.fresh ≡ true)) }
         ensures unused { IfOk result (λ other. IsUnused other × IsUnused self.new) }
-        ensures fault { MatchResult result (λ _. split_fault self.old ≡ None) (λ misuse. (split_fault self.old ≡ Some misuse)
-            ⊎ ((split_fault self.old ≡ None) × (misuse ≡ Misuse.NoMemory))) }
+        ensures fault { MatchResult result (λ _. split_fault self.old ≡ None)
+            (λ misuse. (split_fault self.old ≡ Some misuse) ⊎ ((split_fault self.old ≡ None) × (misuse ≡ Misuse.NoMemory))) }
         ensures refused { IfErr result (λ _. self.new ≡ self.old) }
     {
         if self.upto - self.first == 1 {

@@ -1,5 +1,5 @@
 //! The contract of a memory on which guest threads start others.
-ghost use Rattle.std.specs.Prelude.{◌≡◌, ◌+◌, ◌*◌, ◌<◌, ◌≤◌, ℕ, [], true};
+ghost use Rattle.std.specs.Prelude.{◌≡◌, ◌+◌, ◌*◌, ◌<◌, ◌≤◌, ℕ, true};
 ghost use Rattle.history.specs.Operation.{start};
 ghost use Rattle.history.specs.Started.{child_of, is_started, starts_of};
 ghost use Rattle.shared_memory.specs.Seen.{IsSingle};

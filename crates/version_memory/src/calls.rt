@@ -1,5 +1,5 @@
 //! The calls of the memory as one that threads share: it keeps the promise of `SharedMemory`.
-ghost use Rattle.std.specs.Prelude.{◌≡◌, ◌+◌, ◌^◌, ◌<◌, ◌≤◌, ℕ, None, IfErr, IsTrue, [], false, true};
+ghost use Rattle.std.specs.Prelude.{◌≡◌, ◌+◌, ◌^◌, ◌<◌, ◌≤◌, ℕ, None, IfErr, IsTrue, false, true};
 ghost use Rattle.std.specs.Bool.{OnFalse, OnTrue};
 ghost use Rattle.std.specs.Result.{OnOk};
 ghost use Rattle.llsc_base.specs.Memory.{is_aligned, size_bytes};

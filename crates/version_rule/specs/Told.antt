@@ -14,7 +14,7 @@ use Rattle.shared_memory.specs.Seen.{IsFront}
 use Rattle.version_rule.specs.declared.hands.Hand.{Hand}
 use Rattle.version_rule.specs.declared.hands.Doing.TheVariants.{Rest, Claimed, Holding, Written, Looking, First, Second}
 use Rattle.version_rule.specs.declared.hands.Reserve.TheVariants.{Nothing, Row}
-use Rattle.version_rule.specs.Exact.{IsOvertaken, IsAtLimit, IsUndisturbed, IsVersion}
+use Rattle.version_rule.specs.Exact.{IsAtLimit, IsOvertaken, IsUndisturbed, IsVersion}
 use Rattle.version_rule.specs.Hands.{hand, reserve_after}
 use Rattle.version_rule.specs.Left.{IsOver, cell_left}
 

@@ -4,7 +4,7 @@
 //! Where there is one class, the next row falls into it, and where there are 4096 it doesn't.
 ghost use Rattle.std.specs.Prelude.{◌≡◌, ◌∷◌, [], false, true};
 ghost use Rattle.history.specs.Worked.{beside, cell_before, next_row, small_machine, wide_machine, word};
-ghost use Rattle.version_rule.specs.Exact.{IsOvertaken, IsAtLimit, IsUndisturbed, IsVersion};
+ghost use Rattle.version_rule.specs.Exact.{IsAtLimit, IsOvertaken, IsUndisturbed, IsVersion};
 ghost use Rattle.version_rule.specs.Left.{IsOver, cell_left};
 ghost use Rattle.version_rule.specs.StartWords.{start_mark};
 ghost use Rattle.shared_memory.specs.Worked.{limited_machine, made};

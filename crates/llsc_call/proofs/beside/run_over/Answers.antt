@@ -14,4 +14,4 @@ returns g c =
     ran g.C.Core.set c.args.image.now origin.size c.args.budget origin.first origin.spare origin.bytes history seen ends c.close-rows.result.0
     closed.story c.requires.bytes c.requires.first c.requires.spare closed.legal.legal closed.complete closed.legal.born c.run_all-pass.ensures.ends (record { few = closed.few c.requires.spends; steady = closed.steady c.requires.steady })
     (sums ends c.run_all-pass.ensures.few (subst (λ n. n ≤ 16) (sym many) few))
-    (closed_cells c.args.image.now origin.size origin.bytes history seen c.close-rows.result.0 closed.story c.requires.bytes closed.count closed.rows)
+    (closed_cells c.args.image.now origin.size origin.bytes history seen c.close-rows.result.0 closed.story c.requires.bytes closed.count closed.cells)
