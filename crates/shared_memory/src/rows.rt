@@ -54,7 +54,7 @@ impl Rows {
     }
 
     /// The cell of this index, from 0 up and below the count: the eight bytes from eight times the index up, the first the
-    /// least significant. It isn't a row of the granule.
+    /// least significant, whatever the granule.
     pub fn row(&self, i: u32) -> u64
         requires { i < length self.now }
         ensures { result ≡ slice_index self.now i }
