@@ -12,7 +12,7 @@ use Rattle.guest_core.specs.declared.phases.Passage.TheVariants.{Complete, AtSta
 use Rattle.a32_step.specs.inner.ExecutionState.{ExecutionState, resting, machine_in}
 use Rattle.a32_step.specs.inner.ExecutionState as stage
 use Rattle.a32_step.specs.Machine.{Machine, instr_at, next_effect, after_next, a32}
-use Rattle.guest_core.specs.Machine.{between, IsReady, moved_on, given, begins_of, IsHeld}
+use Rattle.guest_core.specs.Machine.{between, AwaitsNothing, moved_on, given, begins_of, IsHeld}
 use Rattle.guest_core.specs.Ports.{Leads, goes, refused, stays}
 use Rattle.a32_step.specs.inner.Acting.{IsGiven, begins, none_made, one_more, StandsAt, IsActed}
 use Rattle.a32_step.specs.inner.Passages.{Comes, EndsAt, IsCarriedOn}
@@ -218,7 +218,7 @@ not_on {old = old} rest = record {
   machine = old;
   leads = stays;
   comes = starts;
-  ends = (refl, subst (λ (m : Machine). IsReady m.phase) (sym rest) tt);
+  ends = (refl, subst (λ (m : Machine). AwaitsNothing m.phase) (sym rest) tt);
 }
 
 none_held : (program : Program) (state : State) (found : Result Instr Stop) → HasNone found → IsHeld (begins_of a32 program state found)

@@ -17,7 +17,7 @@ use Rattle.a32_step.specs.Machine.{Machine, decoded, instr_of_word, next_effect}
 use Rattle.a32_step.specs.inner.Machine.{Phase, begins, next_in}
 use Rattle.guest_core.specs.Phase.{Between, Inside, Awaiting, Calling, Stopped}
 pub use Rattle.guest_core.specs.Machine.{GoesOn, GoesOnWith}
-use Rattle.guest_core.specs.Machine.{wanted_of, IsReady, IsTested, PassesTests, IsOwn}
+use Rattle.guest_core.specs.Machine.{wanted_of, AwaitsNothing, IsTested, PassesTests, IsOwn}
 use Rattle.a32_step.proofs.Effects.{IsSound, Stands, allowed, chosen}
 use Rattle.a32_step.proofs.Instructions.{acts_stand}
 
@@ -74,7 +74,7 @@ next_room program machine asked goes same =
     let on = goes_on machine.phase machine.replies goes in
     subst (λ (l : List ℕ). length l < 16) on.1 (next_sound program machine asked on.0 same).room
 
-tested_in : (program : Program) (machine : Machine) (phase : Phase) → AreWords machine.state.regs → (phase ≡ Between → machine.replies ≡ []) → IsReady phase
+tested_in : (program : Program) (machine : Machine) (phase : Phase) → AreWords machine.state.regs → (phase ≡ Between → machine.replies ≡ []) → AwaitsNothing phase
     → IsTested program machine.replies (wanted_of (next_in program machine phase))
 tested_in program machine Between words none ready =
     subst (λ (l : List ℕ). IsTested program l (wanted_of (next_in program machine Between))) (sym (none refl))
@@ -86,7 +86,7 @@ tested_in program machine (Calling call) words none ready = absurd ready
 tested_in program machine (Stopped stop) words none ready = tt
 
 -- what is wanted by what a machine does next
-pub next_tested : (program : Program) (machine : Machine) (w : Wanted) → AreWords machine.state.regs → (machine.phase ≡ Between → machine.replies ≡ []) → IsReady machine.phase
+pub next_tested : (program : Program) (machine : Machine) (w : Wanted) → AreWords machine.state.regs → (machine.phase ≡ Between → machine.replies ≡ []) → AwaitsNothing machine.phase
     → w ≡ wanted_of (next_effect program machine) → IsTested program machine.replies w
 next_tested program machine w words none ready e =
     subst (λ (v : Wanted). IsTested program machine.replies v) (sym e) (tested_in program machine machine.phase words none ready)

@@ -7,7 +7,7 @@ ghost use Rattle.guest_core.specs.inner.Passages.{in_hand, passage_of};
 ghost use Rattle.guest_core.specs.Phase as phase;
 ghost use Rattle.a32_step.specs.Machine.{start_of, next_effect, after_next, instr_at};
 ghost use Rattle.a32_step.specs.inner.Machine.{after_instr, begins, HasBegun};
-ghost use Rattle.guest_core.specs.Machine.{given, wanted_of, between, Follows, IsReady, IsTested, IsAwaiting, IsCalling};
+ghost use Rattle.guest_core.specs.Machine.{given, wanted_of, between, Follows, AwaitsNothing, IsTested, IsAwaiting, IsCalling};
 
 use crate::conditional::Conditional;
 use crate::execution::Execution;
@@ -104,7 +104,7 @@ impl Cpu {
     pub fn give(&mut self, reply: u64)
         requires { IsAwaiting self.old.phase }
         ensures state { self.new ≡ given self.old reply }
-        ensures ready { IsReady self.new.phase }
+        ensures ready { AwaitsNothing self.new.phase }
         ensures one_more { length self.new.replies ≡ length self.old.replies + 1 }
         ensures room { length self.new.replies ≤ 16 }
     {
@@ -135,7 +135,7 @@ impl Cpu {
     /// it; after `Stopped` the same stop comes again.
     #[inline(always)]
     pub fn next(&mut self, image: &Image) -> Wanted
-        requires { IsReady self.old.phase }
+        requires { AwaitsNothing self.old.phase }
         ensures wanted { result ≡ wanted_of (next_effect image.now self.old) }
         ensures state { self.new ≡ after_next image.now self.old }
         ensures follows { Follows self.old result self.new }
@@ -149,7 +149,7 @@ impl Cpu {
     /// slot has the instruction that began, if one did.
     #[inline(always)]
     pub(crate) fn next_by(&mut self, image: &Image, slot: &mut Slot) -> Wanted
-        requires { IsReady self.old.phase }
+        requires { AwaitsNothing self.old.phase }
         ensures wanted { result ≡ wanted_of (next_effect image.now self.old) }
         ensures state { self.new ≡ after_next image.now self.old }
         ensures follows { Follows self.old result self.new }
@@ -161,7 +161,7 @@ impl Cpu {
     /// The instruction in hand goes on, or the next one begins, up to what is wanted.
     #[inline(always)]
     fn go_on(&mut self, image: &Image, slot: &mut Slot) -> Wanted
-        requires { IsReady self.old.phase }
+        requires { AwaitsNothing self.old.phase }
         ensures wanted { result ≡ wanted_of (next_effect image.now self.old) }
         ensures state { self.new ≡ after_next image.now self.old }
         ensures begins { self.old.phase ≡ phase.Between → self.old.replies ≡ [] }
@@ -181,7 +181,7 @@ impl Cpu {
     /// The next instruction begins where none is in hand. What is wanted, where none has anything to do.
     #[inline(always)]
     fn begin(&mut self, image: &Image, slot: &mut Slot) -> Option<Wanted>
-        requires { IsReady self.old.phase }
+        requires { AwaitsNothing self.old.phase }
         ensures wanted { IfSome result (λ wanted. wanted ≡ wanted_of (next_effect image.now self.old)) }
         ensures state { IfSome result (λ wanted. self.new ≡ after_next image.now self.old) }
         ensures begun { IfNone result (HasBegun image.now self.old self.new) }

@@ -1,3 +1,4 @@
+//! Why an ELF file gives no image.
 ghost use Rattle.std.specs.Prelude.{◌≡◌};
 ghost use Rattle.elf32.specs.Faults.{elf_fault_name};
 

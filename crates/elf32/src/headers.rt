@@ -1,3 +1,4 @@
+//! The program headers of an ELF file.
 ghost use Rattle.std.specs.Prelude.{◌≡◌, ◌+◌, ◌≤◌, length};
 ghost use Rattle.elf32.specs.Faults.{has_code_at, is_dynamic, is_past, is_unstored, is_writable_code, share};
 ghost use Rattle.elf32.specs.Headers.{end_of, entry_size, header_at, is_segment, runs, writes};

@@ -1,3 +1,4 @@
+//! The image of an ELF file.
 ghost use Rattle.std.specs.Prelude.{◌≡◌, ◌≤◌, ◌⊎◌, length, None, Some, IfOk, IfErr, IfSome};
 ghost use Rattle.llsc_base.specs.Sizes.{room_of};
 ghost use Rattle.elf32.specs.Faults.{first_fault, first_fault_as, program_fault};

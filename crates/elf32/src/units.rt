@@ -1,3 +1,4 @@
+//! A program as an assembler makes it: its code, its data, and its space.
 ghost use Rattle.std.specs.Prelude.{◌≡◌};
 
 use std::marker::Model;

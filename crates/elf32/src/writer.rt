@@ -1,3 +1,4 @@
+//! The ELF file of a program.
 ghost use Rattle.std.specs.Prelude.{◌≡◌, ◌+◌, ◌*◌, ◌<◌, ◌≤◌, ◌++◌, [], ◌∷◌, None, length, IfOk, OnOk};
 ghost use Rattle.llsc_base.specs.Limits.{code_start};
 ghost use Rattle.llsc_base.specs.Sizes.{Numbers, room_of};

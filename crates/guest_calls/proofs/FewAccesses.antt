@@ -6,7 +6,7 @@ use Rattle.llsc_base.specs.declared.outside.Ask.{Ask}
 use Rattle.llsc_base.specs.Effects.{asks}
 use Rattle.llsc_base.specs.declared.outside.Stop.{Stop}
 use Rattle.guest_core.specs.Phase.{PhaseOf, Between, Inside, Awaiting, Calling, Stopped}
-use Rattle.guest_core.specs.Machine.{MachineOf, wanted_of, between, after_of, given, given_in, IsReady, IsAwaiting, InstructionSet, next_of, GoesOnWith}
+use Rattle.guest_core.specs.Machine.{MachineOf, wanted_of, between, after_of, given, given_in, AwaitsNothing, IsAwaiting, InstructionSet, next_of, GoesOnWith}
 use Rattle.guest_core.specs.declared.phases.Wanted.TheVariants as wanted
 use Rattle.guest_core.proofs.Follows.{follows_of}
 use Rattle.guest_calls.specs.Bound.{most_accesses_in}
@@ -17,7 +17,7 @@ use Rattle.guest_calls.proofs.Written.{written_within}
 
 -- ---- a reply
 
-goes_ready : {I : Type 0} (phase : PhaseOf I) (replies : List ℕ) → GoesOnWith phase replies → IsReady phase
+goes_ready : {I : Type 0} (phase : PhaseOf I) (replies : List ℕ) → GoesOnWith phase replies → AwaitsNothing phase
 goes_ready Between replies goes = tt
 goes_ready (Inside instr) replies goes = tt
 goes_ready (Awaiting instr asked) replies goes = absurd goes

@@ -104,12 +104,12 @@ module _ {I S : Type 0} (set : InstructionSet I S) where
   returned_of machine answer = between (set.answered machine.state answer)
 
 -- no access and no call is awaited
-abbrev pub IsReady : {I : Type 0} → PhaseOf I → Type 0
-IsReady Between = Unit {0}
-IsReady (Inside instr) = Unit {0}
-IsReady (Awaiting instr ask) = ⊥
-IsReady (Calling call) = ⊥
-IsReady (Stopped stop) = Unit {0}
+abbrev pub AwaitsNothing : {I : Type 0} → PhaseOf I → Type 0
+AwaitsNothing Between = Unit {0}
+AwaitsNothing (Inside instr) = Unit {0}
+AwaitsNothing (Awaiting instr ask) = ⊥
+AwaitsNothing (Calling call) = ⊥
+AwaitsNothing (Stopped stop) = Unit {0}
 
 -- between two instructions, or inside one
 abbrev pub GoesOn : {I : Type 0} → PhaseOf I → Type 0

@@ -5,7 +5,7 @@ use Rattle.llsc_base.specs.declared.outside.Ask.{Ask}
 use Rattle.llsc_base.specs.Effects.{asks, completes}
 use Rattle.guest_core.specs.declared.phases.Passage.{Passage}
 use Rattle.guest_core.specs.declared.phases.Passage.TheVariants.{Complete, AtStart, UnderWay}
-use Rattle.guest_core.specs.Machine.{MachineOf, InstructionSet, next_of, after_of, given, between, IsReady}
+use Rattle.guest_core.specs.Machine.{MachineOf, InstructionSet, next_of, after_of, given, between, AwaitsNothing}
 use Rattle.guest_core.specs.Ports.{Leads}
 
 module _ {I S : Type 0} (set : InstructionSet I S) where
@@ -20,8 +20,8 @@ module _ {I S : Type 0} (set : InstructionSet I S) where
   abbrev pub EndsAtOf : Program → MachineOf I S → Passage → MachineOf I S → Type 0
   EndsAtOf program machine Complete new =
       (state : S) × (next_of set program machine ≡ completes state) × (new ≡ after_of set program machine) × (new ≡ between state)
-  EndsAtOf program machine AtStart new = (new ≡ machine) × IsReady machine.phase
-  EndsAtOf program machine UnderWay new = (new ≡ machine) × IsReady machine.phase
+  EndsAtOf program machine AtStart new = (new ≡ machine) × AwaitsNothing machine.phase
+  EndsAtOf program machine UnderWay new = (new ≡ machine) × AwaitsNothing machine.phase
 
   -- a machine between two instructions was carried on over a port, through an instruction or as far as it came
   pub record IsCarriedOnOf {P : Type 0} (replies : P → Ask → Option ℕ → P → Type 0) (program : Program) (old : MachineOf I S) (from : P) (passage : Passage)

@@ -5,7 +5,7 @@ ghost use Rattle.llsc_base.specs.declared.outside.Ask.{Ask};
 ghost use Rattle.llsc_base.specs.declared.outside.Stop.{Stop};
 ghost use Rattle.llsc_base.specs.Effects.{asks, stops};
 ghost use Rattle.guest_core.specs.Phase as phase;
-ghost use Rattle.guest_core.specs.Machine.{MachineOf, InstructionSet, after_of, between, given, next_of, returned_of, start_in, wanted_of, Follows, GoesOn, GoesOnWith, IsAwaiting, IsCalling, IsHeld, IsOwn, IsReady, IsTested, PassesTests};
+ghost use Rattle.guest_core.specs.Machine.{MachineOf, InstructionSet, after_of, between, given, next_of, returned_of, start_in, wanted_of, Follows, GoesOn, GoesOnWith, IsAwaiting, IsCalling, IsHeld, IsOwn, AwaitsNothing, IsTested, PassesTests};
 ghost use Rattle.guest_core.specs.Passages.{IsCarriedOnOf};
 
 use crate::code::Code;
@@ -38,7 +38,7 @@ pub trait Core: Send + Drop {
 
     /// Goes on until something is wanted from outside; neither a reply nor an answer may be awaited.
     fn next(&mut self, image: &Image) -> Wanted
-        requires { IsReady (machine self.old).phase }
+        requires { AwaitsNothing (machine self.old).phase }
         ensures wanted { result ≡ wanted_of (next_of set image.now (machine self.old)) }
         ensures state { machine self.new ≡ after_of set image.now (machine self.old) }
         ensures follows { Follows (machine self.old) result (machine self.new) }
@@ -64,7 +64,7 @@ pub trait Core: Send + Drop {
     fn give(&mut self, reply: u64)
         requires { IsAwaiting (machine self.old).phase }
         ensures state { machine self.new ≡ given (machine self.old) reply }
-        ensures ready { IsReady (machine self.new).phase }
+        ensures ready { AwaitsNothing (machine self.new).phase }
         ensures one_more { length (machine self.new).replies ≡ length (machine self.old).replies + 1 }
         ensures room { length (machine self.new).replies ≤ 16 };
 

@@ -1,3 +1,4 @@
+//! What a core wants, and how far an instruction came that was carried on.
 use llsc_base::{Ask, CallAsk, Stop};
 
 /// What a thread wants from outside.

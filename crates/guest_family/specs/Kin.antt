@@ -56,7 +56,7 @@ module _ {P : Type 0} (home : P → TableId) (numbers : P → ℕ → Bool) (see
   AreStarters mem origin program (starter ∷ starters) = IsStarter mem origin program starter × AreStarters mem origin program starters
 
   -- those of all first threads of the memory, in order of number, with room for all ends
-  pub record IsReady (mem : TableId) (origin : Origin) (program : Program) (kin : Kin P) : Type 0 where
+  pub record AreReadyKin (mem : TableId) (origin : Origin) (program : Program) (kin : Kin P) : Type 0 where
     pub first : IsStarter mem origin program kin.first
     pub others : AreStarters mem origin program kin.others.items
     pub threads : heads_of (kin.first ∷ kin.others.items) ≡ range_with_len 0 origin.first

@@ -6,7 +6,7 @@ ghost use Rattle.guest_thread.specs.BegunOutcome.{AreBegunEnds};
 ghost use Rattle.guest_thread.specs.Counting.{accesses_counted, counts_in};
 ghost use Rattle.guest_thread.specs.declared.ends.GuestEnd.{GuestEnd};
 ghost use Rattle.guest_family.specs.inner.EndedStarters.{HasEndedWithAll, HaveEndedWithAll};
-ghost use Rattle.guest_family.specs.Kin.{IsReady, IsStarter, heads_of, own_numbers};
+ghost use Rattle.guest_family.specs.Kin.{AreReadyKin, IsStarter, heads_of, own_numbers};
 ghost use Rattle.guest_family.specs.inner.Kin.{MayRun};
 ghost use denote.Param.Send.{IsSync, IsSend};
 ghost use Rattle.a32_step.specs.Machine.{a32};
@@ -242,7 +242,7 @@ pub fn run_family<M: StartMemory, R: Threads + Wait + Sync>(
     kin: Kin<M::Pass>,
     budget: u64,
 ) -> Ran<M::Pass>
-    requires kin { IsReady M.home M.numbers M.seen (M.id mem.now) (M.origin mem.now) image.now kin }
+    requires kin { AreReadyKin M.home M.numbers M.seen (M.id mem.now) (M.origin mem.now) image.now kin }
     requires whole { length image.now.bytes ≡ (M.origin mem.now).size.mem }
     requires budget { budget ≤ most_budget }
     ensures ends { AreBegunEnds a32 image.now (M.origin mem.now).size (M.origin mem.now).first (M.origin mem.now).spare budget (M.seen result.pass) result.ends.items }

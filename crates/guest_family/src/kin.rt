@@ -3,7 +3,7 @@ ghost use Rattle.std.specs.Prelude.{◌≡◌, ◌≤◌, ◌+◌, ◌*◌, ℕ,
 ghost use Rattle.std.specs.List.{range_with_len};
 ghost use Rattle.history.specs.Parts.{entries_of};
 ghost use Rattle.shared_memory.specs.Seen.{IsSingle};
-ghost use Rattle.guest_family.specs.Kin.{AreSpares, AreStarters, IsReady, heads_of, spares_of};
+ghost use Rattle.guest_family.specs.Kin.{AreSpares, AreStarters, AreReadyKin, heads_of, spares_of};
 ghost use Rattle.guest_family.specs.inner.Left.{AreLeft};
 
 use a32_step::{Conditional, Cpu};
@@ -138,7 +138,7 @@ pub fn prepare_family<'i, M: StartMemory>(
     requires memory { M.home first ≡ M.id mem.now }
     requires numbers { (t : ℕ) → M.numbers first t ≡ nat_lt t (M.origin mem.now).size.threads }
     requires none { (t : ℕ) → entries_of t (M.seen first) ≡ [] }
-    ensures ready { IfOk result (IsReady M.home M.numbers M.seen (M.id mem.now) (M.origin mem.now) image.now) }
+    ensures ready { IfOk result (AreReadyKin M.home M.numbers M.seen (M.id mem.now) (M.origin mem.now) image.now) }
     ensures seen { IfOk result (λ kin. M.seen kin.first.job.pass ≡ M.seen first) }
 {
     let heads = mem.first();

@@ -18,7 +18,7 @@ use Rattle.guest_calls.specs.Run.{Pair}
 use Rattle.guest_calls.specs.Pairs.{pair_of, pairs_of, reply_of}
 use Rattle.history.specs.Accesses.{entry_of, entry_by}
 use Rattle.guest_thread.specs.Accesses.{access_by}
-use Rattle.guest_machine.specs.Alone.{FailsUnmarked, AllFailUnmarked, IsAlone}
+use Rattle.guest_machine.specs.Alone.{FailsUnmarked, AllFailUnmarked, IsHistoryAlone}
 use Rattle.history.proofs.Exclusives.{on_marked}
 use Rattle.guest_calls.proofs.Decided.{Replies, AreDecided}
 
@@ -57,7 +57,7 @@ served_decides m pairs all front back ask reply parts =
 -- ---- the accesses of a thread alone
 
 -- An access as one of thread 0 that memory has served.
-pub record IsServed (m : Monitor) (e : Entry) : Type 0 where
+pub record IsDecidedAlone (m : Monitor) (e : Entry) : Type 0 where
   pub own : thread_of e ≡ 0
   pub reply : (pair_of e).1 ≡ reply_to m (pair_of e).0
   pub after : accessed m (made m (pair_of e).0) ≡ accessed m e
@@ -68,7 +68,7 @@ only_thread m thread one known = omega arith
 
 -- a load
 load_served : (m : Monitor) (thread : ℕ) (place : Place) (value : ℕ) (ex : Bool) → thread ≡ 0 → value ≡ value_at m.memory place
-    → IsServed m (entry.Read thread place value ex)
+    → IsDecidedAlone m (entry.Read thread place value ex)
 load_served m thread place value false own is = record { own = own; reply = is; after = refl }
 load_served m thread place value true own is = record {
   own = own;
@@ -79,7 +79,7 @@ load_served m thread place value true own is = record {
 -- a store
 store_served : (m : Monitor) (thread : ℕ) (place : Place) (value : ℕ) (ex : Bool) → thread ≡ 0
     → (ex ≡ true → marked_row m thread ≡ Some (row_of m.granule place))
-    → IsServed m (entry.Write thread place value ex)
+    → IsDecidedAlone m (entry.Write thread place value ex)
 store_served m thread place value false own marked = record { own = own; reply = refl; after = refl }
 store_served m thread place value true own marked =
     let on : is_on (row_of m.granule place) (marked_row m 0) ≡ true = on_marked (row_of m.granule place) (marked_row m 0) (ap (marked_row m) (sym own) ∙ marked refl) in
@@ -93,7 +93,7 @@ store_served m thread place value true own marked =
 
 -- a store-exclusive that failed
 fail_served : (m : Monitor) (thread : ℕ) (place : Place) (value : ℕ) (cause : Cause) → thread ≡ 0
-    → is_on (row_of m.granule place) (marked_row m thread) ≡ false → IsServed m (entry.Fail thread place value cause)
+    → is_on (row_of m.granule place) (marked_row m thread) ≡ false → IsDecidedAlone m (entry.Fail thread place value cause)
 fail_served m thread place value cause own unmarked =
     let off : is_on (row_of m.granule place) (marked_row m 0) ≡ false = ap (λ t. is_on (row_of m.granule place) (marked_row m t)) (sym own) ∙ unmarked in
     let is : made m (StoreEx place value) ≡ entry.Fail 0 place value Absent =
@@ -105,11 +105,11 @@ fail_served m thread place value cause own unmarked =
     }
 
 -- CLREX
-clear_served : (m : Monitor) (thread : ℕ) → thread ≡ 0 → IsServed m (entry.Clear thread)
+clear_served : (m : Monitor) (thread : ℕ) → thread ≡ 0 → IsDecidedAlone m (entry.Clear thread)
 clear_served m thread own = record { own = own; reply = refl; after = ap (λ t. accessed m (entry.Clear t)) (sym own) }
 
 -- an access that Arm allows to the one thread there is has been served
-pub access_served : (m : Monitor) (e : Entry) → length m.marks ≡ 1 → MayAccess m e → FailsUnmarked m e → is_access e ≡ true → IsServed m e
+pub access_served : (m : Monitor) (e : Entry) → length m.marks ≡ 1 → MayAccess m e → FailsUnmarked m e → is_access e ≡ true → IsDecidedAlone m e
 access_served m (entry.Read thread place value ex) one may decided is = load_served m thread place value ex (only_thread m thread one may.0.known) may.1
 access_served m (entry.Write thread place value ex) one may decided is = store_served m thread place value ex (only_thread m thread one may.0.known) may.1
 access_served m (entry.Fail thread place value cause) one may decided is = fail_served m thread place value cause (only_thread m thread one may.known) decided
@@ -167,7 +167,7 @@ history_served m (e ∷ history) one legal decided =
     (history_served (accessed m e) history (one_still m e one legal.0) legal.1 decided.1)
 
 -- memory decides the replies of a thread alone
-pub alone_decided : (granule : ℕ) (first : List ℕ) (history : List Entry) → IsAlone granule first history
+pub alone_decided : (granule : ℕ) (first : List ℕ) (history : List Entry) → IsHistoryAlone granule first history
     → AreDecided (by_memory granule first) (pairs_of 0 history)
 alone_decided granule first history alone =
     served_decides (at_rest_by granule first 1) (pairs_of 0 history) (history_served (at_rest_by granule first 1) history refl alone.legal alone.decided)

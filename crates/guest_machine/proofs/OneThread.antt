@@ -8,8 +8,8 @@ use Rattle.guest_machine.specs.Turns.{drawn, turn_of, without, Takes, begins, ma
 use Rattle.guest_core.specs.Machine.{InstructionSet}
 
 -- thread 0 alone, or nobody
-abbrev pub IsAlone : List ℕ → Type 0
-IsAlone live = (live ≡ 0 ∷ []) ⊎ (live ≡ [])
+abbrev pub IsOneOrNone : List ℕ → Type 0
+IsOneOrNone live = (live ≡ 0 ∷ []) ⊎ (live ≡ [])
 
 pub only : (x : ℕ) → turn_of x (0 ∷ []) ≡ Some 0
 only x = ap (λ k. slice_get (0 ∷ []) k) (let first : x / 2 ^ 33 % 1 ≡ 0 = omega arith in first)
@@ -18,21 +18,21 @@ some_same : (t other : ℕ) → Some t ≡ Some other → t ≡ other
 some_same t other same = cc
 
 -- whose turn it is by one number, it is by any other
-pub same_turn : (x y t : ℕ) (live : List ℕ) → IsAlone live → turn_of x live ≡ Some t → (turn_of y live ≡ Some t) × (t ≡ 0)
+pub same_turn : (x y t : ℕ) (live : List ℕ) → IsOneOrNone live → turn_of x live ≡ Some t → (turn_of y live ≡ Some t) × (t ≡ 0)
 same_turn x y t live (inl one) turn =
     let zero_t : t ≡ 0 = some_same t 0 (sym turn ∙ ap (turn_of x) one ∙ only x) in
     (ap (turn_of y) one ∙ only y ∙ ap Some (sym zero_t), zero_t)
 same_turn x y t live (inr none) turn = absurd (let h : None ≡ Some t = ap (turn_of x) (sym none) ∙ turn in let f : ⊥ = cc in f)
 
 -- with the one taken out there is nobody
-alone_without : (t : ℕ) (live : List ℕ) → IsAlone live → t ≡ 0 → IsAlone (without t live)
+alone_without : (t : ℕ) (live : List ℕ) → IsOneOrNone live → t ≡ 0 → IsOneOrNone (without t live)
 alone_without t live (inl one) same = inr (ap (without t) one ∙ ap (λ u. without u (0 ∷ [])) same)
 alone_without t live (inr none) same = inr (ap (without t) none)
 
 module _ {I S : Type 0} (set : InstructionSet I S) where
   -- the same turns from another number
   pub record FromAny (program : Program) (size : Numbers) (seed budget : ℕ) (live : List ℕ) (accesses : List Access) : Type 0 where
-    pub alone : IsAlone live
+    pub alone : IsOneOrNone live
     pub number : ℕ
     pub takes : Takes set program size seed budget number live accesses
 

@@ -3,8 +3,8 @@ use Rattle.std.proofs.Common.{◌≡◌, ℕ, ◌+◌, ◌≤◌, arith, Bool, t
 use Rattle.guest_calls.specs.Run.{Pair, Ends}
 use Rattle.guest_thread.specs.Ports.{EndsBy}
 use Rattle.guest_core.specs.Ports.{Leads, goes, refused, stays}
-use Rattle.guest_machine.specs.inner.Served.{IsServed, IsServedBy}
-use Rattle.guest_machine.specs.Alone.{IsAlone, FailsUnmarked, AllFailUnmarked, IsEndAlone}
+use Rattle.guest_machine.specs.inner.Served.{IsServedAlone, RepliesAlone}
+use Rattle.guest_machine.specs.Alone.{IsHistoryAlone, FailsUnmarked, AllFailUnmarked, IsEndAlone}
 use Rattle.llsc_base.specs.Images.{Program}
 use Rattle.llsc_base.specs.Memory.{row_of}
 use Rattle.history.specs.ArmLegal.{MayAccess}
@@ -49,7 +49,7 @@ all_fail_push m (entry ∷ history) e all here = (all.0, all_fail_push (accessed
 -- a history that a thread alone may have, with these accesses and replies, this memory and these counts
 pub record IsMade (granule : ℕ) (bytes : List ℕ) (pairs : List Pair) (alone : Alone) : Type 0 where
   pub history : List Entry
-  pub allowed : IsAlone granule bytes history
+  pub allowed : IsHistoryAlone granule bytes history
   pub pairs_are : pairs ≡ pairs_of 0 history
   pub memory : alone.memory ≡ monitor_after (at_rest_by granule bytes 1) history
   pub counts : AreCounts 0 history alone.counts
@@ -67,7 +67,7 @@ at_first granule bytes alone memory counts = record {
 
 -- one more access
 after_access : (granule : ℕ) (bytes : List ℕ) (pairs : List Pair) (old new : Alone) (ask : Ask) (reply : ℕ)
-    → IsMade granule bytes pairs old → IsServed old ask reply new → IsMade granule bytes (pairs ++ (ask, reply) ∷ []) new
+    → IsMade granule bytes pairs old → IsServedAlone old ask reply new → IsMade granule bytes (pairs ++ (ask, reply) ∷ []) new
 after_access granule bytes pairs old new ask reply way served =
     let access : Access = access_by old.memory 0 ask in
     let e : Entry = entry_of access in
@@ -96,14 +96,14 @@ one_of (entry.Begin thread place) = omega arith
 one_of (entry.End thread place) = omega arith
 one_of (entry.Start thread child at arg) = omega arith
 
-pub one_counted : (old : Alone) (ask : Ask) (reply : ℕ) (new : Alone) → IsServed old ask reply new → accesses_counted new.counts ≤ accesses_counted old.counts + 1
+pub one_counted : (old : Alone) (ask : Ask) (reply : ℕ) (new : Alone) → IsServedAlone old ask reply new → accesses_counted new.counts ≤ accesses_counted old.counts + 1
 one_counted old ask reply new served =
     let one = one_of (entry_of (access_by old.memory 0 ask)) in
     omega (arith, served.reads, served.writes, served.fails, one)
 
 -- all of them
 pub after_all : (granule : ℕ) (bytes : List ℕ) (first : Alone) (pairs : List Pair) (last : Alone)
-    → IsMade granule bytes [] first → Leads IsServedBy first pairs last → IsMade granule bytes pairs last
+    → IsMade granule bytes [] first → Leads RepliesAlone first pairs last → IsMade granule bytes pairs last
 after_all granule bytes first _ _ begun stays = begun
 after_all granule bytes first _ _ begun (goes pairs between next ask reply leads served) =
     after_access granule bytes pairs between next ask reply (after_all granule bytes first pairs between begun leads) served

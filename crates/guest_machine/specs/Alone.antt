@@ -23,7 +23,7 @@ AllFailUnmarked monitor (entry ∷ entries) = FailsUnmarked monitor entry × All
 
 -- A history of a thread alone, where memory began as these bytes, with rows of this granule: Arm allows its accesses, all of
 -- them the thread's, and each store-exclusive succeeds just where its thread is marked on its row.
-pub record IsAlone (granule : ℕ) (bytes : List ℕ) (history : List Entry) : Type 0 where
+pub record IsHistoryAlone (granule : ℕ) (bytes : List ℕ) (history : List Entry) : Type 0 where
   pub legal : IsArmLegal (at_rest_by granule bytes 1) history
   pub decided : AllFailUnmarked (at_rest_by granule bytes 1) history
 
@@ -32,7 +32,7 @@ module _ {I S : Type 0} (set : InstructionSet I S) where
   pub record IsEndAlone (program : Program) (budget : ℕ) (start : MachineOf I S) (granule : ℕ) (bytes : List ℕ) (end : GuestEnd) : Type 0 where
     pub number : end.thread ≡ 0
     pub history : List Entry
-    pub alone : IsAlone granule bytes history
+    pub alone : IsHistoryAlone granule bytes history
     pub end_in : IsEndIn set program budget start history end
 
   -- the machine has one thread, and the end is that of the program's, on a memory that begins as the program's bytes

@@ -21,9 +21,9 @@ pub(crate) struct Alone {
 
 impl Port for Alone {
     ghost use Rattle.guest_thread.specs.Counting.{accesses_counted};
-    ghost use Rattle.guest_machine.specs.inner.Served.{IsServedBy};
+    ghost use Rattle.guest_machine.specs.inner.Served.{RepliesAlone};
 
-    ghost replies = { IsServedBy };
+    ghost replies = { RepliesAlone };
 
     ghost mem = { λ alone. length alone.memory.memory };
 

@@ -1,7 +1,7 @@
 //! Worked histories of a thread alone, in a small memory of zeros.
 ghost use Rattle.std.specs.Prelude.{◌∷◌, [], true, false};
 ghost use Rattle.history.specs.Worked.{beside, next_row, word};
-ghost use Rattle.guest_machine.specs.Alone.{AllFailUnmarked, FailsUnmarked, IsAlone};
+ghost use Rattle.guest_machine.specs.Alone.{AllFailUnmarked, FailsUnmarked, IsHistoryAlone};
 ghost use Rattle.guest_machine.specs.Worked.{first_word, lone_after, zeros};
 
 use history::{Cause, Entry};
@@ -26,10 +26,10 @@ pub fn histories_that_fail_unmarked()
 
 /// A thread alone stores exclusively behind its load-exclusive and fails without one; it doesn't fail while it is marked.
 pub fn histories_of_a_thread_alone()
-    ensures stored { IsAlone 0 zeros (Entry.Read 0 word 0 true ∷ Entry.Write 0 word 9 true ∷ []) }
-    ensures failed { IsAlone 0 zeros (Entry.Fail 0 word 9 Cause.Absent ∷ []) }
-    ensures failed_while_marked { ¬ IsAlone 0 zeros (Entry.Read 0 word 0 true ∷ Entry.Fail 0 word 9 Cause.Absent ∷ []) }
-    ensures stored_unmarked { ¬ IsAlone 0 zeros (Entry.Write 0 word 9 true ∷ []) }
-    ensures another_value { ¬ IsAlone 0 zeros (Entry.Read 0 word 5 false ∷ []) }
-    ensures of_another { ¬ IsAlone 0 zeros (Entry.Read 1 word 0 false ∷ []) }
+    ensures stored { IsHistoryAlone 0 zeros (Entry.Read 0 word 0 true ∷ Entry.Write 0 word 9 true ∷ []) }
+    ensures failed { IsHistoryAlone 0 zeros (Entry.Fail 0 word 9 Cause.Absent ∷ []) }
+    ensures failed_while_marked { ¬ IsHistoryAlone 0 zeros (Entry.Read 0 word 0 true ∷ Entry.Fail 0 word 9 Cause.Absent ∷ []) }
+    ensures stored_unmarked { ¬ IsHistoryAlone 0 zeros (Entry.Write 0 word 9 true ∷ []) }
+    ensures another_value { ¬ IsHistoryAlone 0 zeros (Entry.Read 0 word 5 false ∷ []) }
+    ensures of_another { ¬ IsHistoryAlone 0 zeros (Entry.Read 1 word 0 false ∷ []) }
 {}

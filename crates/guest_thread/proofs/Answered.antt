@@ -27,8 +27,8 @@ use Rattle.guest_thread.specs.Pieces.{ByAnswer, CountFew, HasMadeFew, IsPiece, S
 use Rattle.guest_thread.specs.inner.Pieces.{ended_at, point_of}
 use Rattle.guest_thread.specs.Ports.{EndsByFrom}
 use Rattle.guest_thread.specs.inner.Ports.{RestsWithin, RestsBy}
-use Rattle.guest_thread.specs.Progress.{progress_of}
-use Rattle.guest_thread.specs.inner.Sharing.{SharingState, IsServedBy, RefusesAt}
+use Rattle.guest_thread.specs.Progress.{headway_of}
+use Rattle.guest_thread.specs.inner.Sharing.{SharingState, RepliesSharing, RefusesAt}
 use Rattle.guest_thread.specs.ThreadState.{ThreadOf, ThreadStateOf, thread_in}
 use Rattle.guest_thread.specs.inner.ThreadState.{StopsWithin}
 use Rattle.guest_thread.specs.inner.Under.{ComesToEvent}
@@ -75,10 +75,10 @@ module _ {I S : Type 0} (set : InstructionSet I S) where
 
     pub gone_by : (pass : P) (first last : SharingState) (pairs : List Pair) (counts : Counts)
         → first ≡ record { memory = mem; origin = origin; thread = t; seen = seen part.pass; counts = counts } → counts ≡ counts_by part
-        → Leads IsServedBy first pairs last → home pass ≡ last.memory → IsSingle last.thread (numbers pass) → seen pass ≡ last.seen → HasGone pass last pairs
+        → Leads RepliesSharing first pairs last → home pass ≡ last.memory → IsSingle last.thread (numbers pass) → seen pass ≡ last.seen → HasGone pass last pairs
     gone_by pass first last pairs counts is same leads memory single seen_is =
         let begin : first ≡ sharing_at = is ∙ ap (λ (n : Counts). record { memory = mem; origin = origin; thread = t; seen = seen part.pass; counts = n }) same in
-        let shared : HasShared sharing_at pairs last = after_all sharing_at pairs last (subst (λ s. Leads IsServedBy s pairs last) begin leads) in
+        let shared : HasShared sharing_at pairs last = after_all sharing_at pairs last (subst (λ s. Leads RepliesSharing s pairs last) begin leads) in
         record {
           shared = shared;
           memory = memory ∙ shared.goes_on.memory;
@@ -126,7 +126,7 @@ module _ {I S : Type 0} (set : InstructionSet I S) where
         }
 
         -- with all steps made, it pauses
-        pub paused : upto < budget → accesses_counted last.counts ≤ progress_of (thread_in of_core guest) → ComesToEvent set starts program upto (point_of set of_core part) pairs event.Spent (thread_in of_core guest)
+        pub paused : upto < budget → accesses_counted last.counts ≤ headway_of (thread_in of_core guest) → ComesToEvent set starts program upto (point_of set of_core part) pairs event.Spent (thread_in of_core guest)
             → IsPiece set of_core home numbers seen mem origin program starts upto budget t part (Pause part_at)
         paused less counted comes =
             let here : of_core guest.cpu ≡ between (of_core guest.cpu).state = spent_between set passes own starts program upto (point_of set of_core part) rests pairs (of_core guest.cpu) guest.steps guest.output comes.0 comes.1 in
@@ -176,7 +176,7 @@ module _ {I S : Type 0} (set : InstructionSet I S) where
             })
 
         -- it calls for a thread to be started
-        pub called_at : (call : CallAsk) → (of_core guest.cpu).phase ≡ Calling call → starts ≡ true → accesses_counted last.counts ≤ progress_of (thread_in of_core guest)
+        pub called_at : (call : CallAsk) → (of_core guest.cpu).phase ≡ Calling call → starts ≡ true → accesses_counted last.counts ≤ headway_of (thread_in of_core guest)
             → length (of_core guest.cpu).replies ≤ 16 → ComesToEvent set starts program upto (point_of set of_core part) pairs event.Starts (thread_in of_core guest)
             → IsPiece set of_core home numbers seen mem origin program starts upto budget t part (Start part_at (set.call_of call).a (set.call_of call).b)
         called_at call phase asked counted replies comes =
@@ -201,7 +201,7 @@ module _ {I S : Type 0} (set : InstructionSet I S) where
             → ((why : Stop) → how ≡ rest.Stopped why → answer ≡ Ended (ended_at t why stood))
             → (how ≡ rest.Starts → (call : CallAsk) × ((of_core stood.cpu).phase ≡ Calling call) × (answer ≡ Start stood (set.call_of call).a (set.call_of call).b))
             → (how ≡ rest.Spent → upto < budget → answer ≡ Pause stood) → (how ≡ rest.Spent → budget ≤ upto → answer ≡ Ended (ended_at t stop.Budget stood))
-            → (how ≡ rest.Starts → starts ≡ true) → RestsWithin upto how (thread_in of_core guest) → accesses_counted last.counts ≤ progress_of (thread_in of_core guest)
+            → (how ≡ rest.Starts → starts ≡ true) → RestsWithin upto how (thread_in of_core guest) → accesses_counted last.counts ≤ headway_of (thread_in of_core guest)
             → length (of_core guest.cpu).replies ≤ 16 → RestsBy set starts (RefusesAt last) program upto (point_of set of_core part) pairs how (thread_in of_core guest)
             → IsPiece set of_core home numbers seen mem origin program starts upto budget t part answer
         rested_at (rest.Stopped why) stood answer is stops calls pauses spends asked within counted replies comes =

@@ -6,7 +6,7 @@ use Rattle.llsc_base.specs.declared.outside.Ask.{Ask}
 use Rattle.guest_core.specs.declared.phases.Passage.{Passage}
 use Rattle.guest_core.specs.declared.phases.Passage.TheVariants.{Complete, AtStart, UnderWay}
 use Rattle.guest_core.specs.declared.phases.Wanted.TheVariants as wanted
-use Rattle.guest_core.specs.Machine.{MachineOf, InstructionSet, between, IsReady, IsAwaiting, after_of, given, given_in, wanted_of}
+use Rattle.guest_core.specs.Machine.{MachineOf, InstructionSet, between, AwaitsNothing, IsAwaiting, after_of, given, given_in, wanted_of}
 use Rattle.guest_core.specs.Phase.{PhaseOf, Between, Inside, Awaiting, Calling, Stopped}
 use Rattle.guest_core.specs.Passages.{ComesOf, starts, replied, EndsAtOf, IsCarriedOnOf}
 use Rattle.guest_core.specs.Ports.{Leads, goes, refused, stays}
@@ -51,7 +51,7 @@ module _ {I S : Type 0} (set : InstructionSet I S) where
 
   -- ---- how many accesses it made
 
-  given_ready : (machine : MachineOf I S) (reply : ℕ) (phase : PhaseOf I) → IsAwaiting phase → IsReady (given_in machine reply phase).phase
+  given_ready : (machine : MachineOf I S) (reply : ℕ) (phase : PhaseOf I) → IsAwaiting phase → AwaitsNothing (given_in machine reply phase).phase
   given_ready machine reply Between awaits = absurd awaits
   given_ready machine reply (Inside instr) awaits = absurd awaits
   given_ready machine reply (Awaiting instr ask) awaits = tt
@@ -60,10 +60,10 @@ module _ {I S : Type 0} (set : InstructionSet I S) where
 
   -- each reply is one of its instruction's
   record HasReplies (old machine : MachineOf I S) (pairs : List Pair) : Type 0 where
-    ready : IsReady machine.phase
+    ready : AwaitsNothing machine.phase
     count : length machine.replies ≡ length old.replies + length pairs
 
-  comes_counted : (program : Program) (old machine : MachineOf I S) (pairs : List Pair) → IsReady old.phase → ComesOf set program old pairs machine → HasReplies old machine pairs
+  comes_counted : (program : Program) (old machine : MachineOf I S) (pairs : List Pair) → AwaitsNothing old.phase → ComesOf set program old pairs machine → HasReplies old machine pairs
   comes_counted program old _ _ first starts = record { ready = first; count = omega arith }
   comes_counted program old _ _ first (replied pairs machine ask reply comes asked) =
       let before = comes_counted program old machine pairs first comes in
@@ -81,13 +81,13 @@ module _ {I S : Type 0} (set : InstructionSet I S) where
       → length machine.replies ≡ length pairs
   replies_counted program old machine pairs rest comes =
       let none : length old.replies ≡ 0 = ap (λ (m : MachineOf I S). length m.replies) rest in
-      let all = comes_counted program old machine pairs (subst (λ (m : MachineOf I S). IsReady m.phase) (sym rest) tt) comes in
+      let all = comes_counted program old machine pairs (subst (λ (m : MachineOf I S). AwaitsNothing m.phase) (sym rest) tt) comes in
       omega (arith, none, all.count)
 
   -- ---- one instruction more, or a part of it
 
   pub part_ends : (program : Program) (machine new : MachineOf I S) (way : Passage) → (way ≡ AtStart) ⊎ (way ≡ UnderWay) → EndsAtOf set program machine way new
-      → (new ≡ machine) × IsReady machine.phase
+      → (new ≡ machine) × AwaitsNothing machine.phase
   part_ends program machine new way (inl is) ends = subst (λ w. EndsAtOf set program machine w new) is ends
   part_ends program machine new way (inr is) ends = subst (λ w. EndsAtOf set program machine w new) is ends
 
@@ -96,7 +96,7 @@ module _ {I S : Type 0} (set : InstructionSet I S) where
   at_rest_on program machine new still ends =
       record { printing = still; between = ends.3 ∙ ap between (sym (ap (λ (m : MachineOf I S). m.state) ends.3)) }
 
-  pub running_at : (mem budget : ℕ) (new : ThreadOf I S) → new.printing ≡ None → IsReady new.cpu.phase → new.steps ≤ budget
+  pub running_at : (mem budget : ℕ) (new : ThreadOf I S) → new.printing ≡ None → AwaitsNothing new.cpu.phase → new.steps ≤ budget
       → length new.cpu.replies ≤ 16 → length new.output ≤ most_output → IsRunning mem budget new
   running_at mem budget new still ready within few short = record {
     ready = subst (λ p. IsReadyBy mem budget new p) (sym still) (ready, within);

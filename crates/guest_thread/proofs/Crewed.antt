@@ -1,6 +1,7 @@
 -- The jobs of threads, and their ends in a history that grows.
-use Rattle.std.proofs.Common.{◌≡◌, ℕ, zero, suc, ◌+◌, ◌<◌, ◌||◌, arith, All, Bool, true, false, cond, List, [], ◌∷◌, ◌++◌, map, length, slice_get, Some, refl, sym, subst, ap, ◌∙◌, zero-add}
+use Rattle.std.proofs.Common.{◌≡◌, ℕ, zero, suc, ◌+◌, ◌<◌, ◌||◌, arith, All, Bool, true, false, cond, List, [], ◌∷◌, ◌++◌, map, length, slice_get, Option, None, Some, IfSome, append-nil, refl, sym, subst, ap, ◌∙◌, zero-add}
 use Rattle.std.specs.List.{range_with_len}
+use Rattle.std.specs.Option.{option_to_list}
 use Rattle.std.proofs.lemmas.List.{map-append}
 use Rattle.std.proofs.lemmas.List.Elements.{All-head, All-nil, All-tail, All-cons}
 use Rattle.std.proofs.lemmas.List.Sums.{sum_by-append}
@@ -119,6 +120,14 @@ module _ {I S : Type 0} (set : InstructionSet I S) where
         let all = subst (AreFresh set machine home numbers seen mem origin program) is fresh in
         let others = split_last (rest ++ last ∷ []) rest last refl all.1 in
         ((all.0, others.0), others.1)
+
+    -- with the last one out, where there is one, those that are left are at their start, and so is that one
+    pub split_found : (found : Option (Job P C R)) (jobs rest : List (Job P C R)) → jobs ≡ rest ++ option_to_list found
+        → AreFresh set machine home numbers seen mem origin program jobs
+        → AreFresh set machine home numbers seen mem origin program rest × IfSome found (IsFresh set machine home numbers seen mem origin program)
+    split_found None jobs rest is fresh =
+        (subst (AreFresh set machine home numbers seen mem origin program) (is ∙ append-nil rest) fresh, tt)
+    split_found (Some last) jobs rest is fresh = split_last jobs rest last is fresh
 
     -- one more has ended
     pub ended_more : (budget : ℕ) (first last : Job P C R) (jobs rest : List (Job P C R)) (ran new : Ran P) (done : P) (end : GuestEnd)

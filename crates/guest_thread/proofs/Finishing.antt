@@ -12,7 +12,7 @@ use Rattle.guest_calls.specs.Run.{Pair, first_point, EndsOn, by_itself}
 use Rattle.guest_thread.specs.Counting.{AreCounts, counts_in}
 use Rattle.guest_thread.specs.Outcome.{IsSpent, IsEndOn}
 use Rattle.guest_thread.specs.Ports.{EndsBy}
-use Rattle.guest_thread.specs.inner.Sharing.{SharingState, IsServedBy, RefusesAt}
+use Rattle.guest_thread.specs.inner.Sharing.{SharingState, RepliesSharing, RefusesAt}
 use Rattle.guest_core.specs.Ports.{Leads}
 use Rattle.atomic_table.specs.Seated.{TableId}
 use Rattle.history.specs.Parts.{entries_of}
@@ -67,10 +67,10 @@ abbrev pub at_start : (mem : TableId) (origin : Origin) (thread : ℕ) (seen : L
 at_start mem origin thread seen = record { memory = mem; origin = origin; thread = thread; seen = seen; counts = record { reads = 0; writes = 0; fails = 0 } }
 
 pub shared_from : (mem : TableId) (origin : Origin) (thread : ℕ) (seen : List Entry) (first last : SharingState) (pairs : List Pair)
-    → first ≡ at_start mem origin thread seen → Leads IsServedBy first pairs last
+    → first ≡ at_start mem origin thread seen → Leads RepliesSharing first pairs last
     → HasShared (at_start mem origin thread seen) pairs last
 shared_from mem origin thread seen first last pairs is leads =
-    after_all (at_start mem origin thread seen) pairs last (subst (λ s. Leads IsServedBy s pairs last) is leads)
+    after_all (at_start mem origin thread seen) pairs last (subst (λ s. Leads RepliesSharing s pairs last) is leads)
 
 -- where the end has what the guest and its part have
 pub ends_as : {I S : Type 0} (set : InstructionSet I S) (refuses : ℕ → Type 0) (program : Program) (budget : ℕ) (start : MachineOf I S) (pairs : List Pair) (stop : Stop) (steps : ℕ) (output : List ℕ) (guest : ThreadOf I S)

@@ -4,7 +4,7 @@ use Rattle.llsc_base.specs.Images.{Program}
 use Rattle.llsc_base.specs.declared.outside.CallAsk.{CallAsk}
 use Rattle.llsc_base.specs.declared.outside.Stop.{Stop}
 use Rattle.llsc_base.specs.declared.outside.Stop.TheVariants.{Budget, TagLimit}
-use Rattle.guest_core.specs.Machine.{MachineOf, after_of, between, wanted_of, IsReady, GoesOn, InstructionSet}
+use Rattle.guest_core.specs.Machine.{MachineOf, after_of, between, wanted_of, AwaitsNothing, GoesOn, InstructionSet}
 use Rattle.guest_core.specs.inner.Sound.{AsksPass, AsksHaveRoom, StopsAreOwn}
 use Rattle.guest_core.specs.Phase.{PhaseOf, Between, Inside, Awaiting, Calling, Stopped}
 use Rattle.guest_core.specs.declared.phases.Wanted.TheVariants as wanted
@@ -25,7 +25,7 @@ use Rattle.shared_memory.specs.Origin.{Origin}
 use Rattle.guest_thread.proofs.Placed.{ends_untagged_from, reached_goes}
 
 module _ {I S : Type 0} (set : InstructionSet I S) where
-  ready_at : (phase : PhaseOf I) → GoesOn phase → IsReady phase
+  ready_at : (phase : PhaseOf I) → GoesOn phase → AwaitsNothing phase
   ready_at Between goes = tt
   ready_at (Inside instr) goes = tt
   ready_at (Awaiting instr asked) goes = absurd goes

@@ -8,7 +8,7 @@ use Rattle.guest_core.specs.Phase.{PhaseOf, Between, Inside, Awaiting, Calling, 
 use Rattle.guest_core.specs.declared.phases.Wanted.TheVariants as wanted
 use Rattle.guest_core.specs.Machine.{MachineOf, begins_of, moved_on, after_found_of, next_in_of, after_in_of, next_of, after_of, wanted_of, InstructionSet}
 use Rattle.guest_calls.specs.Calls.{most_output}
-use Rattle.guest_thread.specs.Progress.{HasKept, IsBounded, progress_of}
+use Rattle.guest_thread.specs.Progress.{HasKept, IsBounded, headway_of}
 use Rattle.guest_thread.specs.ThreadState.{ThreadOf}
 use Rattle.guest_thread.proofs.Effects.{effect_calls, effect_stops}
 
@@ -46,7 +46,7 @@ module _ {I S : Type 0} (set : InstructionSet I S) where
   -- ---- what is kept from a place that has come just as far is kept
 
   as_far : (here there : ThreadOf I S) → there.cpu.replies ≡ here.cpu.replies → there.steps ≡ here.steps → there.output ≡ here.output
-      → progress_of there ≡ progress_of here
+      → headway_of there ≡ headway_of here
   as_far here there replies steps output =
       ap (λ (n : ℕ). 17 * n + length there.cpu.replies + length there.output) steps
       ∙ ap (λ (r : List ℕ). 17 * here.steps + length r + length there.output) replies
@@ -61,5 +61,5 @@ module _ {I S : Type 0} (set : InstructionSet I S) where
       } in
       record {
         bounded = kept.bounded;
-        later = subst (λ (n : ℕ). n ≤ progress_of new) (as_far here there replies steps output) kept.later;
+        later = subst (λ (n : ℕ). n ≤ headway_of new) (as_far here there replies steps output) kept.later;
       }

@@ -8,7 +8,7 @@ use Rattle.llsc_base.specs.declared.outside.Stop.TheVariants as stop
 use Rattle.llsc_base.specs.Effects.{asks, stops}
 use Rattle.guest_core.specs.Phase.{PhaseOf, Between, Inside, Awaiting, Calling, Stopped}
 use Rattle.guest_core.specs.inner.Sound.{AsksPass, StopsAreOwn}
-use Rattle.guest_core.specs.Machine.{MachineOf, wanted_of, after_of, given_in, IsReady, IsAwaiting, InstructionSet, IsOwn, GoesOn}
+use Rattle.guest_core.specs.Machine.{MachineOf, wanted_of, after_of, given_in, AwaitsNothing, IsAwaiting, InstructionSet, IsOwn, GoesOn}
 use Rattle.guest_core.specs.declared.phases.Wanted.TheVariants as wanted
 use Rattle.guest_core.proofs.Follows.{follows_of}
 use Rattle.guest_calls.specs.Run.{Pair, PointOf, first_point, ReachesBy, begins, accesses, steps_on, returns, prints, EndsFrom, halts, leaves, spends, AsksFrom, asks_access, asks_byte, Ends, Asks}
@@ -19,7 +19,7 @@ use Rattle.guest_core.proofs.Placed.{passed_placed}
 -- ---- what a thread asks for
 
 -- one that goes on waits for nothing
-goes_ready : {I : Type 0} (phase : PhaseOf I) → GoesOn phase → IsReady phase
+goes_ready : {I : Type 0} (phase : PhaseOf I) → GoesOn phase → AwaitsNothing phase
 goes_ready Between goes = tt
 goes_ready (Inside instr) goes = tt
 goes_ready (Awaiting instr asked) goes = absurd goes

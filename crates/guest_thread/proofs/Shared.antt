@@ -22,7 +22,7 @@ use Rattle.guest_thread.specs.Counting.{AreCounts, accesses_counted}
 use Rattle.guest_thread.specs.Counts.{reads_in, writes_in, fails_in, reads_of, writes_of, fails_of}
 use Rattle.guest_thread.specs.Outcome.{IsSpent}
 use Rattle.guest_thread.specs.declared.counts.Counts.{Counts}
-use Rattle.guest_thread.specs.inner.Sharing.{SharingState, HasGoneOn, IsServed, IsUnserved, IsServedBy}
+use Rattle.guest_thread.specs.inner.Sharing.{SharingState, HasGoneOn, IsServedSharing, IsUnserved, RepliesSharing}
 
 -- ---- a store that is refused
 
@@ -58,7 +58,7 @@ pub record HasShared (first : SharingState) (pairs : List Pair) (now : SharingSt
   pub unstarted : starts_in first.thread now.seen ≡ starts_in first.thread first.seen
   pub counts : AreCounts first.thread first.seen first.counts → AreCounts first.thread now.seen now.counts
 
-served_on : (first at next : SharingState) (pairs : List Pair) (ask : Ask) (reply : ℕ) → HasShared first pairs at → IsServed at ask reply next
+served_on : (first at next : SharingState) (pairs : List Pair) (ask : Ask) (reply : ℕ) → HasShared first pairs at → IsServedSharing at ask reply next
     → HasShared first (pairs ++ (ask, reply) ∷ []) next
 served_on first at next pairs ask reply shared served =
     let same = shared.goes_on.thread in
@@ -91,7 +91,7 @@ refused_on first at next pairs shared served =
     }
 
 -- all of them
-pub after_all : (first : SharingState) (pairs : List Pair) (last : SharingState) → Leads IsServedBy first pairs last → HasShared first pairs last
+pub after_all : (first : SharingState) (pairs : List Pair) (last : SharingState) → Leads RepliesSharing first pairs last → HasShared first pairs last
 after_all first _ _ stays = record {
   goes_on = goes_on_still first;
   pairs_are = sym (append-nil (pairs_of first.thread first.seen));
@@ -125,7 +125,7 @@ counts_alone first last pairs shared none counts = shared.counts
 pub served_by : (origin : Origin) (own : List Entry) (old new : SharingState) (ask : Ask) (reply : ℕ) → HasGoneOn old new
     → Sees origin old.thread old.seen own new.seen → map pair_of (accesses_of own) ≡ (ask, reply) ∷ [] → starts_of old.thread own ≡ 0
     → new.counts.reads ≡ old.counts.reads + reads_of own → new.counts.writes ≡ old.counts.writes + writes_of own → new.counts.fails ≡ old.counts.fails + fails_of own
-    → accesses_counted new.counts ≤ accesses_counted old.counts + 1 → IsServed old ask reply new
+    → accesses_counted new.counts ≤ accesses_counted old.counts + 1 → IsServedSharing old ask reply new
 served_by origin own old new ask reply further sees pair none reads writes fails one =
     let t = old.thread in
     let entries : entries_of t new.seen ≡ entries_of t old.seen ++ own =

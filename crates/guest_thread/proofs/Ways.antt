@@ -5,13 +5,13 @@ use Rattle.llsc_base.specs.declared.outside.Ask.{Ask}
 use Rattle.guest_core.specs.Machine.{InstructionSet}
 use Rattle.guest_core.specs.Ports.{Leads, stays}
 use Rattle.guest_calls.specs.Run.{Pair, PointOf}
-use Rattle.guest_thread.specs.Progress.{IsBounded, progress_of}
+use Rattle.guest_thread.specs.Progress.{IsBounded, headway_of}
 use Rattle.guest_thread.specs.ThreadState.{ThreadOf}
 use Rattle.guest_thread.specs.Under.{HasComeFrom}
 use Rattle.guest_thread.proofs.Leading.{leads_on}
 
 -- a step is more than the replies of an instruction
-pub further : {I S : Type 0} (old new : ThreadOf I S) → IsBounded old → old.steps < new.steps → new.output ≡ old.output → progress_of old < progress_of new
+pub further : {I S : Type 0} (old new : ThreadOf I S) → IsBounded old → old.steps < new.steps → new.output ≡ old.output → headway_of old < headway_of new
 further old new bounded more same =
     let long : length new.output ≡ length old.output = ap (λ o. length o) same in
     omega (arith, bounded.replies, more, long)

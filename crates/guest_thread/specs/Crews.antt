@@ -43,10 +43,10 @@ module _ {I S : Type 0} (set : InstructionSet I S) {C : Type 0} (machine : C →
     {P : Type 0} (home : P → TableId) (numbers : P → ℕ → Bool) (seen : P → List Entry) where
   -- the jobs of all threads of the memory, each of which begins by itself and is at its start, in order of number, with room for
   -- their ends
-  pub record IsReady {R : Type 0} (mem : TableId) (origin : Origin) (program : Program) (crew : Crew P C R) : Type 0 where
+  pub record IsReadyCrew {R : Type 0} (mem : TableId) (origin : Origin) (program : Program) (crew : Crew P C R) : Type 0 where
     pub begin : origin.first ≡ origin.size.threads
-    pub first : IsFresh set machine home numbers seen mem origin program crew.first
+    pub first_job : IsFresh set machine home numbers seen mem origin program crew.first_job
     pub others : AreFresh set machine home numbers seen mem origin program crew.jobs.items
-    pub threads : threads_of (crew.first ∷ crew.jobs.items) ≡ range_with_len 0 origin.size.threads
+    pub threads : threads_of (crew.first_job ∷ crew.jobs.items) ≡ range_with_len 0 origin.size.threads
     pub empty : (crew.ends.items ≡ []) × (vec_len crew.ends ≡ 0)
     pub room : vec_len crew.jobs < vec_capacity crew.ends

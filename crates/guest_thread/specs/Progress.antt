@@ -9,15 +9,15 @@ pub record IsBounded {I S : Type 0} (standing : ThreadOf I S) : Type 0 where
   pub output : length standing.output ≤ most_output
 
 -- its steps, the replies of its instruction, and the bytes that it wrote: a step is more than an instruction's 16 replies
-abbrev pub progress_of : {I S : Type 0} → ThreadOf I S → ℕ
-progress_of standing = 17 * standing.steps + length standing.cpu.replies + length standing.output
+abbrev pub headway_of : {I S : Type 0} → ThreadOf I S → ℕ
+headway_of standing = 17 * standing.steps + length standing.cpu.replies + length standing.output
 
 -- after a turn it has come no less far
 pub record HasKept {I S : Type 0} (old new : ThreadOf I S) : Type 0 where
   pub bounded : IsBounded new
-  pub later : progress_of old ≤ progress_of new
+  pub later : headway_of old ≤ headway_of new
 
 -- after a reply it has come further
 pub record HasMoved {I S : Type 0} (old new : ThreadOf I S) : Type 0 where
   pub bounded : IsBounded new
-  pub later : progress_of old < progress_of new
+  pub later : headway_of old < headway_of new

@@ -1,7 +1,7 @@
 -- Where a guest thread stands between two of its accesses, and while it waits for the reply to one.
 use Rattle.std.specs.Prelude.{ℕ, ◌+◌, ◌-◌, ◌^◌, ◌<◌, ◌≤◌, List, length, Option, Some, None}
 use Rattle.llsc_base.specs.declared.outside.Ask.{Ask}
-use Rattle.guest_core.specs.Machine.{MachineOf, IsReady, IsAwaiting, IsCalling}
+use Rattle.guest_core.specs.Machine.{MachineOf, AwaitsNothing, IsAwaiting, IsCalling}
 use Rattle.guest_core.specs.Ports.{IsAskIn, ReplyFits}
 use Rattle.guest_calls.specs.Calls.{most_output}
 use Rattle.guest_thread.specs.declared.guests.Printing.{Printing}
@@ -41,7 +41,7 @@ pub record IsWriting {I S : Type 0} (mem budget : ℕ) (standing : ThreadOf I S)
   pub within : standing.steps < budget
 
 abbrev pub IsReadyBy : {I S : Type 0} → ℕ → ℕ → ThreadOf I S → Option Printing → Type 0
-IsReadyBy mem budget standing None = IsReady standing.cpu.phase × (standing.steps ≤ budget)
+IsReadyBy mem budget standing None = AwaitsNothing standing.cpu.phase × (standing.steps ≤ budget)
 IsReadyBy mem budget standing (Some printing) = IsWriting mem budget standing printing
 
 -- the thread may be asked what it does next, in memory of so many bytes and with such a budget: its core waits for nothing,

@@ -3,7 +3,7 @@ ghost use Rattle.std.specs.Prelude.{◌≡◌, ◌<◌, ◌+◌, ℕ, IfOk, [], 
 ghost use Rattle.std.specs.List.{range_with_len};
 ghost use Rattle.history.specs.Parts.{entries_of};
 ghost use Rattle.shared_memory.specs.Seen.{IsSingle};
-ghost use Rattle.guest_thread.specs.Crews.{AreFresh, HaveSeen, IsFresh, IsReady, threads_of};
+ghost use Rattle.guest_thread.specs.Crews.{AreFresh, HaveSeen, IsFresh, IsReadyCrew, threads_of};
 
 use crate::ends::GuestEnd;
 use crate::starts::start_cpu;
@@ -26,7 +26,7 @@ pub struct Job<'i, P, C, I: Ready> {
 /// The jobs of all threads in order of number, with room for their ends.
 #[derive(Drop)]
 pub struct Crew<'i, P, C, I: Ready> {
-    pub first: Job<'i, P, C, I>,
+    pub first_job: Job<'i, P, C, I>,
     pub jobs: Vec<Job<'i, P, C, I>>,
     pub ends: Vec<GuestEnd>,
 }
@@ -108,14 +108,18 @@ pub fn prepare<'i, M: SharedMemory, C: Core>(
     requires numbers { (t : ℕ) → M.numbers first t ≡ nat_lt t (M.origin mem.now).size.threads }
     requires begin { (M.origin mem.now).first ≡ (M.origin mem.now).size.threads }
     requires none { (t : ℕ) → entries_of t (M.seen first) ≡ [] }
-    ensures ready { IfOk result (IsReady C.set C.machine M.home M.numbers M.seen (M.id mem.now) (M.origin mem.now) image.now) }
-    ensures seen { IfOk result (λ crew. M.seen crew.first.pass ≡ M.seen first) }
+    ensures ready { IfOk result (IsReadyCrew C.set C.machine M.home M.numbers M.seen (M.id mem.now) (M.origin mem.now) image.now) }
+    ensures seen { IfOk result (λ crew. M.seen crew.first_job.pass ≡ M.seen first) }
     ensures unseen { IfOk result (λ crew. HaveSeen M.seen (M.seen first) crew.jobs.items) }
 {
     let size = mem.size();
     let count = size.threads();
     let ends = Vec::with_capacity(alloc, count as usize)?;
     let jobs = other_jobs(alloc, mem, image, &mut first, count)?;
-    let first = job_of(alloc, mem, image, 0, first)?;
-    Ok(Crew { first, jobs, ends })
+    let first_job = job_of(alloc, mem, image, 0, first)?;
+    Ok(Crew {
+        first_job,
+        jobs,
+        ends,
+    })
 }

@@ -1,3 +1,4 @@
+//! How a guest thread ended.
 use guest_calls::Output;
 use llsc_base::Stop;
 

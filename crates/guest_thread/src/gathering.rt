@@ -51,8 +51,8 @@ pub fn begin<P>(done: Finished<P>, mut ends: Vec<GuestEnd>) -> Ran<P>
     Ran { pass, ends }
 }
 
-/// Takes the last of the jobs out, where there is one.
-pub fn take_last<'i, M: SharedMemory, C: Core>(
+/// The last of the jobs, taken out, where there is one.
+pub fn pop_job<'i, M: SharedMemory, C: Core>(
     mem: &M,
     image: &Image,
     jobs: &mut Vec<Job<'i, M::Pass, C, C::Ready>>,
@@ -64,8 +64,5 @@ pub fn take_last<'i, M: SharedMemory, C: Core>(
     ensures len { IfSome result (λ _. vec_len jobs.old ≡ vec_len jobs.new + 1) }
     ensures empty { IfNone result (vec_len jobs.old ≡ 0) }
 {
-    let Some(last) = jobs.pop() else {
-        return None;
-    };
-    Some(last)
+    jobs.pop()
 }

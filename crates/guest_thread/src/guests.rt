@@ -5,7 +5,7 @@ ghost use Rattle.llsc_base.specs.Images.{Program};
 ghost use Rattle.llsc_base.specs.declared.outside.Ask.{Ask};
 ghost use Rattle.llsc_base.specs.declared.outside.CallAsk.{CallAsk};
 ghost use Rattle.guest_core.specs.Phase as phase;
-ghost use Rattle.guest_core.specs.Machine.{MachineOf, IsReady, IsCalling};
+ghost use Rattle.guest_core.specs.Machine.{MachineOf, AwaitsNothing, IsCalling};
 ghost use Rattle.guest_calls.specs.Run.{Pair, PointOf, byte_load, effect_of_call};
 ghost use Rattle.guest_thread.specs.inner.Ports.{IsAtRest};
 ghost use Rattle.guest_thread.specs.Progress.{HasKept, HasMoved, IsBounded};
@@ -135,7 +135,7 @@ impl<C: Core> Guest<C> {
     /// A thread whose core is between two instructions, and that has written nothing.
     pub fn new(cpu: C, output: Output) -> Guest<C>
         ensures state { result ≡ record { cpu = cpu; steps = 0; output = output; printing = None } }
-        ensures ready { IsReady (C.machine cpu).phase → (mem budget : ℕ) → IsReadyIn mem budget (thread_in C.machine result) }
+        ensures ready { AwaitsNothing (C.machine cpu).phase → (mem budget : ℕ) → IsReadyIn mem budget (thread_in C.machine result) }
         ensures comes { output ≡ [] → (program : Program) (budget : ℕ) → HasCome C.set program budget (C.machine cpu) [] (thread_in C.machine result) }
     {
         Guest {

@@ -65,9 +65,9 @@ impl<'a, M: SharedMemory, R: Wait> InPieces<'a, M, R> {
 
 impl<'a, M: SharedMemory, R: Wait> Port for InPieces<'a, M, R> {
     ghost use Rattle.guest_thread.specs.Counting.{accesses_counted};
-    ghost use Rattle.guest_thread.specs.inner.Sharing.{IsServedBy, RefusesAt};
+    ghost use Rattle.guest_thread.specs.inner.Sharing.{RepliesSharing, RefusesAt};
 
-    ghost replies = { IsServedBy };
+    ghost replies = { RepliesSharing };
 
     ghost mem = { λ pieces. pieces.origin.size.mem };
 

@@ -35,7 +35,7 @@ pub mod worked_stocks;
 pub use counts::{Counts, counts_of};
 pub use crews::{Crew, Job, job_of, prepare};
 pub use ends::GuestEnd;
-pub use gathering::{Ran, begin, gather, take_last};
+pub use gathering::{Ran, begin, gather, pop_job};
 pub use guests::{Guest, Turn};
 pub use pieces::{Part, Paused, go_on};
 pub use running::{Finished, run_thread};

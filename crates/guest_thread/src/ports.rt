@@ -8,7 +8,7 @@ ghost use Rattle.guest_core.specs.Ports.{Leads};
 ghost use Rattle.guest_calls.specs.Run.{Pair, PointOf};
 ghost use Rattle.guest_thread.specs.Ports.{EndsBy, IsRunning};
 ghost use Rattle.guest_thread.specs.inner.Ports.{RestsBy, RestsWithin};
-ghost use Rattle.guest_thread.specs.Progress.{IsBounded, progress_of};
+ghost use Rattle.guest_thread.specs.Progress.{IsBounded, headway_of};
 ghost use Rattle.guest_thread.specs.ThreadState.{thread_in};
 ghost use Rattle.guest_thread.specs.Under.{HasCome, HasComeFrom};
 
@@ -41,13 +41,13 @@ impl<C: Core> Guest<C> {
     ) -> Option<Rest>
         requires running { IsRunning (length code.now.program.bytes) budget (thread_in C.machine self.old) }
         requires mem { P.mem port.old ≡ length code.now.program.bytes }
-        requires counted { P.counted port.old ≤ progress_of (thread_in C.machine self.old) }
+        requires counted { P.counted port.old ≤ headway_of (thread_in C.machine self.old) }
         requires small { length code.now.program.bytes < 2 ^ 32 }
         requires budget { budget ≤ most_budget }
         ensures goes_on { IfNone result (IsRunning (length code.now.program.bytes) budget (thread_in C.machine self.new)) }
-        ensures later { IfNone result (progress_of (thread_in C.machine self.old) < progress_of (thread_in C.machine self.new)) }
+        ensures later { IfNone result (headway_of (thread_in C.machine self.old) < headway_of (thread_in C.machine self.new)) }
         ensures mem { P.mem port.new ≡ P.mem port.old }
-        ensures counted { P.counted port.new ≤ progress_of (thread_in C.machine self.new) }
+        ensures counted { P.counted port.new ≤ headway_of (thread_in C.machine self.new) }
         ensures no_more { IfSome result (λ _. P.counted port.new ≤ P.counted port.old) }
         ensures bounded { IsBounded (thread_in C.machine self.new) }
         ensures comes { (from : PointOf C.Instr C.State) (before : List Pair) → HasComeFrom C.set starts code.now.program budget from before (thread_in C.machine self.old)
@@ -88,13 +88,13 @@ impl<C: Core> Guest<C> {
     fn carry_on<P: Port>(&mut self, code: &mut Code<C::Ready>, budget: u64, port: &mut P)
         requires running { IsRunning (length code.old.program.bytes) budget (thread_in C.machine self.old) }
         requires mem { P.mem port.old ≡ length code.old.program.bytes }
-        requires counted { P.counted port.old ≤ progress_of (thread_in C.machine self.old) }
+        requires counted { P.counted port.old ≤ headway_of (thread_in C.machine self.old) }
         requires budget { budget ≤ most_budget }
         ensures running { IsRunning (length code.old.program.bytes) budget (thread_in C.machine self.new) }
-        ensures later { progress_of (thread_in C.machine self.old) ≤ progress_of (thread_in C.machine self.new) }
+        ensures later { headway_of (thread_in C.machine self.old) ≤ headway_of (thread_in C.machine self.new) }
         ensures program { code.new.program ≡ code.old.program }
         ensures mem { P.mem port.new ≡ P.mem port.old }
-        ensures counted { P.counted port.new ≤ progress_of (thread_in C.machine self.new) }
+        ensures counted { P.counted port.new ≤ headway_of (thread_in C.machine self.new) }
         ensures comes { (stocked : Bool) (from : PointOf C.Instr C.State) (before : List Pair) → HasComeFrom C.set stocked code.old.program budget from before (thread_in C.machine self.old)
             → (pairs : List Pair) × (Leads P.replies port.old pairs port.new × HasComeFrom C.set stocked code.old.program budget from (before ++ pairs) (thread_in C.machine self.new)) }
     {
@@ -124,7 +124,7 @@ impl<C: Core> Guest<C> {
     pub fn run<P: Port>(&mut self, code: &mut Code<C::Ready>, budget: u64, port: &mut P) -> Stop
         requires running { IsRunning (length code.old.program.bytes) budget (thread_in C.machine self.old) }
         requires mem { P.mem port.old ≡ length code.old.program.bytes }
-        requires counted { P.counted port.old ≤ progress_of (thread_in C.machine self.old) }
+        requires counted { P.counted port.old ≤ headway_of (thread_in C.machine self.old) }
         requires small { length code.old.program.bytes < 2 ^ 32 }
         requires budget { budget ≤ most_budget }
         ensures program { code.new.program ≡ code.old.program }
@@ -150,12 +150,12 @@ impl<C: Core> Guest<C> {
     ) -> Rest
         requires running { IsRunning (length code.old.program.bytes) budget (thread_in C.machine self.old) }
         requires mem { P.mem port.old ≡ length code.old.program.bytes }
-        requires counted { P.counted port.old ≤ progress_of (thread_in C.machine self.old) }
+        requires counted { P.counted port.old ≤ headway_of (thread_in C.machine self.old) }
         requires small { length code.old.program.bytes < 2 ^ 32 }
         requires budget { budget ≤ most_budget }
         ensures program { code.new.program ≡ code.old.program }
         ensures mem { P.mem port.new ≡ P.mem port.old }
-        ensures counted { P.counted port.new ≤ progress_of (thread_in C.machine self.new) }
+        ensures counted { P.counted port.new ≤ headway_of (thread_in C.machine self.new) }
         ensures few { P.counted port.new ≤ 17 * budget + most_output + 16 }
         ensures bounded { IsBounded (thread_in C.machine self.new) }
         ensures comes { (from : PointOf C.Instr C.State) (before : List Pair) → HasComeFrom C.set starts code.old.program budget from before (thread_in C.machine self.old)

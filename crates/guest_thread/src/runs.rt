@@ -2,7 +2,7 @@
 ghost use Rattle.std.specs.Prelude.{◌≡◌, ◌<◌, ◌≤◌, ◌+◌, ℕ, [], ◌∷◌, ◌^◌, All, true, length, vec_len, vec_capacity};
 ghost use Rattle.llsc_base.specs.Limits.{most_budget};
 ghost use Rattle.shared_memory.specs.Seen.{IsFront, IsOneOf};
-ghost use Rattle.guest_thread.specs.Crews.{AreFresh, IsFresh, IsReady, threads_of};
+ghost use Rattle.guest_thread.specs.Crews.{AreFresh, IsFresh, IsReadyCrew, threads_of};
 ghost use Rattle.guest_thread.specs.inner.Crews.{HaveEnded, IsEndOf};
 ghost use Rattle.guest_thread.specs.Counting.{accesses_counted, counts_in};
 ghost use Rattle.guest_thread.specs.Outcome.{AreEndsOn};
@@ -11,7 +11,7 @@ ghost use denote.Param.Send.{IsSync, IsSend};
 
 use crate::crews::{Crew, Job};
 use crate::ends::GuestEnd;
-use crate::gathering::{Ran, begin, gather, take_last};
+use crate::gathering::{Ran, begin, gather, pop_job};
 use crate::running::{Finished, run_thread};
 use guest_core::Core;
 use llsc_base::{Image, Stop};
@@ -51,36 +51,36 @@ fn run_jobs<M: SharedMemory, C: Core, R: Threads + Wait + Sync>(
     rt: &R,
     mem: &M,
     image: &Image,
-    first: Job<M::Pass, C, C::Ready>,
+    first_job: Job<M::Pass, C, C::Ready>,
     mut jobs: Vec<Job<M::Pass, C, C::Ready>>,
     ends: Vec<GuestEnd>,
     budget: u64,
 ) -> Ran<M::Pass>
-    requires first { IsFresh C.set C.machine M.home M.numbers M.seen (M.id mem.now) (M.origin mem.now) image.now first }
+    requires first_job { IsFresh C.set C.machine M.home M.numbers M.seen (M.id mem.now) (M.origin mem.now) image.now first_job }
     requires others { AreFresh C.set C.machine M.home M.numbers M.seen (M.id mem.now) (M.origin mem.now) image.now jobs.items }
     requires empty { (ends.items ≡ []) × (vec_len ends ≡ 0) }
     requires room { vec_len jobs < vec_capacity ends }
     requires whole { length image.now.bytes ≡ (M.origin mem.now).size.mem }
     requires budget { budget ≤ most_budget }
-    ensures ended { HaveEnded C.set M.home M.numbers M.seen (M.id mem.now) (M.origin mem.now) image.now budget (threads_of (first.entry ∷ jobs.entry.items)) result }
-    ensures begins { IsFront (M.seen first.entry.pass) (M.seen result.pass) }
+    ensures ended { HaveEnded C.set M.home M.numbers M.seen (M.id mem.now) (M.origin mem.now) image.now budget (threads_of (first_job.entry ∷ jobs.entry.items)) result }
+    ensures begins { IsFront (M.seen first_job.entry.pass) (M.seen result.pass) }
     ensures len { vec_len result.ends ≡ vec_len jobs.entry + 1 }
     ensures capacity { vec_capacity ends ≤ vec_capacity result.ends }
 {
-    let Some(last) = take_last(mem, image, &mut jobs) else {
-        return begin(run_job(rt, mem, image, first, budget), ends);
+    let Some(last) = pop_job(mem, image, &mut jobs) else {
+        return begin(run_job(rt, mem, image, first_job, budget), ends);
     };
     let (ran, done) = join(
         rt,
         move || -> Ran<M::Pass>
-            requires { IsSync R.row × IsFresh C.set C.machine M.home M.numbers M.seen (M.id mem.now) (M.origin mem.now) image.now first
+            requires { IsSync R.row × IsFresh C.set C.machine M.home M.numbers M.seen (M.id mem.now) (M.origin mem.now) image.now first_job
                 × AreFresh C.set C.machine M.home M.numbers M.seen (M.id mem.now) (M.origin mem.now) image.now jobs.items
                 × ((ends.items ≡ []) × (vec_len ends ≡ 0)) × (vec_len jobs < vec_capacity ends)
                 × (length image.now.bytes ≡ (M.origin mem.now).size.mem) × (budget ≤ most_budget) }
-            ensures { HaveEnded C.set M.home M.numbers M.seen (M.id mem.entry.now) (M.origin mem.entry.now) image.entry.now budget (threads_of (first.entry ∷ jobs.entry.items)) result
-                × IsFront (M.seen first.entry.pass) (M.seen result.pass)
+            ensures { HaveEnded C.set M.home M.numbers M.seen (M.id mem.entry.now) (M.origin mem.entry.now) image.entry.now budget (threads_of (first_job.entry ∷ jobs.entry.items)) result
+                × IsFront (M.seen first_job.entry.pass) (M.seen result.pass)
                 × (vec_len result.ends ≡ vec_len jobs.entry + 1) × (vec_capacity ends ≤ vec_capacity result.ends) }
-        { run_jobs(rt, mem, image, first, jobs, ends, budget) },
+        { run_jobs(rt, mem, image, first_job, jobs, ends, budget) },
         move || -> Finished<M::Pass>
             requires { IsFresh C.set C.machine M.home M.numbers M.seen (M.id mem.now) (M.origin mem.now) image.now last
                 × (length image.now.bytes ≡ (M.origin mem.now).size.mem) × (budget ≤ most_budget) }
@@ -103,16 +103,20 @@ pub fn run_all<M: SharedMemory, C: Core, R: Threads + Wait + Sync>(
     crew: Crew<M::Pass, C, C::Ready>,
     budget: u64,
 ) -> Ran<M::Pass>
-    requires crew { IsReady C.set C.machine M.home M.numbers M.seen (M.id mem.now) (M.origin mem.now) image.now crew }
+    requires crew { IsReadyCrew C.set C.machine M.home M.numbers M.seen (M.id mem.now) (M.origin mem.now) image.now crew }
     requires whole { length image.now.bytes ≡ (M.origin mem.now).size.mem }
     requires budget { budget ≤ most_budget }
     ensures ends { AreEndsOn C.set image.now (M.origin mem.now).size budget (M.seen result.pass) result.ends.items }
     ensures spends { All (λ (end : GuestEnd). (addr : ℕ) → end.stop ≡ Stop.TagLimit addr → (M.origin mem.now).spends ≡ true) result.ends.items }
     ensures few { All (λ (end : GuestEnd). accesses_counted (counts_in end) < 2 ^ 45) result.ends.items }
     ensures numbers { (t : ℕ) → t < (M.origin mem.now).size.threads → IsOneOf t (M.numbers result.pass) }
-    ensures begins { IsFront (M.seen crew.entry.first.pass) (M.seen result.pass) }
+    ensures begins { IsFront (M.seen crew.entry.first_job.pass) (M.seen result.pass) }
     ensures memory { M.home result.pass ≡ M.id mem.now }
 {
-    let Crew { first, jobs, ends } = crew;
-    run_jobs(rt, mem, image, first, jobs, ends, budget)
+    let Crew {
+        first_job,
+        jobs,
+        ends,
+    } = crew;
+    run_jobs(rt, mem, image, first_job, jobs, ends, budget)
 }

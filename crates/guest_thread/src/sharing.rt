@@ -3,12 +3,12 @@ ghost use Rattle.std.specs.Prelude.{◌≡◌, ◌+◌};
 ghost use Rattle.history.specs.Started.{MayAct};
 ghost use Rattle.shared_memory.specs.Seen.{IsSingle};
 ghost use Rattle.guest_thread.specs.Counting.{accesses_counted};
-ghost use Rattle.guest_thread.specs.inner.Sharing.{IsServedBy};
+ghost use Rattle.guest_thread.specs.inner.Sharing.{RepliesSharing};
 ghost use Rattle.llsc_base.specs.declared.outside.Ask.{Ask};
 
 use crate::counts::Counts;
 use guest_core::Port;
-use llsc_base::Ask;
+use llsc_base::{Ask, STATUS_FAILED, STATUS_STORED};
 use shared_memory::SharedMemory;
 use std::marker::Model;
 use std::sync::Wait;
@@ -94,9 +94,9 @@ impl<'a, M: SharedMemory, R: Wait> Sharing<'a, M, R> {
 
 impl<'a, M: SharedMemory, R: Wait> Port for Sharing<'a, M, R> {
     ghost use Rattle.guest_thread.specs.Counting.{accesses_counted};
-    ghost use Rattle.guest_thread.specs.inner.Sharing.{IsServedBy, RefusesAt};
+    ghost use Rattle.guest_thread.specs.inner.Sharing.{RepliesSharing, RefusesAt};
 
-    ghost replies = { IsServedBy };
+    ghost replies = { RepliesSharing };
 
     ghost mem = { λ sharing. sharing.origin.size.mem };
 
@@ -127,10 +127,10 @@ impl<'a, M: SharedMemory, R: Wait> Port for Sharing<'a, M, R> {
             Ask::StoreEx(place, value) => {
                 if self.mem.store_ex(self.rt, &mut self.pass, place, value) {
                     self.counts.writes += 1;
-                    return Some(0);
+                    return Some(STATUS_STORED);
                 }
                 self.counts.fails += 1;
-                Some(1)
+                Some(STATUS_FAILED)
             }
             Ask::Clear => {
                 self.mem.clear_ex(&mut self.pass);

@@ -75,7 +75,7 @@ pub enum Entry {
     },
 }
 
-/// What an access does.
+/// What an access did, as one that is over is told: the access that was asked for (`Ask` of `llsc_base`), with its outcome.
 #[derive(Clone, Copy, Debug, PartialEq, Eq)]
 pub enum Deed {
     Load,

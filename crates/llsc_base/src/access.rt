@@ -1,3 +1,4 @@
+//! The place of an access, its size, and what stands against it.
 ghost use Rattle.std.specs.Prelude.{◌≡◌, ◌==◌, ◌%◌, ◌≤◌};
 ghost use Rattle.llsc_base.specs.Memory.{cell_of, is_aligned, row_of, size_bytes};
 

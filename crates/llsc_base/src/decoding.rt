@@ -1,3 +1,4 @@
+//! Why a word is no instruction.
 ghost use Rattle.std.specs.Prelude.{◌≡◌};
 ghost use Rattle.llsc_base.specs.Faults.{decode_fault_name};
 

@@ -1,3 +1,4 @@
+//! The image of a flat file: instruction words and nothing else.
 ghost use Rattle.std.specs.Prelude.{◌≡◌, ◌⊎◌, ◌+◌, ◌<◌, ◌≤◌, IfErr, IfOk, IfSome, None, Some, length};
 ghost use Rattle.llsc_base.specs.Flat.{flat_byte, flat_fault, flat_fault_name, flat_image, values_below};
 ghost use Rattle.llsc_base.specs.Limits.{code_start};

@@ -1,3 +1,4 @@
+//! A guest program as it stands in memory before its first instruction.
 ghost use Rattle.std.specs.Prelude.{◌≡◌, ◌+◌, ◌*◌, ◌-◌, ◌%◌, ◌^◌, ◌<◌, IfSome, IsTrue, length, slice_index, position};
 ghost use Rattle.llsc_base.specs.Images.{IsProgram, Program, bar_of, first_barred, holds_word, program_of, serves, touches_read_only, word_at};
 

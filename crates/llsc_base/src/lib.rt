@@ -19,6 +19,7 @@ mod lines;
 mod memory;
 mod outside;
 mod sizes;
+mod statuses;
 
 pub use access::{Bar, BarredWord, Place, Size};
 pub use decoding::DecodeFault;
@@ -29,3 +30,4 @@ pub use lines::Line;
 pub use memory::load;
 pub use outside::{Ask, CallAsk, Stop};
 pub use sizes::{MachineSize, SizeFault};
+pub use statuses::{STATUS_FAILED, STATUS_STORED};

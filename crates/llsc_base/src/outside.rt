@@ -1,6 +1,8 @@
+//! What a guest thread asks of what is outside, whatever its instruction set.
 use crate::access::Place;
 
-/// An access to memory that an instruction asks for.
+/// An access to memory that an instruction asks for. It says nothing of what comes of that: what an access did is a `Deed` of
+/// `history`, which has two for `StoreEx`.
 #[derive(Clone, Copy, Debug, PartialEq, Eq)]
 pub enum Ask {
     /// The value of a place. The reply is that value.
@@ -9,7 +11,7 @@ pub enum Ask {
     LoadEx(Place),
     /// A store of a value, which fits the place. The reply is 0.
     Store(Place, u64),
-    /// A store of a value, which fits the place, if the reservation stands. The reply is 0 where the value was
+    /// A store of a value, which fits the place, if the reservation stands. The reply is its status: 0 where the value was
     /// stored, and 1 where it was not.
     StoreEx(Place, u64),
     /// The end of a reservation. The reply is 0.

@@ -1,3 +1,4 @@
+//! The numbers of a machine, each in its range.
 ghost use Rattle.std.specs.Prelude.{◌≡◌, ◌+◌, ◌*◌, ◌%◌, ◌^◌, ◌≤◌, ◌<◌, MatchResult, IfOk, IfErr, Some, None, IsTrue};
 ghost use Rattle.std.specs.Int.{is_power_of_two};
 ghost use Rattle.llsc_base.specs.Memory.{class_of};

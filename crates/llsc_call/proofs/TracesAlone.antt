@@ -10,7 +10,7 @@ use Rattle.history.specs.Accesses.{entry_of, history_of}
 use Rattle.guest_thread.proofs.Pushed.{history_push}
 use Rattle.run_record.specs.Limits.{IsAccess}
 use Rattle.run_record.specs.declared.records.RunRecord.{RunRecord}
-use Rattle.guest_machine.specs.Alone.{AllFailUnmarked, IsAlone}
+use Rattle.guest_machine.specs.Alone.{AllFailUnmarked, IsHistoryAlone}
 use Rattle.guest_machine.specs.Traces.{IsTraceRecord}
 use Rattle.guest_machine.specs.Turns.{Takes, begins, makes, stops}
 use Rattle.guest_thread.specs.Accesses.{access_by, monitor_of}
@@ -33,7 +33,7 @@ all_unmarked program size seed budget _ _ _ (stops x live accesses t stop steps 
     all_unmarked program size seed budget x live accesses before
 
 pub trace_alone : (program : Program) (size : Numbers) (seed : ℕ) (run : RunRecord) → size.threads ≡ 1
-    → IsTraceRecord a32 program size seed run.budget run → IsAlone size.granule program.bytes (history_of run.accesses)
+    → IsTraceRecord a32 program size seed run.budget run → IsHistoryAlone size.granule program.bytes (history_of run.accesses)
 trace_alone program size seed run one is =
     let accesses : List Access = run.accesses in
     let sound : All (IsAccess size.threads) accesses = subst (λ n. All (IsAccess n) accesses) is.threads is.sound.accesses in

@@ -14,7 +14,7 @@ use Rattle.guest_thread.specs.Start.{thread_start}
 use Rattle.guest_thread.specs.Under.{HasCome, Awaits}
 use Rattle.guest_thread.specs.Accesses.{monitor_of}
 use Rattle.run_checker.specs.Verdict.{is_asked, AsksNext, HasWrongValue, LacksMark}
-use Rattle.run_checker.specs.inner.Serving.{IsServed}
+use Rattle.run_checker.specs.inner.Serving.{IsMadeAsRecorded}
 use Rattle.run_checker.specs.inner.Positions.{BringsOn}
 use Rattle.run_checker.proofs.AskedPairs.{asked_pair}
 use Rattle.guest_thread.proofs.Pushed.{own_push, monitor_push}
@@ -24,7 +24,7 @@ module _ {I S : Type 0} (set : InstructionSet I S) {C : Type 0} (machine : C →
       → AsksNext set program size budget early access.thread asked
       → Awaits set program budget (thread_start set program size size.threads access.thread) (pairs_in access.thread early) asked (thread_in machine waits)
       → is_asked asked access ≡ true
-      → memory ≡ monitor_of program size early → IsServed memory access after
+      → memory ≡ monitor_of program size early → IsMadeAsRecorded memory access after
       → reply ≡ (pair_of (entry_of access)).1
       → ((p : Program) (b : ℕ) (start : MachineOf I S) (pairs : List Pair) (ask : Ask) → Awaits set p b start pairs ask (thread_in machine waits) → HasCome set p b start (pairs ++ (ask, reply) ∷ []) (thread_in machine goes))
       → BringsOn set machine program size budget early access goes after

@@ -1,3 +1,4 @@
+//! The verdict on a record, with its reasons.
 ghost use Rattle.std.specs.Prelude.{◌≡◌};
 ghost use Rattle.run_checker.specs.Verdict.{reason_name};
 

@@ -7,14 +7,14 @@ use Rattle.atomic_table.specs.Seated.{TableId}
 use Rattle.history.specs.declared.entry.Entry.{Entry}
 use Rattle.shared_memory.specs.Origin.{IsLegalFrom, Origin}
 use Rattle.guest_calls.specs.Run.{Pair}
-use Rattle.guest_thread.specs.inner.Sharing.{IsServedBy}
+use Rattle.guest_thread.specs.inner.Sharing.{RepliesSharing}
 use Rattle.guest_thread.proofs.Finishing.{at_start, shared_from}
 use Rattle.guest_thread.proofs.Shared.{HasShared}
 use Rattle.run_merge.specs.inner.Logging.{IsLogged, IsRecordedBy, LoggingState}
 use Rattle.run_merge.specs.Logs.{IsLogOf, most_logged}
 
 -- they are accesses as any are
-shared_leads : (first last : LoggingState) (pairs : List Pair) → Leads IsRecordedBy first pairs last → Leads IsServedBy first.sharing pairs last.sharing
+shared_leads : (first last : LoggingState) (pairs : List Pair) → Leads IsRecordedBy first pairs last → Leads RepliesSharing first.sharing pairs last.sharing
 shared_leads first _ _ stays = stays
 shared_leads first _ _ (goes pairs at next ask reply leads recorded) = goes pairs at.sharing next.sharing ask reply (shared_leads first at pairs leads) recorded.served
 shared_leads first _ _ (refused pairs at next ask leads recorded) = refused pairs at.sharing next.sharing ask (shared_leads first at pairs leads) recorded.unserved

@@ -8,7 +8,7 @@ use Rattle.history.specs.declared.entry.Entry.{Entry}
 use Rattle.shared_memory.specs.Origin.{Origin}
 use Rattle.shared_memory.specs.Seen.{Sees}
 use Rattle.llsc_base.specs.declared.outside.Ask.TheVariants as ask
-use Rattle.guest_thread.specs.inner.Sharing.{HasGoneOn, IsServed, SharingState}
+use Rattle.guest_thread.specs.inner.Sharing.{HasGoneOn, IsServedSharing, SharingState}
 use Rattle.guest_thread.specs.declared.counts.Counts.{Counts}
 use Rattle.guest_thread.proofs.Shared.{served_by}
 
@@ -29,37 +29,37 @@ module _ (memory : TableId) (origin : Origin) (t : ℕ) (old new : List Entry) (
   further own now sees = record { memory = refl; origin = refl; thread = refl; front = (sees.added, sees.longer) }
 
   pub load_served : (place : Place) (value : ℕ) → Sees origin t old (entries_of_operation t (load place value)) new
-      → IsServed (part memory origin t old was) (ask.Load place) value (part memory origin t new (one_read was))
+      → IsServedSharing (part memory origin t old was) (ask.Load place) value (part memory origin t new (one_read was))
   load_served place value sees =
       served_by origin (entries_of_operation t (load place value)) (part memory origin t old was) (part memory origin t new (one_read was)) (ask.Load place) value
       (further _ _ sees) sees refl refl refl (sym (add-zero was.writes)) (sym (add-zero was.fails)) (omega arith)
 
   pub load_ex_served : (place : Place) (value : ℕ) → Sees origin t old (entries_of_operation t (load_watched place value)) new
-      → IsServed (part memory origin t old was) (ask.LoadEx place) value (part memory origin t new (one_read was))
+      → IsServedSharing (part memory origin t old was) (ask.LoadEx place) value (part memory origin t new (one_read was))
   load_ex_served place value sees =
       served_by origin (entries_of_operation t (load_watched place value)) (part memory origin t old was) (part memory origin t new (one_read was)) (ask.LoadEx place) value
       (further _ _ sees) sees refl refl refl (sym (add-zero was.writes)) (sym (add-zero was.fails)) (omega arith)
 
   pub store_served : (place : Place) (value : ℕ) → Sees origin t old (entries_of_operation t (store place value false)) new
-      → IsServed (part memory origin t old was) (ask.Store place value) 0 (part memory origin t new (one_write was))
+      → IsServedSharing (part memory origin t old was) (ask.Store place value) 0 (part memory origin t new (one_write was))
   store_served place value sees =
       served_by origin (entries_of_operation t (store place value false)) (part memory origin t old was) (part memory origin t new (one_write was)) (ask.Store place value) 0
       (further _ _ sees) sees refl refl (sym (add-zero was.reads)) refl (sym (add-zero was.fails)) (omega arith)
 
   pub store_ex_served : (place : Place) (value : ℕ) → Sees origin t old (entries_of_operation t (store place value true)) new
-      → IsServed (part memory origin t old was) (ask.StoreEx place value) 0 (part memory origin t new (one_write was))
+      → IsServedSharing (part memory origin t old was) (ask.StoreEx place value) 0 (part memory origin t new (one_write was))
   store_ex_served place value sees =
       served_by origin (entries_of_operation t (store place value true)) (part memory origin t old was) (part memory origin t new (one_write was)) (ask.StoreEx place value) 0
       (further _ _ sees) sees refl refl (sym (add-zero was.reads)) refl (sym (add-zero was.fails)) (omega arith)
 
   pub fail_served : (place : Place) (value : ℕ) (cause : Cause) → Sees origin t old (entries_of_operation t (fail place value cause)) new
-      → IsServed (part memory origin t old was) (ask.StoreEx place value) 1 (part memory origin t new (one_fail was))
+      → IsServedSharing (part memory origin t old was) (ask.StoreEx place value) 1 (part memory origin t new (one_fail was))
   fail_served place value cause sees =
       served_by origin (entries_of_operation t (fail place value cause)) (part memory origin t old was) (part memory origin t new (one_fail was)) (ask.StoreEx place value) 1
       (further _ _ sees) sees refl refl (sym (add-zero was.reads)) (sym (add-zero was.writes)) refl (omega arith)
 
   pub clear_served : Sees origin t old (entries_of_operation t clear) new
-      → IsServed (part memory origin t old was) ask.Clear 0 (part memory origin t new was)
+      → IsServedSharing (part memory origin t old was) ask.Clear 0 (part memory origin t new was)
   clear_served sees =
       served_by origin (entries_of_operation t clear) (part memory origin t old was) (part memory origin t new was) ask.Clear 0
       (further _ _ sees) sees refl refl (sym (add-zero was.reads)) (sym (add-zero was.writes)) (sym (add-zero was.fails)) (omega arith)

@@ -14,7 +14,7 @@ ghost use denote.Param.Send.{IsSync};
 use crate::logs::Log;
 use crate::running::{LoggedThread, log_thread};
 use guest_core::Core;
-use guest_thread::{Finished, GuestEnd, Job, Ran, begin, gather, take_last};
+use guest_thread::{Finished, GuestEnd, Job, Ran, begin, gather, pop_job};
 use llsc_base::Image;
 use shared_memory::SharedMemory;
 use std::sync::Wait;
@@ -73,7 +73,7 @@ fn take_job<'i, C: Core>(
     ensures len { IfSome result (λ _. vec_len jobs.old ≡ vec_len jobs.new + 1) }
     ensures empty { IfNone result (vec_len jobs.old ≡ 0) }
 {
-    take_last(mem, image, jobs)
+    pop_job(mem, image, jobs)
 }
 
 /// Takes the last of some logs out.
@@ -141,42 +141,42 @@ pub(crate) fn log_jobs<C: Core, R: Threads + Wait + Sync>(
     rt: &R,
     mem: &VersionMemory,
     image: &Image,
-    first: Job<VersionPass, C, C::Ready>,
+    first_job: Job<VersionPass, C, C::Ready>,
     mut jobs: Vec<Job<VersionPass, C, C::Ready>>,
     ends: Vec<GuestEnd>,
     mut logs: Vec<Log>,
     budget: u64,
 ) -> Recorded
-    requires first { IsFresh C.set C.machine pass_home pass_numbers pass_seen (memory_id mem.now) (memory_origin mem.now) image.now first }
+    requires first_job { IsFresh C.set C.machine pass_home pass_numbers pass_seen (memory_id mem.now) (memory_origin mem.now) image.now first_job }
     requires others { AreFresh C.set C.machine pass_home pass_numbers pass_seen (memory_id mem.now) (memory_origin mem.now) image.now jobs.items }
-    requires none { (pass_seen first.pass ≡ []) × HaveSeen pass_seen [] jobs.items }
+    requires none { (pass_seen first_job.pass ≡ []) × HaveSeen pass_seen [] jobs.items }
     requires unused { All IsUnused logs.items }
     requires logs { vec_len logs ≡ vec_len jobs + 1 }
     requires empty { (ends.items ≡ []) × (vec_len ends ≡ 0) }
     requires room { vec_len jobs < vec_capacity ends }
     requires whole { length image.now.bytes ≡ (memory_origin mem.now).size.mem }
     requires budget { budget ≤ most_budget }
-    ensures logged { HaveLogged C.set (memory_id mem.now) (memory_origin mem.now) image.now budget (threads_of (first.entry ∷ jobs.entry.items)) result }
+    ensures logged { HaveLogged C.set (memory_id mem.now) (memory_origin mem.now) image.now budget (threads_of (first_job.entry ∷ jobs.entry.items)) result }
     ensures len { (vec_len result.ran.ends ≡ vec_len jobs.entry + 1) × (vec_len result.logs ≡ vec_len jobs.entry + 1) }
     ensures capacity { (vec_capacity ends ≤ vec_capacity result.ran.ends) × (vec_capacity logs ≤ vec_capacity result.logs) }
 {
     let Some(last) = take_job(mem, image, &mut jobs) else {
         let log = take_log(&mut logs);
-        return begin_log(log_job(rt, mem, image, first, log, budget), ends, logs);
+        return begin_log(log_job(rt, mem, image, first_job, log, budget), ends, logs);
     };
     let log = take_log(&mut logs);
     let (recorded, done) = join(
         rt,
         move || -> Recorded
-            requires { IsSync R.row × IsFresh C.set C.machine pass_home pass_numbers pass_seen (memory_id mem.now) (memory_origin mem.now) image.now first
+            requires { IsSync R.row × IsFresh C.set C.machine pass_home pass_numbers pass_seen (memory_id mem.now) (memory_origin mem.now) image.now first_job
                 × AreFresh C.set C.machine pass_home pass_numbers pass_seen (memory_id mem.now) (memory_origin mem.now) image.now jobs.items
-                × ((pass_seen first.pass ≡ []) × HaveSeen pass_seen [] jobs.items) × All IsUnused logs.items × (vec_len logs ≡ vec_len jobs + 1)
+                × ((pass_seen first_job.pass ≡ []) × HaveSeen pass_seen [] jobs.items) × All IsUnused logs.items × (vec_len logs ≡ vec_len jobs + 1)
                 × ((ends.items ≡ []) × (vec_len ends ≡ 0)) × (vec_len jobs < vec_capacity ends)
                 × (length image.now.bytes ≡ (memory_origin mem.now).size.mem) × (budget ≤ most_budget) }
-            ensures { HaveLogged C.set (memory_id mem.entry.now) (memory_origin mem.entry.now) image.entry.now budget (threads_of (first.entry ∷ jobs.entry.items)) result
+            ensures { HaveLogged C.set (memory_id mem.entry.now) (memory_origin mem.entry.now) image.entry.now budget (threads_of (first_job.entry ∷ jobs.entry.items)) result
                 × ((vec_len result.ran.ends ≡ vec_len jobs.entry + 1) × (vec_len result.logs ≡ vec_len jobs.entry + 1))
                 × ((vec_capacity ends ≤ vec_capacity result.ran.ends) × (vec_capacity logs ≤ vec_capacity result.logs)) }
-        { log_jobs(rt, mem, image, first, jobs, ends, logs, budget) },
+        { log_jobs(rt, mem, image, first_job, jobs, ends, logs, budget) },
         move || -> LoggedThread
             requires { IsFresh C.set C.machine pass_home pass_numbers pass_seen (memory_id mem.now) (memory_origin mem.now) image.now last
                 × (pass_seen last.pass ≡ []) × IsUnused log × (length image.now.bytes ≡ (memory_origin mem.now).size.mem) × (budget ≤ most_budget) }

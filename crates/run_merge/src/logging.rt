@@ -7,7 +7,7 @@ ghost use Rattle.guest_thread.specs.Counting.{accesses_counted};
 ghost use Rattle.guest_core.specs.Ports.{IsAskIn};
 ghost use Rattle.llsc_base.specs.declared.outside.Ask.{Ask};
 ghost use Rattle.llsc_base.specs.Memory.{size_bytes};
-ghost use Rattle.guest_thread.specs.inner.Sharing.{IsServed, IsUnserved, RefusesAt};
+ghost use Rattle.guest_thread.specs.inner.Sharing.{IsServedSharing, IsUnserved, RefusesAt};
 ghost use Rattle.run_merge.specs.inner.Logging.{IsLogged, IsRecordedBy};
 ghost use Rattle.run_record.specs.Limits.{most_accesses};
 
@@ -15,7 +15,7 @@ use crate::logs::{Log, Stamped};
 use guest_core::Port;
 use guest_thread::Counts;
 use history::{Access, Deed};
-use llsc_base::{Ask, Place};
+use llsc_base::{Ask, Place, STATUS_FAILED, STATUS_STORED};
 use shared_memory::SharedMemory;
 use std::marker::Model;
 use std::sync::Wait;
@@ -118,7 +118,7 @@ impl<'a, R: Wait> Logging<'a, R> {
     fn load(&mut self, place: Place) -> u64
         requires may { IsAskIn self.old.sharing.origin.size.mem (Ask.Load place) }
         requires few { self.old.count < 2 ^ 63 }
-        ensures served { IsServed self.old.sharing (Ask.Load place) result self.new.sharing }
+        ensures served { IsServedSharing self.old.sharing (Ask.Load place) result self.new.sharing }
         ensures log { IsLogged self.old → IsLogged self.new }
         ensures legal { IsLegalFrom self.new.sharing.origin self.new.sharing.seen }
         ensures one { self.new.count ≡ self.old.count + 1 }
@@ -136,7 +136,7 @@ impl<'a, R: Wait> Logging<'a, R> {
     fn load_ex(&mut self, place: Place) -> u64
         requires may { IsAskIn self.old.sharing.origin.size.mem (Ask.LoadEx place) }
         requires few { self.old.count < 2 ^ 63 }
-        ensures served { IsServed self.old.sharing (Ask.LoadEx place) result self.new.sharing }
+        ensures served { IsServedSharing self.old.sharing (Ask.LoadEx place) result self.new.sharing }
         ensures log { IsLogged self.old → IsLogged self.new }
         ensures legal { IsLegalFrom self.new.sharing.origin self.new.sharing.seen }
         ensures one { self.new.count ≡ self.old.count + 1 }
@@ -154,7 +154,7 @@ impl<'a, R: Wait> Logging<'a, R> {
     fn store(&mut self, place: Place, value: u64) -> Option<u64>
         requires may { IsAskIn self.old.sharing.origin.size.mem (Ask.Store place value) }
         requires few { self.old.count < 2 ^ 63 }
-        ensures served { IfSome result (λ reply. (reply ≡ 0) × IsServed self.old.sharing (Ask.Store place value) 0 self.new.sharing) }
+        ensures served { IfSome result (λ reply. (reply ≡ 0) × IsServedSharing self.old.sharing (Ask.Store place value) 0 self.new.sharing) }
         ensures unserved { IfNone result (IsUnserved self.old.sharing self.new.sharing) }
         ensures refused { IfNone result (RefusesAt self.new.sharing place.addr) }
         ensures log { IsLogged self.old → IsLogged self.new }
@@ -174,12 +174,12 @@ impl<'a, R: Wait> Logging<'a, R> {
         Some(0)
     }
 
-    /// A store-exclusive, likewise: 0 where it stored, and 1 where it failed.
+    /// A store-exclusive, likewise: its status.
     #[inline(always)]
     fn store_ex(&mut self, place: Place, value: u64) -> u64
         requires may { IsAskIn self.old.sharing.origin.size.mem (Ask.StoreEx place value) }
         requires few { self.old.count < 2 ^ 63 }
-        ensures served { IsServed self.old.sharing (Ask.StoreEx place value) result self.new.sharing }
+        ensures served { IsServedSharing self.old.sharing (Ask.StoreEx place value) result self.new.sharing }
         ensures log { IsLogged self.old → IsLogged self.new }
         ensures legal { IsLegalFrom self.new.sharing.origin self.new.sharing.seen }
         ensures one { self.new.count ≡ self.old.count + 1 }
@@ -188,19 +188,19 @@ impl<'a, R: Wait> Logging<'a, R> {
             self.counts.fails += 1;
             self.log
                 .add(stamped(self.thread, Deed::StoreFail, place, value, 0));
-            return 1;
+            return STATUS_FAILED;
         };
         self.counts.writes += 1;
         self.log
             .add(stamped(self.thread, Deed::StoreEx, place, value, stamp));
-        0
+        STATUS_STORED
     }
 
     /// CLREX, likewise.
     #[inline(always)]
     fn clear(&mut self)
         requires few { self.old.count < 2 ^ 63 }
-        ensures served { IsServed self.old.sharing Ask.Clear 0 self.new.sharing }
+        ensures served { IsServedSharing self.old.sharing Ask.Clear 0 self.new.sharing }
         ensures log { IsLogged self.old → IsLogged self.new }
         ensures legal { IsLegalFrom self.new.sharing.origin self.new.sharing.seen }
         ensures one { self.new.count ≡ self.old.count + 1 }

@@ -61,9 +61,13 @@ pub fn log_all<C: Core, R: Threads + Wait + Sync>(
     ensures memory { pass_home result.pass ≡ memory_id mem.now }
 {
     let LogCrew { crew, logs } = crew;
-    let Crew { first, jobs, ends } = crew;
+    let Crew {
+        first_job,
+        jobs,
+        ends,
+    } = crew;
     let size = mem.size();
-    let Recorded { ran, logs } = log_jobs(rt, mem, image, first, jobs, ends, logs, budget);
+    let Recorded { ran, logs } = log_jobs(rt, mem, image, first_job, jobs, ends, logs, budget);
     let Ran { pass, ends } = ran;
     LoggedRun {
         size,

@@ -10,7 +10,7 @@ use Rattle.guest_core.specs.declared.phases.Passage.TheVariants.{Complete, AtSta
 use Rattle.guest_core.specs.Phase as phase
 use Rattle.guest_core.specs.Known.{HasNone}
 use Rattle.guest_core.specs.Machine.{IsHeld}
-use Rattle.guest_core.specs.Machine.{after_found_of, after_of, begins_of, between, given, moved_on, next_of, IsReady}
+use Rattle.guest_core.specs.Machine.{after_found_of, after_of, begins_of, between, given, moved_on, next_of, AwaitsNothing}
 use Rattle.guest_core.specs.Passages.{ComesOf, EndsAtOf, IsCarriedOnOf, starts, replied}
 use Rattle.guest_core.specs.Ports.{goes, refused, stays}
 use Rattle.rv32_guest.specs.declared.cpu.Stage.TheVariants as stage
@@ -64,7 +64,7 @@ not_on {old = old} rest = record {
   machine = old;
   leads = stays;
   comes = starts;
-  ends = (refl, subst (λ (m : Machine). IsReady m.phase) (sym rest) tt);
+  ends = (refl, subst (λ (m : Machine). AwaitsNothing m.phase) (sym rest) tt);
 }
 
 held_keeps : (outcome : Outcome) (old now : RvState) → (outcome ≡ comes.Completes → ⊥) → Keeps outcome old now → now ≡ old
@@ -88,7 +88,7 @@ refused_on {old = old} {from = from} {to = to} ask rest served = record {
   machine = old;
   leads = refused [] from to ask stays served;
   comes = starts;
-  ends = (refl, subst (λ (m : Machine). IsReady m.phase) (sym rest) tt);
+  ends = (refl, subst (λ (m : Machine). AwaitsNothing m.phase) (sym rest) tt);
 }
 
 module _ {program : Program} {old : Machine} {state : RvState} {instr : RvInstr} (it : IsFound program old state instr) where

@@ -3,7 +3,7 @@ ghost use Rattle.std.specs.Prelude.{◌≡◌, ◌%◌, ◌+◌, ◌<◌, ◌≤
 ghost use Rattle.llsc_base.specs.Images.{Program};
 ghost use Rattle.llsc_base.specs.Effects.{stops};
 ghost use Rattle.guest_core.specs.Phase as phase;
-ghost use Rattle.guest_core.specs.Machine.{after_found_of, after_of, begins_of, between, given, moved_on, next_of, wanted_of, Follows, IsAwaiting, IsCalling, IsReady, IsTested};
+ghost use Rattle.guest_core.specs.Machine.{after_found_of, after_of, begins_of, between, given, moved_on, next_of, wanted_of, Follows, IsAwaiting, IsCalling, AwaitsNothing, IsTested};
 ghost use Rattle.rv32_guest.specs.inner.Classes.{instr_class, MakesNoAccess};
 ghost use Rattle.rv32_guest.specs.Effect.{acts};
 ghost use Rattle.rv32_guest.specs.Machine.{instr_at, rv32, start_of};
@@ -95,7 +95,7 @@ impl RvCpu {
     /// complete instruction but a guest call, whose [`RvCpu::answer`] ends it; after `Stopped` the same stop comes again.
     #[inline]
     pub fn next(&mut self, image: &Image) -> Wanted
-        requires { IsReady self.old.phase }
+        requires { AwaitsNothing self.old.phase }
         ensures wanted { result ≡ wanted_of (next_of rv32 image.now self.old) }
         ensures state { self.new ≡ after_of rv32 image.now self.old }
         ensures follows { Follows self.old result self.new }
@@ -109,7 +109,7 @@ impl RvCpu {
     pub fn give(&mut self, reply: u64)
         requires { IsAwaiting self.old.phase }
         ensures state { self.new ≡ given self.old reply }
-        ensures ready { IsReady self.new.phase }
+        ensures ready { AwaitsNothing self.new.phase }
         ensures one_more { length self.new.replies ≡ length self.old.replies + 1 }
         ensures room { length self.new.replies ≤ 16 }
     {
@@ -154,7 +154,7 @@ impl RvCpu {
     /// The instruction in hand goes on, or the next one begins, up to what is wanted.
     #[inline]
     fn go_on(&mut self, image: &Image) -> Wanted
-        requires { IsReady self.old.phase }
+        requires { AwaitsNothing self.old.phase }
         ensures wanted { result ≡ wanted_of (next_of rv32 image.now self.old) }
         ensures state { self.new ≡ after_of rv32 image.now self.old }
         ensures tested { IsTested image.now self.old.replies result }

@@ -4,7 +4,7 @@ ghost use Rattle.llsc_base.specs.Limits.{most_budget};
 ghost use Rattle.history.specs.Parts.{entries_of};
 ghost use Rattle.shared_memory.specs.Seen.{IsFront, IsOneOf};
 ghost use Rattle.guest_thread.specs.Counting.{accesses_counted, counts_in};
-ghost use Rattle.guest_thread.specs.Crews.{IsReady};
+ghost use Rattle.guest_thread.specs.Crews.{IsReadyCrew};
 ghost use Rattle.guest_thread.specs.Outcome.{AreEndsOn};
 ghost use Rattle.guest_thread.specs.declared.ends.GuestEnd.{GuestEnd};
 ghost use Rattle.rv32_guest.specs.Machine.{rv32};
@@ -40,8 +40,8 @@ pub fn prepare_rv<'i, M: SharedMemory>(
     requires numbers { (t : ℕ) → M.numbers first t ≡ nat_lt t (M.origin mem.now).size.threads }
     requires begin { (M.origin mem.now).first ≡ (M.origin mem.now).size.threads }
     requires none { (t : ℕ) → entries_of t (M.seen first) ≡ [] }
-    ensures ready { IfOk result (IsReady rv32 (λ cpu. cpu) M.home M.numbers M.seen (M.id mem.now) (M.origin mem.now) image.now) }
-    ensures seen { IfOk result (λ crew. M.seen crew.first.pass ≡ M.seen first) }
+    ensures ready { IfOk result (IsReadyCrew rv32 (λ cpu. cpu) M.home M.numbers M.seen (M.id mem.now) (M.origin mem.now) image.now) }
+    ensures seen { IfOk result (λ crew. M.seen crew.first_job.pass ≡ M.seen first) }
 {
     prepare(alloc, mem, image, first)
 }
@@ -58,14 +58,14 @@ pub fn run_rv_all<M: SharedMemory, R: Threads + Wait + Sync>(
     crew: RvCrew<M::Pass>,
     budget: u64,
 ) -> Ran<M::Pass>
-    requires crew { IsReady rv32 (λ cpu. cpu) M.home M.numbers M.seen (M.id mem.now) (M.origin mem.now) image.now crew }
+    requires crew { IsReadyCrew rv32 (λ cpu. cpu) M.home M.numbers M.seen (M.id mem.now) (M.origin mem.now) image.now crew }
     requires whole { length image.now.bytes ≡ (M.origin mem.now).size.mem }
     requires budget { budget ≤ most_budget }
     ensures ends { AreEndsOn rv32 image.now (M.origin mem.now).size budget (M.seen result.pass) result.ends.items }
     ensures spends { All (λ (end : GuestEnd). (addr : ℕ) → end.stop ≡ Stop.TagLimit addr → (M.origin mem.now).spends ≡ true) result.ends.items }
     ensures few { All (λ (end : GuestEnd). accesses_counted (counts_in end) < 2 ^ 45) result.ends.items }
     ensures numbers { (t : ℕ) → t < (M.origin mem.now).size.threads → IsOneOf t (M.numbers result.pass) }
-    ensures begins { IsFront (M.seen crew.entry.first.pass) (M.seen result.pass) }
+    ensures begins { IsFront (M.seen crew.entry.first_job.pass) (M.seen result.pass) }
     ensures memory { M.home result.pass ≡ M.id mem.now }
 {
     run_all(rt, mem, image, crew, budget)

@@ -1,3 +1,4 @@
+//! The instruction that a word is.
 ghost use Rattle.std.specs.Prelude.{◌≡◌};
 ghost use Rattle.rv32_guest.specs.Table.{meaning, table};
 

@@ -1,3 +1,4 @@
+//! What an instruction comes to that makes no access.
 use llsc_base::{CallAsk, Stop};
 
 /// What an instruction comes to that makes no access.

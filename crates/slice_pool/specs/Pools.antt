@@ -30,7 +30,7 @@ module _ {P : Type 0} (home : P → TableId) (numbers : P → ℕ → Bool) (see
 
   -- a pool that may be run: all threads of the memory begin by themselves, and their guests are at their start; the queue is empty,
   -- and its one seat has all parts; there are at most four workers; and there is room for every guest's end
-  pub record IsReady {M Story : Type 0} (mem : TableId) (origin : Origin) (program : Program) (pool : Pool M P Story) : Type 0 where
+  pub record IsReadyPool {M Story : Type 0} (mem : TableId) (origin : Origin) (program : Program) (pool : Pool M P Story) : Type 0 where
     pub begin : origin.first ≡ origin.size.threads
     pub guests : All (IsFresh mem origin program) pool.guests.items
     pub numbers_are : last_first pool.guests.items [] ≡ downto origin.size.threads

@@ -4,7 +4,7 @@ ghost use Rattle.history.specs.Parts.{entries_of};
 ghost use Rattle.shared_memory.specs.Seen.{IsSingle};
 ghost use Rattle.slice_pool.specs.AtWork.{IsFree};
 ghost use Rattle.slice_pool.specs.Hands.{downto};
-ghost use Rattle.slice_pool.specs.Pools.{IsFresh, IsReady};
+ghost use Rattle.slice_pool.specs.Pools.{IsFresh, IsReadyPool};
 ghost use Rattle.slice_pool.specs.Rule.{last_first};
 
 use crate::crews::Desk;
@@ -115,7 +115,7 @@ pub fn pool_crew<'i, M: SharedMemory>(
     requires begin { (M.origin mem.now).first ≡ (M.origin mem.now).size.threads }
     requires none { (t : ℕ) → entries_of t (M.seen first) ≡ [] }
     requires workers { (1 ≤ workers) × (workers ≤ 4) }
-    ensures ready { IfOk result (IsReady M.home M.numbers M.seen (M.id mem.now) (M.origin mem.now) image.now) }
+    ensures ready { IfOk result (IsReadyPool M.home M.numbers M.seen (M.id mem.now) (M.origin mem.now) image.now) }
 {
     let size = mem.size();
     let count = size.threads();

@@ -7,7 +7,7 @@ ghost use Rattle.slice_pool.specs.inner.Hands.{key_of};
 ghost use Rattle.slice_pool.specs.Rule.{last_first};
 ghost use Rattle.slice_pool.specs.inner.Over.{AreAllGone, IsGone};
 ghost use Rattle.slice_pool.specs.AtWork.{IsFree};
-ghost use Rattle.slice_pool.specs.Pools.{IsFresh, IsReady};
+ghost use Rattle.slice_pool.specs.Pools.{IsFresh, IsReadyPool};
 ghost use Rattle.shared_memory.specs.Seen.{IsOneOf};
 ghost use Rattle.guest_thread.specs.Counting.{accesses_counted, counts_in};
 ghost use Rattle.guest_thread.specs.Outcome.{AreEndsOn};
@@ -101,7 +101,7 @@ pub fn run_pool<M: SharedMemory, R: Threads + Wait + Sync>(
     slice: u64,
     budget: u64,
 ) -> Pooled<M::Pass>
-    requires pool { IsReady M.home M.numbers M.seen (M.id mem.now) (M.origin mem.now) image.now pool }
+    requires pool { IsReadyPool M.home M.numbers M.seen (M.id mem.now) (M.origin mem.now) image.now pool }
     requires whole { length image.now.bytes ≡ (M.origin mem.now).size.mem }
     requires slice { 1 ≤ slice }
     requires budget { budget ≤ most_budget }

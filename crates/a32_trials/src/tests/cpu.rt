@@ -3,7 +3,7 @@
 //! before it, and then r0, r1 and the flags after it, all in hexadecimal; the flags are N, Z, C and V as bits 3, 2, 1
 //! and 0. A line that begins with a semicolon is a comment. Loads and stores have rows of their own (`accesses`,
 //! `edges` and `blocks`), which `transcripts` reads. `starts` makes the core before a row's instruction.
-ghost use Rattle.guest_core.specs.Machine.{IsReady};
+ghost use Rattle.guest_core.specs.Machine.{AwaitsNothing};
 
 use crate::tests::cpu::starts::{core_with, reachable};
 use a32_step::{Cpu, Flags};
@@ -105,7 +105,7 @@ fn agrees(alloc: Global, text: &str) -> Result<bool, Fail> {
 
 /// Whether a core's next instruction is complete, and leaves it so.
 fn comes_to(mut cpu: Cpu, image: &Image, after: After) -> bool
-    requires { IsReady cpu.phase }
+    requires { AwaitsNothing cpu.phase }
 {
     cpu.next(image) == Wanted::Done
         && cpu.pc() == 0x1004

@@ -11,7 +11,7 @@ use Rattle.guest_thread.specs.Counts.{reads_in, writes_in, fails_in}
 use Rattle.guest_machine.specs.declared.alone.Alone.{Alone}
 
 -- the access that the one thread tries came about in memory and was counted, and this is the reply to it
-pub record IsServed (old : Alone) (ask : Ask) (reply : ℕ) (new : Alone) : Type 0 where
+pub record IsServedAlone (old : Alone) (ask : Ask) (reply : ℕ) (new : Alone) : Type 0 where
   pub reply_is : reply ≡ reply_of (access_by old.memory 0 ask)
   pub memory : new.memory ≡ accessed old.memory (entry_of (access_by old.memory 0 ask))
   pub may : MayAccess old.memory (entry_of (access_by old.memory 0 ask))
@@ -20,6 +20,6 @@ pub record IsServed (old : Alone) (ask : Ask) (reply : ℕ) (new : Alone) : Type
   pub fails : new.counts.fails ≡ old.counts.fails + fails_in (entry_of (access_by old.memory 0 ask))
 
 -- it replies to each access: it refuses none
-abbrev pub IsServedBy : Alone → Ask → Option ℕ → Alone → Type 0
-IsServedBy old ask (Some reply) new = IsServed old ask reply new
-IsServedBy old ask None new = ⊥
+abbrev pub RepliesAlone : Alone → Ask → Option ℕ → Alone → Type 0
+RepliesAlone old ask (Some reply) new = IsServedAlone old ask reply new
+RepliesAlone old ask None new = ⊥

@@ -30,7 +30,7 @@ pub record HasGoneOn (old new : SharingState) : Type 0 where
 
 -- the thread made an access for what it asked, and started no other: what was asked and the reply stand behind the thread's others,
 -- and it is counted
-pub record IsServed (old : SharingState) (ask : Ask) (reply : ℕ) (new : SharingState) : Type 0 where
+pub record IsServedSharing (old : SharingState) (ask : Ask) (reply : ℕ) (new : SharingState) : Type 0 where
   pub goes_on : HasGoneOn old new
   pub pairs : pairs_of old.thread new.seen ≡ pairs_of old.thread old.seen ++ (ask, reply) ∷ []
   pub unstarted : starts_in old.thread new.seen ≡ starts_in old.thread old.seen
@@ -44,9 +44,9 @@ pub record IsUnserved (old new : SharingState) : Type 0 where
   pub counts : new.counts ≡ old.counts
 
 -- how an answer, a reply or none, leads on
-abbrev pub IsServedBy : SharingState → Ask → Option ℕ → SharingState → Type 0
-IsServedBy old ask (Some reply) new = IsServed old ask reply new
-IsServedBy old ask None new = IsUnserved old new
+abbrev pub RepliesSharing : SharingState → Ask → Option ℕ → SharingState → Type 0
+RepliesSharing old ask (Some reply) new = IsServedSharing old ask reply new
+RepliesSharing old ask None new = IsUnserved old new
 
 -- the memory counts a class's writes, and that of an address has none left
 abbrev pub RefusesAt : SharingState → ℕ → Type 0

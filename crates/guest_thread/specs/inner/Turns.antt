@@ -2,7 +2,7 @@
 -- What one turn makes of a guest thread between two accesses, none of which is awaited.
 use Rattle.std.specs.Prelude.{◌≡◌, ℕ, ◌+◌, ◌<◌, ◌≤◌, nat_lt, if◌then◌else◌, [], ◌∷◌, ◌++◌, length, Option, Some, None}
 use Rattle.llsc_base.specs.declared.outside.Stop.TheVariants as stop
-use Rattle.guest_core.specs.Machine.{InstructionSet, returned_of, IsReady}
+use Rattle.guest_core.specs.Machine.{InstructionSet, returned_of, AwaitsNothing}
 use Rattle.guest_calls.specs.Calls.{CallEffect, exits, answers, writes_bytes, most_output}
 use Rattle.guest_calls.specs.Run.{byte_load}
 use Rattle.guest_thread.specs.declared.guests.Printing.{Printing}
@@ -15,7 +15,7 @@ use Rattle.guest_thread.specs.ThreadState.{ThreadOf}
 -- no write is under way, and its core waits for nothing
 pub record IsAtTurn {I S : Type 0} (standing : ThreadOf I S) : Type 0 where
   pub printing : standing.printing ≡ None
-  pub ready : IsReady standing.cpu.phase
+  pub ready : AwaitsNothing standing.cpu.phase
 
 -- the same, one step on
 pub record IsOneStepOn {I S : Type 0} (old new : ThreadOf I S) : Type 0 where

@@ -17,7 +17,7 @@ IsRefused monitor access NotAsked = ⊥
 IsRefused monitor access Unfinished = ⊥
 
 -- memory has nothing against an access, and has moved on by it
-pub record IsServed (monitor : Monitor) (access : Access) (after : Monitor) : Type 0 where
+pub record IsMadeAsRecorded (monitor : Monitor) (access : Access) (after : Monitor) : Type 0 where
   pub value : HasWrongValue monitor access → ⊥
   pub reserved : LacksMark monitor access → ⊥
   pub moved : after ≡ accessed monitor (entry_of access)

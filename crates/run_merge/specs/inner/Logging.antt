@@ -3,7 +3,7 @@
 use Rattle.std.specs.Prelude.{◌≤◌, ◌+◌, ℕ, Option, Some, None, List}
 use Rattle.shared_memory.specs.Origin.{IsLegalFrom}
 use Rattle.llsc_base.specs.declared.outside.Ask.{Ask}
-use Rattle.guest_thread.specs.inner.Sharing.{SharingState, IsServed, IsUnserved, RefusesAt}
+use Rattle.guest_thread.specs.inner.Sharing.{SharingState, IsServedSharing, IsUnserved, RefusesAt}
 use Rattle.run_merge.specs.Logs.{IsLogOf}
 use Rattle.run_merge.specs.declared.logs.Stamped.{Stamped}
 
@@ -19,7 +19,7 @@ IsLogged state = IsLogOf state.sharing.origin.size state.sharing.thread state.sh
 
 -- an access was made as any is, and is logged
 pub record IsRecorded (old : LoggingState) (ask : Ask) (reply : ℕ) (new : LoggingState) : Type 0 where
-  pub served : IsServed old.sharing ask reply new.sharing
+  pub served : IsServedSharing old.sharing ask reply new.sharing
   pub log : IsLogged old → IsLogged new
   pub one : new.count ≤ old.count + 1
   pub legal : IsLegalFrom new.sharing.origin new.sharing.seen

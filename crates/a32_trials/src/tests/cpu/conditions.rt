@@ -1,5 +1,5 @@
 //! Conditions, and writes to the PC.
-ghost use Rattle.guest_core.specs.Machine.{IsReady};
+ghost use Rattle.guest_core.specs.Machine.{AwaitsNothing};
 
 use super::*;
 use a32_compute::conditions::{condition, passes};
@@ -26,7 +26,7 @@ const CONDITIONS: [[u32; 2]; 15] = [
 
 /// What comes of a core's next instruction: what it wants then, its r0, and its PC.
 fn after(mut cpu: Cpu, image: &Image) -> (Wanted, u32, u32)
-    requires { IsReady cpu.phase }
+    requires { AwaitsNothing cpu.phase }
 {
     let wanted = cpu.next(image);
     (wanted, cpu.reg(0), cpu.pc())

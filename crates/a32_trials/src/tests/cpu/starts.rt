@@ -1,6 +1,6 @@
 //! Cores with given registers and flags. A core starts with its flags clear, and instructions alone set them.
 ghost use Rattle.std.specs.Result.{IfOk};
-ghost use Rattle.guest_core.specs.Machine.{IsReady};
+ghost use Rattle.guest_core.specs.Machine.{AwaitsNothing};
 
 use super::*;
 use llsc_base::Ask;
@@ -22,7 +22,7 @@ pub(super) fn reachable(flags: u32) -> [u32; 2] {
 
 /// A core before the instruction at 0x1000, with these registers and flags, not both N and Z among them.
 pub(super) fn core_with(alloc: Global, regs: [u32; 15], flags: u32) -> Result<Cpu, Fail>
-    ensures { IfOk result (λ cpu. IsReady cpu.phase) }
+    ensures { IfOk result (λ cpu. AwaitsNothing cpu.phase) }
 {
     let image = image(alloc, &SETTING)?;
     let mut cpu = flagged(&image, flags_of(flags))?;
@@ -39,7 +39,7 @@ pub(super) fn core_with(alloc: Global, regs: [u32; 15], flags: u32) -> Result<Cp
 
 /// A core that has these flags, before the third instruction.
 fn flagged(image: &Image, flags: Flags) -> Result<Cpu, Fail>
-    ensures { IfOk result (λ cpu. IsReady cpu.phase) }
+    ensures { IfOk result (λ cpu. AwaitsNothing cpu.phase) }
 {
     let doubled = if flags.v { 0x4000_0000 } else { 0 };
     let mut cpu = Cpu::start(0x1000, doubled, shifted(flags), 0);
@@ -63,8 +63,8 @@ fn shifted(flags: Flags) -> u32 {
 
 /// An instruction is complete.
 fn finish(cpu: &mut Cpu, image: &Image) -> Result<(), Fail>
-    requires { IsReady cpu.old.phase }
-    ensures { IfOk result (λ done. IsReady cpu.new.phase) }
+    requires { AwaitsNothing cpu.old.phase }
+    ensures { IfOk result (λ done. AwaitsNothing cpu.new.phase) }
 {
     match cpu.next(image) {
         Wanted::Done => Ok(()),
@@ -74,8 +74,8 @@ fn finish(cpu: &mut Cpu, image: &Image) -> Result<(), Fail>
 
 /// A load gets this value.
 fn load(cpu: &mut Cpu, image: &Image, value: u32) -> Result<(), Fail>
-    requires { IsReady cpu.old.phase }
-    ensures { IfOk result (λ done. IsReady cpu.new.phase) }
+    requires { AwaitsNothing cpu.old.phase }
+    ensures { IfOk result (λ done. AwaitsNothing cpu.new.phase) }
 {
     match cpu.next(image) {
         Wanted::Access(Ask::Load(_)) => {

@@ -3,7 +3,7 @@
 //! values that the loads get, in order. The third is the transcript: each access with its size, its address and the
 //! value that is stored, and then the stop, or `done` with the PC. Last come the registers that changed. Sizes and the
 //! names of registers are decimal, and all other numbers hexadecimal. A line that begins with a semicolon is a comment.
-ghost use Rattle.guest_core.specs.Machine.{IsReady};
+ghost use Rattle.guest_core.specs.Machine.{AwaitsNothing};
 
 use super::*;
 use crate::tests::same;
@@ -77,7 +77,7 @@ fn reply_to(ask: Ask, values: &mut SplitWhitespace) -> Result<u64, Fail> {
 
 /// The accesses of the core's next instruction, whose loads get these values, and its end.
 fn steps(alloc: Global, image: &Image, cpu: &mut Cpu, values: &str) -> Result<String, Fail>
-    requires { IsReady cpu.old.phase }
+    requires { AwaitsNothing cpu.old.phase }
 {
     let mut values = values.split_whitespace();
     let mut text = String::new(alloc);

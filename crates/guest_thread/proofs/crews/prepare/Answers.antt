@@ -9,9 +9,9 @@ returns-clause-ready g c =
     let room : vec_len c.in_ok-jobs.jobs < vec_capacity c.in_ok-ends.ends = omega (arith, c.in_ok-jobs.ensures.len, c.in_ok-ends.ensures.capacity) in
     record {
       begin = c.requires.begin;
-      first = c.in_ok-first.ensures.fresh;
+      first_job = c.in_ok-first_job.ensures.fresh;
       others = c.in_ok-jobs.ensures.fresh;
-      threads = all_threads c.in_ok-first.first c.in_ok-jobs.jobs.items (vec_len c.in_ok-jobs.jobs) origin.size.threads c.in_ok-first.ensures.thread c.in_ok-jobs.ensures.threads
+      threads = all_threads c.in_ok-first_job.first_job c.in_ok-jobs.jobs.items (vec_len c.in_ok-jobs.jobs) origin.size.threads c.in_ok-first_job.ensures.thread c.in_ok-jobs.ensures.threads
           (c.in_ok-jobs.ensures.len ∙ count);
       empty = (c.in_ok-ends.ensures.items, c.in_ok-ends.ensures.len);
       room = room;

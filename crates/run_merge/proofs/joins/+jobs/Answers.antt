@@ -7,7 +7,7 @@ pub returns-clause-logged : goal.returns-clause-logged
 returns-clause-logged g t c =
     let ran = c.join-recorded.ensures.first in
     let done = c.join-recorded.ensures.second in
-    logged_more g.C.Core.set g.C.Core.machine (memory_id c.args.mem.now) (memory_origin c.args.mem.now) c.args.image.now c.args.budget c.args.first c.in-Some.last c.args.jobs.items c.take_job.new.jobs.items
+    logged_more g.C.Core.set g.C.Core.machine (memory_id c.args.mem.now) (memory_origin c.args.mem.now) c.args.image.now c.args.budget c.args.first_job c.in-Some.last c.args.jobs.items c.take_job.new.jobs.items
     c.join-recorded.result.0 c.gather_log.result c.join-recorded.result.1.pass c.join-recorded.result.1.end c.join-recorded.result.1.log
     c.in-Some.ensures.items ran.0 done.0 done.1 done.3 done.4 c.gather_log.ensures.memory c.gather_log.ensures.numbers c.gather_log.ensures.seen c.gather_log.ensures.fronts c.gather_log.ensures.mine c.gather_log.ensures.yours
     c.gather_log.ensures.ends c.gather_log.ensures.logs
@@ -16,7 +16,7 @@ pub returns-in_default-clause-logged : goal.returns-in_default-clause-logged
 returns-in_default-clause-logged g t c =
     let done = c.log_job.result in
     let none : length c.take_log-log.new.logs.items ≡ 0 = omega (arith, c.take_log-log.new.logs.ok.0, c.take_log-log.ensures.len, c.requires.logs, c.in_default.ensures.empty) in
-    logged_first g.C.Core.set (memory_id c.args.mem.now) (memory_origin c.args.mem.now) c.args.image.now c.args.budget c.args.first c.args.jobs.items done.pass done.end done.log
+    logged_first g.C.Core.set (memory_id c.args.mem.now) (memory_origin c.args.mem.now) c.args.image.now c.args.budget c.args.first_job c.args.jobs.items done.pass done.end done.log
     c.args.ends.items c.take_log-log.new.logs.items c.begin_log.result c.in_default.ensures.items c.requires.empty.0 none c.log_job.ensures.memory c.log_job.ensures.number
     c.log_job.ensures.end c.log_job.ensures.log c.log_job.ensures.legal c.begin_log.ensures.pass c.begin_log.ensures.ends c.begin_log.ensures.logs
 
@@ -39,7 +39,7 @@ join-recorded-requires-after_bounds g t c κs within =
             (
               search rules,
               (
-                (search rules, c.requires.first, c.in-Some.ensures.others, (c.requires.none.0, none.1), c.take_log-log-2.ensures.others, many, c.requires.empty, room, c.requires.whole, c.requires.budget),
+                (search rules, c.requires.first_job, c.in-Some.ensures.others, (c.requires.none.0, none.1), c.take_log-log-2.ensures.others, many, c.requires.empty, room, c.requires.whole, c.requires.budget),
                 (search rules, search rules, search rules),
               ),
             ),

@@ -2,11 +2,11 @@
 use Rattle.std.proofs.Common.{rules, ◌≡◌, ◌+◌, ◌<◌, ◌≤◌, length, refl, sym, ap, subst, ◌∙◌, arith}
 use Rattle.llsc_base.specs.Images.{Program}
 use Rattle.guest_core.specs.declared.phases.Passage.TheVariants.{Complete}
-use Rattle.guest_core.specs.Machine.{MachineOf, IsReady}
+use Rattle.guest_core.specs.Machine.{MachineOf, AwaitsNothing}
 use Rattle.guest_core.specs.Passages.{IsCarriedOnOf}
 use Rattle.guest_thread.specs.Ports.{IsRunning}
 use Rattle.guest_thread.specs.inner.Ports.{IsAtRest}
-use Rattle.guest_thread.specs.Progress.{progress_of}
+use Rattle.guest_thread.specs.Progress.{headway_of}
 use Rattle.guest_thread.specs.ThreadState.{ThreadOf, thread_in}
 use Rattle.guest_thread.proofs.Carried.{after_one, after_part, at_rest_on, leads_counted, part_ends, replies_counted, running_at}
 use Rattle.guest_thread.proofs.Ways.{no_way, Ways, way_on}
@@ -23,8 +23,8 @@ loop-steps-init g c =
       rest = subst IsAtRest seen (search rules);
       program = refl;
       mem = refl;
-      counted = subst (λ s. g.P.Port.counted c.args.port.now ≤ progress_of s) seen c.requires.counted;
-      later = subst (λ s. progress_of (thread_in g.C.Core.machine c.args.self.now) ≤ progress_of s) seen (omega arith);
+      counted = subst (λ s. g.P.Port.counted c.args.port.now ≤ headway_of s) seen c.requires.counted;
+      later = subst (λ s. headway_of (thread_in g.C.Core.machine c.args.self.now) ≤ headway_of s) seen (omega arith);
       way = λ stocked. subst (λ s. Ways g.C.Core.set g.P.Port.replies stocked c.args.code.now.program c.args.budget (thread_in g.C.Core.machine c.args.self.now) c.args.port.now s c.args.port.now) seen
           (no_way g.C.Core.set g.P.Port.replies stocked c.args.code.now.program c.args.budget (thread_in g.C.Core.machine c.args.self.now) c.args.port.now);
     }
@@ -44,7 +44,7 @@ loop-steps-preserved g c =
     let rest : IsAtRest new = at_rest_on g.C.Core.set program carried.machine new inv.rest.printing carried.ends in
     let few : length (g.C.Core.machine c.carry.new.self).replies ≤ 16 = c.carry.ensures.room in
     record {
-      running = running_at g.C.Core.set (length program.bytes) c.args.budget new inv.rest.printing (subst (λ (m : MachineOf g.C.Core.Instr g.C.Core.State). IsReady m.phase) (sym carried.ends.3) tt)
+      running = running_at g.C.Core.set (length program.bytes) c.args.budget new inv.rest.printing (subst (λ (m : MachineOf g.C.Core.Instr g.C.Core.State). AwaitsNothing m.phase) (sym carried.ends.3) tt)
           (omega (arith, within)) few inv.running.bounded.output;
       rest = rest;
       program = c.carry.ensures.program ∙ inv.program;
@@ -72,7 +72,7 @@ returns-in-AtStart g c =
     let had : length (g.C.Core.machine c.carry.new.self).replies ≡ length carried.pairs =
     ap (λ (m : MachineOf g.C.Core.Instr g.C.Core.State). length m.replies) ends.0 ∙ replies_counted g.C.Core.set program (g.C.Core.machine inside.cpu) carried.machine carried.pairs inv.rest.between carried.comes in
     record {
-      running = running_at g.C.Core.set (length program.bytes) c.args.budget new inv.rest.printing (subst (λ (m : MachineOf g.C.Core.Instr g.C.Core.State). IsReady m.phase) (sym ends.0) ends.1)
+      running = running_at g.C.Core.set (length program.bytes) c.args.budget new inv.rest.printing (subst (λ (m : MachineOf g.C.Core.Instr g.C.Core.State). AwaitsNothing m.phase) (sym ends.0) ends.1)
           (omega (arith, within)) c.carry.ensures.room inv.running.bounded.output;
       later = omega (arith, inv.later, none);
       program = c.carry.ensures.program ∙ inv.program;

@@ -2,7 +2,7 @@
 use Rattle.std.proofs.Common.{◌≡◌, ◌≤◌, ◌-◌, Bool, length}
 use Rattle.guest_thread.specs.Ports.{IsRunning}
 use Rattle.guest_thread.specs.inner.Ports.{IsAtRest}
-use Rattle.guest_thread.specs.Progress.{progress_of}
+use Rattle.guest_thread.specs.Progress.{headway_of}
 use Rattle.guest_thread.specs.ThreadState.{thread_in}
 use Rattle.guest_thread.proofs.Ways.{Ways}
 use Rattle.guest_thread.proofs.guests.Guest.carry_on.Given as goal
@@ -13,8 +13,8 @@ invariant-loop-steps g l = record {
   rest : IsAtRest (record { cpu = g.C.Core.machine l.self-inside.cpu; steps = l.steps; output = l.self-inside.output; printing = l.self-inside.printing });
   program : l.code.program ≡ l.fn.code.program;
   mem : g.P.Port.mem l.port ≡ g.P.Port.mem l.fn.port;
-  counted : g.P.Port.counted l.port ≤ progress_of (record { cpu = g.C.Core.machine l.self-inside.cpu; steps = l.steps; output = l.self-inside.output; printing = l.self-inside.printing });
-  later : progress_of (thread_in g.C.Core.machine l.fn.self) ≤ progress_of (record { cpu = g.C.Core.machine l.self-inside.cpu; steps = l.steps; output = l.self-inside.output; printing = l.self-inside.printing });
+  counted : g.P.Port.counted l.port ≤ headway_of (record { cpu = g.C.Core.machine l.self-inside.cpu; steps = l.steps; output = l.self-inside.output; printing = l.self-inside.printing });
+  later : headway_of (thread_in g.C.Core.machine l.fn.self) ≤ headway_of (record { cpu = g.C.Core.machine l.self-inside.cpu; steps = l.steps; output = l.self-inside.output; printing = l.self-inside.printing });
   way : (stocked : Bool) → Ways g.C.Core.set g.P.Port.replies stocked l.fn.code.program l.fn.budget (thread_in g.C.Core.machine l.fn.self) l.fn.port (record { cpu = g.C.Core.machine l.self-inside.cpu; steps = l.steps; output = l.self-inside.output; printing = l.self-inside.printing }) l.port;
 }
 

@@ -2,7 +2,7 @@ use Rattle.std.proofs.Common.{◌∷◌, [], false, refl, sym, subst}
 use Rattle.history.specs.declared.entry.Entry.TheVariants.{Read}
 use Rattle.version_memory.specs.Memory.{memory_id, memory_origin, pass_seen}
 use Rattle.llsc_base.specs.declared.outside.Ask.TheVariants.{Load}
-use Rattle.guest_thread.specs.inner.Sharing.{IsServed}
+use Rattle.guest_thread.specs.inner.Sharing.{IsServedSharing}
 use Rattle.run_merge.specs.inner.Logging.{IsLogged, LoggingState}
 use Rattle.run_merge.specs.Logs.{access_of}
 use Rattle.run_merge.proofs.Grown.{grown_by_stamped, logged_on, made}
@@ -13,7 +13,7 @@ pub returns-clause-served : goal.returns-clause-served
 returns-clause-served g c =
     let s = c.self.inside in
     let value = c.load_stamped-value.result.0 in
-    subst (λ (st : LoggingState). IsServed st.sharing (Load c.args.place) value (part (memory_id s.mem.now) (memory_origin s.mem.now) s.thread (pass_seen c.load_stamped-value.new.pass) (one_read s.counts))) c.self.view_is
+    subst (λ (st : LoggingState). IsServedSharing st.sharing (Load c.args.place) value (part (memory_id s.mem.now) (memory_origin s.mem.now) s.thread (pass_seen c.load_stamped-value.new.pass) (one_read s.counts))) c.self.view_is
     (load_served (memory_id s.mem.now) (memory_origin s.mem.now) s.thread (pass_seen s.pass) (pass_seen c.load_stamped-value.new.pass) s.counts c.args.place value
     (c.load_stamped-value.ensures.seen s.thread c.self.invariant.1))
 

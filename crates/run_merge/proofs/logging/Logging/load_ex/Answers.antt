@@ -3,7 +3,7 @@ use Rattle.history.specs.Operation.{entries_of_operation, load_watched}
 use Rattle.history.specs.declared.entry.Entry.TheVariants as entry
 use Rattle.version_memory.specs.Memory.{memory_id, memory_origin, pass_seen}
 use Rattle.llsc_base.specs.declared.outside.Ask.TheVariants as ask
-use Rattle.guest_thread.specs.inner.Sharing.{IsServed}
+use Rattle.guest_thread.specs.inner.Sharing.{IsServedSharing}
 use Rattle.run_merge.specs.inner.Logging.{IsLogged, LoggingState}
 use Rattle.run_merge.specs.Logs.{access_of}
 use Rattle.run_merge.proofs.Grown.{grown_by_stamped, logged_on, made}
@@ -14,7 +14,7 @@ pub returns-clause-served : goal.returns-clause-served
 returns-clause-served g c =
     let s = c.self.inside in
     let new = pass_seen c.load_ex_stamped-value.new.pass in
-    subst (λ (st : LoggingState). IsServed st.sharing (ask.LoadEx c.args.place) c.load_ex_stamped-value.result.0 (part (memory_id s.mem.now) (memory_origin s.mem.now) s.thread new (one_read s.counts))) c.self.view_is
+    subst (λ (st : LoggingState). IsServedSharing st.sharing (ask.LoadEx c.args.place) c.load_ex_stamped-value.result.0 (part (memory_id s.mem.now) (memory_origin s.mem.now) s.thread new (one_read s.counts))) c.self.view_is
     (load_ex_served (memory_id s.mem.now) (memory_origin s.mem.now) s.thread (pass_seen s.pass) new s.counts c.args.place c.load_ex_stamped-value.result.0 (c.load_ex_stamped-value.ensures.seen s.thread c.self.invariant.1))
 
 pub returns-clause-log : goal.returns-clause-log

@@ -3,7 +3,7 @@ use Rattle.history.specs.Operation.{entries_of_operation, store}
 use Rattle.history.specs.declared.entry.Entry.TheVariants as entry
 use Rattle.version_memory.specs.Memory.{memory_id, memory_origin, pass_seen}
 use Rattle.llsc_base.specs.declared.outside.Ask.TheVariants as ask
-use Rattle.guest_thread.specs.inner.Sharing.{IsServed}
+use Rattle.guest_thread.specs.inner.Sharing.{IsServedSharing}
 use Rattle.guest_thread.proofs.Shared.{is_spent}
 use Rattle.run_merge.specs.inner.Logging.{IsLogged, LoggingState}
 use Rattle.run_merge.specs.Logs.{access_of}
@@ -29,7 +29,7 @@ returns-clause-served g c =
     let s = c.self.inside in
     let new = pass_seen c.store_stamped.new.pass in (
       refl,
-      subst (λ (st : LoggingState). IsServed st.sharing (ask.Store c.args.place c.args.value) 0 (part (memory_id s.mem.now) (memory_origin s.mem.now) s.thread new (one_write s.counts))) c.self.view_is
+      subst (λ (st : LoggingState). IsServedSharing st.sharing (ask.Store c.args.place c.args.value) 0 (part (memory_id s.mem.now) (memory_origin s.mem.now) s.thread new (one_write s.counts))) c.self.view_is
           (store_served (memory_id s.mem.now) (memory_origin s.mem.now) s.thread (pass_seen s.pass) new s.counts c.args.place c.args.value (c.in-Ok.ensures.done s.thread c.self.invariant.1)),
     )
 

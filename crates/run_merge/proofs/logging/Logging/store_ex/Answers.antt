@@ -3,7 +3,7 @@ use Rattle.history.specs.Operation.{entries_of_operation, fail, store}
 use Rattle.history.specs.declared.entry.Entry.TheVariants as entry
 use Rattle.version_memory.specs.Memory.{memory_id, memory_origin, pass_seen}
 use Rattle.llsc_base.specs.declared.outside.Ask.TheVariants as ask
-use Rattle.guest_thread.specs.inner.Sharing.{IsServed}
+use Rattle.guest_thread.specs.inner.Sharing.{IsServedSharing}
 use Rattle.run_merge.specs.inner.Logging.{IsLogged, LoggingState}
 use Rattle.run_merge.specs.Logs.{access_of}
 use Rattle.run_merge.proofs.Grown.{grown_by_plain, grown_by_stamped, logged_on, made}
@@ -14,7 +14,7 @@ pub returns-in_default-clause-served : goal.returns-in_default-clause-served
 returns-in_default-clause-served g c =
     let s = c.self.inside in
     let new = pass_seen c.store_ex_stamped.new.pass in
-    subst (λ (st : LoggingState). IsServed st.sharing (ask.StoreEx c.args.place c.args.value) 1 (part (memory_id s.mem.now) (memory_origin s.mem.now) s.thread new (one_fail s.counts))) c.self.view_is
+    subst (λ (st : LoggingState). IsServedSharing st.sharing (ask.StoreEx c.args.place c.args.value) 1 (part (memory_id s.mem.now) (memory_origin s.mem.now) s.thread new (one_fail s.counts))) c.self.view_is
     (fail_served (memory_id s.mem.now) (memory_origin s.mem.now) s.thread (pass_seen s.pass) new s.counts c.args.place c.args.value (c.in_default.ensures.failed refl s.thread c.self.invariant.1).0 (c.in_default.ensures.failed refl s.thread c.self.invariant.1).1)
 
 pub returns-in_default-clause-log : goal.returns-in_default-clause-log
@@ -33,7 +33,7 @@ pub returns-clause-served : goal.returns-clause-served
 returns-clause-served g c =
     let s = c.self.inside in
     let new = pass_seen c.store_ex_stamped.new.pass in
-    subst (λ (st : LoggingState). IsServed st.sharing (ask.StoreEx c.args.place c.args.value) 0 (part (memory_id s.mem.now) (memory_origin s.mem.now) s.thread new (one_write s.counts))) c.self.view_is
+    subst (λ (st : LoggingState). IsServedSharing st.sharing (ask.StoreEx c.args.place c.args.value) 0 (part (memory_id s.mem.now) (memory_origin s.mem.now) s.thread new (one_write s.counts))) c.self.view_is
     (store_ex_served (memory_id s.mem.now) (memory_origin s.mem.now) s.thread (pass_seen s.pass) new s.counts c.args.place c.args.value (c.in-Some.ensures.done s.thread c.self.invariant.1))
 
 pub returns-clause-log : goal.returns-clause-log

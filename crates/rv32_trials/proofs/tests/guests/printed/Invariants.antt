@@ -1,6 +1,6 @@
-use Rattle.guest_core.specs.Machine.{IsReady}
+use Rattle.guest_core.specs.Machine.{AwaitsNothing}
 use Rattle.rv32_trials.proofs.tests.guests.printed.Given as goal
 
 -- neither a reply nor an answer is awaited where the core goes on
 abbrev pub invariant-loop : goal.invariant-loop
-invariant-loop l = IsReady l.cpu.phase
+invariant-loop l = AwaitsNothing l.cpu.phase
