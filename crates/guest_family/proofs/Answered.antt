@@ -15,7 +15,7 @@ use Rattle.guest_calls.specs.Run.{PointOf}
 use Rattle.guest_thread.specs.Begun.{stock_of}
 use Rattle.guest_thread.specs.StockRun.{Stock, Comes, starts_one, bad_entry, start_answer, start_point, starts_after}
 use Rattle.guest_family.specs.inner.Next.{HasNoneLeft, after_answer, refusal_of}
-use Rattle.guest_family.specs.inner.UnderWay.{HasCalled, IsUnderWay}
+use Rattle.guest_family.specs.inner.UnderWay.{HasCalled, IsPartUnderWay}
 use Rattle.guest_thread.specs.declared.pieces.Part.{Part}
 use Rattle.a32_instr.specs.declared.instructions.Instr.{Instr}
 use Rattle.a32_instr.specs.State.{State}
@@ -54,7 +54,7 @@ module _ {P : Type 0} (home : P → TableId) (numbers : P → ℕ → Bool) (see
   refused : (stock : Stock) (value : ℕ) → stock_of origin.first origin.spare t ≡ Some stock
       → start_answer stock (length (starts_in t (seen part.pass))) called.call ≡ value
       → starts_after stock (length (pairs_of t (seen part.pass))) (starts_in t (seen part.pass)) called.call ≡ starts_in t (seen part.pass)
-      → IsUnderWay home numbers seen mem origin program budget t start (after_answer part value)
+      → IsPartUnderWay home numbers seen mem origin program budget t start (after_answer part value)
   refused stock value is answer same =
       let all = stock_of origin.first origin.spare t in
       let pairs = pairs_of t (seen part.pass) in
@@ -78,7 +78,7 @@ module _ {P : Type 0} (home : P → TableId) (numbers : P → ℕ → Bool) (see
       }
 
   -- since its address is none of a word
-  pub refused_by_entry : entry % 4 ≢ 0 → IsUnderWay home numbers seen mem origin program budget t start (after_answer part bad_entry)
+  pub refused_by_entry : entry % 4 ≢ 0 → IsPartUnderWay home numbers seen mem origin program budget t start (after_answer part bad_entry)
   refused_by_entry odd =
       let stock = some_of (stock_of origin.first origin.spare t) called.stocked in
       let off : called.call.a % 4 ≢ 0 = subst (λ (n : ℕ). n % 4 ≢ 0) called.entry_is odd in
@@ -87,7 +87,7 @@ module _ {P : Type 0} (home : P → TableId) (numbers : P → ℕ → Bool) (see
 
   -- since the thread has no number left
   pub refused_by_stock : HasNoneLeft (stock_of origin.first origin.spare t) (starts_in t (seen part.pass))
-      → IsUnderWay home numbers seen mem origin program budget t start (after_answer part (refusal_of entry))
+      → IsPartUnderWay home numbers seen mem origin program budget t start (after_answer part (refusal_of entry))
   refused_by_stock none =
       let stock = some_of (stock_of origin.first origin.spare t) called.stocked in
       let least : stock.0.count ≤ length (starts_in t (seen part.pass)) = subst (λ (s : Option Stock). HasNoneLeft s (starts_in t (seen part.pass))) stock.1 none in

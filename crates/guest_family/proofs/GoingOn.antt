@@ -19,7 +19,7 @@ use Rattle.guest_thread.proofs.FewAccesses.{counted_within}
 use Rattle.guest_family.specs.inner.Next.{after_answer}
 use Rattle.guest_thread.specs.Pieces.{IsPiece}
 use Rattle.guest_thread.specs.inner.Pieces.{point_of}
-use Rattle.guest_family.specs.inner.UnderWay.{HasCalled, HasEnded, IsUnderWay}
+use Rattle.guest_family.specs.inner.UnderWay.{HasCalled, HasReachedEnd, IsPartUnderWay}
 use Rattle.guest_thread.specs.declared.pieces.Part.{Part}
 use Rattle.guest_thread.specs.declared.pieces.Paused.TheVariants.{Ended, Start, Pause}
 use Rattle.a32_instr.specs.declared.instructions.Instr.{Instr}
@@ -35,11 +35,11 @@ has_stock first zero t = refl
 has_stock first (suc spare) t = grind arith
 
 module _ {P : Type 0} (home : P → TableId) (numbers : P → ℕ → Bool) (seen : P → List Entry) (mem : TableId) (origin : Origin) (program : Program) (budget t : ℕ)
-    (start : Machine) (part : Part P Machine) (goes : IsUnderWay home numbers seen mem origin program budget t start part) where
+    (start : Machine) (part : Part P Machine) (goes : IsPartUnderWay home numbers seen mem origin program budget t start part) where
   -- to its end
   pub to_end : (done : Finished P) → budget ≤ most_budget
       → IsPiece a32 (λ m. m) home numbers seen mem origin program (is_some (stock_of origin.first origin.spare t)) budget budget t part (Ended done)
-      → HasEnded home numbers seen mem origin program budget t start part.pass done
+      → HasReachedEnd home numbers seen mem origin program budget t start part.pass done
   to_end done small is =
       let stock = stock_of origin.first origin.spare t in
       let run : IsStockRun a32 stock program budget start (pairs_of t (seen done.pass)) (starts_in t (seen done.pass)) done.end.stop done.end.steps done.end.out =
@@ -117,11 +117,11 @@ module _ {P : Type 0} (home : P → TableId) (numbers : P → ℕ → Bool) (see
   -- by calls that were refused a thread has gone on, and has started none
   abbrev pub HasGone : TableId → Origin → Program → (budget t : ℕ) → Machine → (first now : Part P Machine) → Type 0
   HasGone mem origin program budget t start first now =
-      IsUnderWay home numbers seen mem origin program budget t start now × IsFront (seen first.pass) (seen now.pass)
+      IsPartUnderWay home numbers seen mem origin program budget t start now × IsFront (seen first.pass) (seen now.pass)
       × (starts_in t (seen now.pass) ≡ starts_in t (seen first.pass)) × (first.steps ≤ now.steps)
 
   abbrev pub HasGoneOn : TableId → Origin → Program → (budget : ℕ) → (first now : Part P Machine) → Type 0
-  HasGoneOn mem origin program budget first now = (t : ℕ) (start : Machine) → IsUnderWay home numbers seen mem origin program budget t start first
+  HasGoneOn mem origin program budget first now = (t : ℕ) (start : Machine) → IsPartUnderWay home numbers seen mem origin program budget t start first
       → HasGone mem origin program budget t start first now
 
   pub gone_none : (mem : TableId) (origin : Origin) (program : Program) (budget : ℕ) (first : Part P Machine) → HasGoneOn mem origin program budget first first
@@ -130,7 +130,7 @@ module _ {P : Type 0} (home : P → TableId) (numbers : P → ℕ → Bool) (see
   pub gone_more : (mem : TableId) (origin : Origin) (program : Program) (budget t : ℕ) (start : Machine) (first now called : Part P Machine) (entry arg value : ℕ)
       → HasGone mem origin program budget t start first now
       → HasCalled home numbers seen mem origin program budget t start now.pass called entry arg × (now.steps ≤ called.steps)
-      → IsUnderWay home numbers seen mem origin program budget t start (after_answer called value)
+      → IsPartUnderWay home numbers seen mem origin program budget t start (after_answer called value)
       → HasGone mem origin program budget t start first (after_answer called value)
   gone_more mem origin program budget t start first now called entry arg value gone is goes =
       let before = gone.3 in
@@ -140,7 +140,7 @@ module _ {P : Type 0} (home : P → TableId) (numbers : P → ℕ → Bool) (see
   -- and has come to its end, or to a call
   pub gone_to_end : (mem : TableId) (origin : Origin) (program : Program) (budget t : ℕ) (start : Machine) (first now : Part P Machine) (done : Finished P)
       → IsFront (seen first.pass) (seen now.pass) → starts_in t (seen now.pass) ≡ starts_in t (seen first.pass)
-      → HasEnded home numbers seen mem origin program budget t start now.pass done → HasEnded home numbers seen mem origin program budget t start first.pass done
+      → HasReachedEnd home numbers seen mem origin program budget t start now.pass done → HasReachedEnd home numbers seen mem origin program budget t start first.pass done
   gone_to_end mem origin program budget t start first now done front same is = record {
     memory = is.memory;
     single = is.single;

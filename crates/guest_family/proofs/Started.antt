@@ -24,7 +24,7 @@ use Rattle.guest_thread.specs.Begun.{stock_of}
 use Rattle.guest_thread.specs.Counts.{reads_in, writes_in, fails_in}
 use Rattle.guest_thread.specs.StockRun.{Stock, Comes, starts_one, start_answer, start_point, starts_after}
 use Rattle.guest_family.specs.inner.Next.{after_answer}
-use Rattle.guest_family.specs.inner.UnderWay.{HasCalled, IsUnderWay}
+use Rattle.guest_family.specs.inner.UnderWay.{HasCalled, IsPartUnderWay}
 use Rattle.guest_thread.specs.declared.pieces.Part.{Part}
 use Rattle.a32_instr.specs.declared.instructions.Instr.{Instr}
 use Rattle.a32_instr.specs.State.{State}
@@ -79,7 +79,7 @@ module _ {P : Type 0} (home : P → TableId) (numbers : P → ℕ → Bool) (see
       → child ≡ child_of origin.first origin.spare t (starts_of t (seen part.pass))
       → Sees origin t (seen part.pass) (Start t child entry arg ∷ []) (seen new)
       → home new ≡ home part.pass → numbers new ≡ numbers part.pass
-      → IsUnderWay home numbers seen mem origin program budget t start (after_answer (record part { pass = new }) child)
+      → IsPartUnderWay home numbers seen mem origin program budget t start (after_answer (record part { pass = new }) child)
   started_on child new below word few is sees same_home same_numbers =
       let all = stock_of origin.first origin.spare t in
       let stock = own_stock origin.first origin.spare t in

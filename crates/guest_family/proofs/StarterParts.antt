@@ -30,7 +30,7 @@ use Rattle.guest_thread.specs.declared.running.Finished.{Finished}
 use Rattle.guest_family.specs.inner.EndedStarters.{AreChildren, HasBranched, HasEndedWithAll, IsLater, IsStarterPart, next_start}
 use Rattle.guest_family.specs.Kin.{AreSpares, IsStarter, IsSpare, own_numbers, spares_of}
 use Rattle.guest_family.specs.inner.Next.{HasNoneLeft}
-use Rattle.guest_family.specs.inner.UnderWay.{HasCalled, HasEnded, IsEndFrom, IsUnderWay}
+use Rattle.guest_family.specs.inner.UnderWay.{HasCalled, HasReachedEnd, IsEndFrom, IsPartUnderWay}
 use Rattle.guest_family.specs.declared.kin.Spare.{Spare}
 use Rattle.guest_family.specs.declared.kin.Starter.{Starter}
 use Rattle.guest_family.specs.declared.starters.StarterEnd.{StarterEnd}
@@ -64,7 +64,7 @@ head_has_none first (suc spare) t starts all = elim (cases_Bool (nat_lt t first)
 module _ {P : Type 0} (home : P → TableId) (numbers : P → ℕ → Bool) (seen : P → List Entry) (mem : TableId) (origin : Origin) (program : Program) (budget t : ℕ) where
   pub begins_under : (start : Machine) (pass : P) → home pass ≡ mem → IsSingle t (numbers pass) → MayAct origin.first t (seen pass) → entries_of t (seen pass) ≡ []
       → start ≡ between start.state
-      → IsUnderWay home numbers seen mem origin program budget t start (record { cpu = start; pass = pass; out = []; steps = 0; reads = 0; writes = 0; fails = 0 })
+      → IsPartUnderWay home numbers seen mem origin program budget t start (record { cpu = start; pass = pass; out = []; steps = 0; reads = 0; writes = 0; fails = 0 })
   begins_under start pass memory single acts none rests =
       let stock = stock_of origin.first origin.spare t in
       let pairs : pairs_of t (seen pass) ≡ [] = ap (λ (l : List Entry). map pair_of (accesses_of l)) none in
@@ -89,19 +89,19 @@ module _ {P : Type 0} (home : P → TableId) (numbers : P → ℕ → Bool) (see
   pub under_at_start : (start : Machine) (part : Part P Machine) (cpu : Machine) (pass : P) (out : List ℕ)
       → part ≡ record { cpu = cpu; pass = pass; out = out; steps = 0; reads = 0; writes = 0; fails = 0 } → cpu ≡ start → out ≡ []
       → home pass ≡ mem → IsSingle t (numbers pass) → MayAct origin.first t (seen pass) → entries_of t (seen pass) ≡ [] → start ≡ between start.state
-      → IsUnderWay home numbers seen mem origin program budget t start part
+      → IsPartUnderWay home numbers seen mem origin program budget t start part
   under_at_start start part cpu pass out is at empty memory single acts none rests =
       let first : part ≡ record { cpu = start; pass = pass; out = []; steps = 0; reads = 0; writes = 0; fails = 0 } = is
       ∙ ap (λ (m : Machine). record { cpu = m; pass = pass; out = out; steps = 0; reads = 0; writes = 0; fails = 0 }) at
       ∙ ap (λ (o : List ℕ). record { cpu = start; pass = pass; out = o; steps = 0; reads = 0; writes = 0; fails = 0 }) empty in
-      subst (IsUnderWay home numbers seen mem origin program budget t start) (sym first) (begins_under start pass memory single acts none rests)
+      subst (IsPartUnderWay home numbers seen mem origin program budget t start) (sym first) (begins_under start pass memory single acts none rests)
 
   -- one that was started, once it has come in
   pub child_begins : (start : Machine) (part : Part P Machine) (cpu : Machine) (old pass : P) (out : List ℕ)
       → part ≡ record { cpu = cpu; pass = pass; out = out; steps = 0; reads = 0; writes = 0; fails = 0 } → cpu ≡ start → out ≡ []
       → home old ≡ mem → IsSingle t (numbers old) → entries_of t (seen old) ≡ [] → start ≡ between start.state
       → home pass ≡ home old → numbers pass ≡ numbers old → is_started t (seen pass) ≡ true → Sees origin t (seen old) [] (seen pass)
-      → IsUnderWay home numbers seen mem origin program budget t start part
+      → IsPartUnderWay home numbers seen mem origin program budget t start part
   child_begins start part cpu old pass out is at empty memory single none rests home_stays numbers_stay started sees =
       under_at_start start part cpu pass out is at empty (home_stays ∙ memory) (subst (IsSingle t) (sym numbers_stay) single) (inr started)
       (none_later origin t (seen old) (seen pass) none sees) rests
@@ -147,7 +147,7 @@ module _ {P : Type 0} (home : P → TableId) (numbers : P → ℕ → Bool) (see
   -- ---- to its end
 
   pub ended_alone : (starter : StarterPart P) (done : Finished P) (ended : StarterEnd P) → IsStarterPart home numbers seen mem origin program budget t starter
-      → HasEnded home numbers seen mem origin program budget t (thread_start a32 program origin.size origin.first t) starter.part.pass done
+      → HasReachedEnd home numbers seen mem origin program budget t (thread_start a32 program origin.size origin.first t) starter.part.pass done
       → IsLater home numbers seen done.pass ended.ran.pass → AreTaken (numbers ended.ran.pass) (spares_of starter.spares.items)
       → ended.ran.ends ≡ starter.ends → ended.end ≡ done.end
       → HasEndedWithAll home numbers seen mem origin program budget t (starts_in t (seen starter.part.pass)) (spares_of starter.spares.items) ended
@@ -230,7 +230,7 @@ module _ {P : Type 0} (home : P → TableId) (numbers : P → ℕ → Bool) (see
         omega (arith, longer, before, after, same)
 
     pub part_left : IsStarterPart home numbers seen mem origin program budget t old
-        → IsUnderWay home numbers seen mem origin program budget t (thread_start a32 program origin.size origin.first t) new.part
+        → IsPartUnderWay home numbers seen mem origin program budget t (thread_start a32 program origin.size origin.first t) new.part
         → new.code.program ≡ program → new.ends ≡ old.ends → vec_len old.spares ≡ vec_len new.spares + 1
         → IsStarterPart home numbers seen mem origin program budget t new
     part_left is goes code ends longer =
@@ -252,7 +252,7 @@ module _ {P : Type 0} (home : P → TableId) (numbers : P → ℕ → Bool) (see
         }
 
     pub branched : IsStarterPart home numbers seen mem origin program budget t old
-        → IsUnderWay home numbers seen mem origin program budget t (thread_start a32 program origin.size origin.first t) new.part
+        → IsPartUnderWay home numbers seen mem origin program budget t (thread_start a32 program origin.size origin.first t) new.part
         → new.code.program ≡ program → new.ends ≡ old.ends → vec_len old.spares ≡ vec_len new.spares + 1 → old.spares.items ≡ spare ∷ new.spares.items
         → IsFront (seen called.pass) (seen new.part.pass)
         → HasBranched home numbers seen mem origin program budget t old new spare entry arg

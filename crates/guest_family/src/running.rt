@@ -7,7 +7,7 @@ ghost use Rattle.a32_step.specs.Machine.{Machine};
 ghost use Rattle.guest_core.specs.Machine.{IsCalling};
 ghost use Rattle.guest_thread.specs.Begun.{stock_of};
 ghost use Rattle.guest_family.specs.inner.Next.{HasNoneLeft, IsAligned, IsNext, after_answer, refusal_of};
-ghost use Rattle.guest_family.specs.inner.UnderWay.{HasEnded, IsUnderWay};
+ghost use Rattle.guest_family.specs.inner.UnderWay.{HasReachedEnd, IsPartUnderWay};
 
 use crate::pieces::go_on;
 use a32_step::{Conditional, Cpu};
@@ -44,9 +44,9 @@ pub(crate) fn to_next<M: StartMemory, R: Wait>(
 ) -> Next<M::Pass>
     requires whole { length code.old.program.bytes ≡ (M.origin mem.now).size.mem }
     requires budget { budget ≤ most_budget }
-    requires goes { (t : ℕ) × (start : Machine) × IsUnderWay M.home M.numbers M.seen (M.id mem.now) (M.origin mem.now) code.old.program budget t start part }
+    requires goes { (t : ℕ) × (start : Machine) × IsPartUnderWay M.home M.numbers M.seen (M.id mem.now) (M.origin mem.now) code.old.program budget t start part }
     ensures program { code.new.program ≡ code.old.program }
-    ensures next { (t : ℕ) (start : Machine) → IsUnderWay M.home M.numbers M.seen (M.id mem.now) (M.origin mem.now) code.old.program budget t start part
+    ensures next { (t : ℕ) (start : Machine) → IsPartUnderWay M.home M.numbers M.seen (M.id mem.now) (M.origin mem.now) code.old.program budget t start part
         → IsNext M.home M.numbers M.seen (M.id mem.now) (M.origin mem.now) code.old.program budget t start part.pass part.steps result }
 {
     match go_on(rt, mem, code, part, budget, budget, mem.spare() > 0) {
@@ -87,10 +87,10 @@ pub(crate) fn run_out<M: StartMemory, R: Wait>(
 ) -> Finished<M::Pass>
     requires whole { length code.old.program.bytes ≡ (M.origin mem.now).size.mem }
     requires budget { budget ≤ most_budget }
-    requires goes { (t : ℕ) × (start : Machine) × IsUnderWay M.home M.numbers M.seen (M.id mem.now) (M.origin mem.now) code.old.program budget t start part }
+    requires goes { (t : ℕ) × (start : Machine) × IsPartUnderWay M.home M.numbers M.seen (M.id mem.now) (M.origin mem.now) code.old.program budget t start part }
     requires none { (t : ℕ) → IsSingle t (M.numbers part.pass) → HasNoneLeft (stock_of (M.origin mem.now).first (M.origin mem.now).spare t) (starts_in t (M.seen part.pass)) }
-    ensures ended { (t : ℕ) (start : Machine) → IsUnderWay M.home M.numbers M.seen (M.id mem.now) (M.origin mem.now) code.old.program budget t start part
-        → HasEnded M.home M.numbers M.seen (M.id mem.now) (M.origin mem.now) code.old.program budget t start part.pass result }
+    ensures ended { (t : ℕ) (start : Machine) → IsPartUnderWay M.home M.numbers M.seen (M.id mem.now) (M.origin mem.now) code.old.program budget t start part
+        → HasReachedEnd M.home M.numbers M.seen (M.id mem.now) (M.origin mem.now) code.old.program budget t start part.pass result }
 {
     'calls: loop {
         match to_next(rt, mem, code, part, budget) {
@@ -115,9 +115,9 @@ pub(crate) fn to_start<M: StartMemory, R: Wait>(
 ) -> Next<M::Pass>
     requires whole { length code.old.program.bytes ≡ (M.origin mem.now).size.mem }
     requires budget { budget ≤ most_budget }
-    requires goes { (t : ℕ) × (start : Machine) × IsUnderWay M.home M.numbers M.seen (M.id mem.now) (M.origin mem.now) code.old.program budget t start part }
+    requires goes { (t : ℕ) × (start : Machine) × IsPartUnderWay M.home M.numbers M.seen (M.id mem.now) (M.origin mem.now) code.old.program budget t start part }
     ensures program { code.new.program ≡ code.old.program }
-    ensures next { (t : ℕ) (start : Machine) → IsUnderWay M.home M.numbers M.seen (M.id mem.now) (M.origin mem.now) code.old.program budget t start part
+    ensures next { (t : ℕ) (start : Machine) → IsPartUnderWay M.home M.numbers M.seen (M.id mem.now) (M.origin mem.now) code.old.program budget t start part
         → IsNext M.home M.numbers M.seen (M.id mem.now) (M.origin mem.now) code.old.program budget t start part.pass part.steps result }
     ensures aligned { IsAligned result }
 {

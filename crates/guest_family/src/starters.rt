@@ -10,9 +10,9 @@ ghost use Rattle.a32_step.specs.Machine.{Machine, a32};
 ghost use Rattle.guest_core.specs.Machine.{IsCalling};
 ghost use Rattle.guest_thread.specs.Begun.{child_start};
 ghost use Rattle.guest_thread.specs.inner.Crews.{AreTaken};
-ghost use Rattle.guest_family.specs.inner.EndedStarters.{IfEnded, IfStarts, IsLater, IsStarterPart, LeavesRoom, RunsTo, next_start, ComesTo};
+ghost use Rattle.guest_family.specs.inner.EndedStarters.{IfEnded, IfStarts, IsLater, IsStarterPart, LeavesRoom, RunsTo, next_start, ComesToBranch};
 ghost use Rattle.guest_family.specs.Kin.{AreSpares, IsSpare, spares_of};
-ghost use Rattle.guest_family.specs.inner.UnderWay.{HasCalled, IsEndFrom, IsUnderWay};
+ghost use Rattle.guest_family.specs.inner.UnderWay.{HasCalled, IsEndFrom, IsPartUnderWay};
 ghost use denote.Param.Send.{IsSync, IsSend};
 
 use crate::kin::Spare;
@@ -64,7 +64,7 @@ fn come_in<M: StartMemory, R: Wait>(
     requires number { ((M.origin mem.now).first ≤ thread) × (thread < (M.origin mem.now).size.threads) }
     requires aligned { entry % 4 ≡ 0 }
     ensures { (program : Program) (budget : ℕ) →
-        IsUnderWay M.home M.numbers M.seen (M.id mem.now) (M.origin mem.now) program budget thread (child_start a32 (M.origin mem.now).size thread entry arg) result }
+        IsPartUnderWay M.home M.numbers M.seen (M.id mem.now) (M.origin mem.now) program budget thread (child_start a32 (M.origin mem.now).size thread entry arg) result }
 {
     mem.enter(rt, &mut pass);
     let cpu = child_cpu(&mem.size(), thread, entry, arg);
@@ -143,7 +143,7 @@ fn started<M: StartMemory>(
     requires few { part.steps < 2 ^ 63 }
     ensures goes { (program : Program) (budget t : ℕ) (start : Machine) (old : M.Pass) → t < (M.origin mem.now).first → starts_of t (M.seen part.pass) < (M.origin mem.now).spare
         → entry % 4 ≡ 0 → HasCalled M.home M.numbers M.seen (M.id mem.now) (M.origin mem.now) program budget t start old part entry arg
-        → IsUnderWay M.home M.numbers M.seen (M.id mem.now) (M.origin mem.now) program budget t start result }
+        → IsPartUnderWay M.home M.numbers M.seen (M.id mem.now) (M.origin mem.now) program budget t start result }
     ensures starts { (t : ℕ) → IsSingle t (M.numbers part.pass) → starts_in t (M.seen result.pass) ≡ starts_in t (M.seen part.pass)
         ++ next_start (M.origin mem.now) t (M.seen part.pass) entry arg ∷ [] }
     ensures front { IsFront (M.seen part.pass) (M.seen result.pass) }
@@ -194,7 +194,7 @@ fn to_branch<'i, M: StartMemory, R: Wait>(
     requires starter { (t : ℕ) × IsStarterPart M.home M.numbers M.seen (M.id mem.now) (M.origin mem.now) image.now budget t starter }
     requires whole { length image.now.bytes ≡ (M.origin mem.now).size.mem }
     requires budget { budget ≤ most_budget }
-    ensures branches { ComesTo M.home M.numbers M.seen (M.id mem.now) (M.origin mem.now) image.now budget starter.entry result }
+    ensures branches { ComesToBranch M.home M.numbers M.seen (M.id mem.now) (M.origin mem.now) image.now budget starter.entry result }
     ensures goes { IfStarts result (λ rest spare entry arg. (t : ℕ) × IsStarterPart M.home M.numbers M.seen (M.id mem.now) (M.origin mem.now) image.now budget t rest) }
     ensures spare { IfStarts result (λ rest spare entry arg. IsSpare M.home M.numbers M.seen (M.id mem.now) image.now spare) }
     ensures number { IfStarts result (λ rest spare entry arg. ((M.origin mem.now).first ≤ spare.thread) × (spare.thread < (M.origin mem.now).size.threads)) }

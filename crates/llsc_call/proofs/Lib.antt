@@ -1,7 +1,7 @@
 pub mod Statuses
 pub mod Outcomes
 pub mod CheckAnswers
-pub mod Finished
+pub mod Closed
 pub mod RunAnswers
 pub mod RunMachine
 pub mod RecordAnswers

@@ -17,7 +17,7 @@ use Rattle.history.specs.declared.entry.Entry.{Entry}
 use Rattle.guest_thread.specs.Outcome.{HaveLeft, IsOutcome}
 use Rattle.guest_thread.specs.declared.ends.GuestEnd.{GuestEnd}
 use Rattle.a32_step.specs.Machine.{a32}
-use Rattle.llsc_call.specs.Beside.{Ran}
+use Rattle.llsc_call.specs.Beside.{HaveRun}
 use Rattle.llsc_call.specs.Versions.{KeepsVersions}
 use Rattle.llsc_report.specs.Summary.{counter_of, load_summary, summary_by}
 use Rattle.llsc_call.specs.Load.{AnswersLoad, CountsEveryRound, TellsLoad, guest_refusal, load_program, load_refusal, load_size, load_text}
@@ -73,32 +73,26 @@ guest_few threads rounds clean = by_range (is_threads threads && is_rounds round
 
 -- the summary, where all threads left with code 0
 pub loaded_all : (seed threads rounds budget : ℕ) (history : List Entry) (ends : List GuestEnd) (cells : List ℕ)
-    → guest_refusal threads rounds ≡ None → Ran a32 (load_program seed threads rounds) (load_size threads) budget history ends cells → status_of_all ends ≡ 0
+    → guest_refusal threads rounds ≡ None → HaveRun a32 (load_program seed threads rounds) (load_size threads) budget history ends cells → have_left ends ≡ true
     → TellsLoad (Some history) seed threads rounds budget 0 (summary_by seed threads rounds (counter_of cells))
-loaded_all seed threads rounds budget history ends cells clean ran none =
-    let left : have_left ends ≡ true = left-all (have_left ends) none in
+loaded_all seed threads rounds budget history ends cells clean ran left =
     let few = most threads rounds (guest_few threads rounds clean) in
     let holds = counters_hold seed rounds budget (load_size threads) history ends (lit≤ tt) few.0 few.1 ran.outcome (have_each ends left) in
     let same : summary_by seed threads rounds (counter_of cells) ≡ load_summary seed threads rounds =
     summary_named seed threads rounds (counter_of cells) (λ i known.
     counters_left seed threads rounds history cells ran.outcome.legal ran.left i known ∙ holds i known) in
-    (ends, (ran.outcome, (ran.versions, (sym none, same ∙ ap (λ b. if b then load_summary seed threads rounds else report_of budget ends) (sym left)))))
+    (ends, (ran.outcome, (ran.versions, (ap (λ b. if b then 0 else 1) (sym left), same ∙ ap (λ b. if b then load_summary seed threads rounds else report_of budget ends) (sym left)))))
 
 -- the report, where one didn't
-not-left : (b : Bool) → (◌≡◌ {A = ℕ} (if b then 0 else 1) 0 → ⊥) → b ≡ false
-not-left true some = absurd (some refl)
-not-left false some = refl
-
 pub loaded_some : (seed threads rounds budget : ℕ) (history : List Entry) (ends : List GuestEnd) (cells : List ℕ)
-    → Ran a32 (load_program seed threads rounds) (load_size threads) budget history ends cells → (status_of_all ends ≡ 0 → ⊥)
+    → HaveRun a32 (load_program seed threads rounds) (load_size threads) budget history ends cells → have_left ends ≡ false
     → TellsLoad (Some history) seed threads rounds budget (status_of_all ends) (report_of budget ends)
-loaded_some seed threads rounds budget history ends cells ran some =
-    let none : have_left ends ≡ false = not-left (have_left ends) some in
+loaded_some seed threads rounds budget history ends cells ran none =
     (ends, (ran.outcome, (ran.versions, (refl, ap (λ b. if b then load_summary seed threads rounds else report_of budget ends) (sym none)))))
 
 -- there are cells where the counters stand
 pub rows_enough : (seed threads rounds budget : ℕ) (history : List Entry) (ends : List GuestEnd) (cells : List ℕ)
-    → Ran a32 (load_program seed threads rounds) (load_size threads) budget history ends cells → 2000 ≤ length cells
+    → HaveRun a32 (load_program seed threads rounds) (load_size threads) budget history ends cells → 2000 ≤ length cells
 rows_enough seed threads rounds budget history ends cells ran = omega (arith, ran.left.count)
 
 -- ---- the answer

@@ -14,12 +14,12 @@ use Rattle.llsc_files.specs.declared.refusals.Refusal.TheVariants as refusal
 use Rattle.llsc_files.specs.Refusals.{Answer, Is, unless, IsRefusal, Unless}
 use Rattle.llsc_files.specs.Programs.{image_of, program_refusal, program_refusal_as, IsLoaded, IsLoadedAs}
 use Rattle.llsc_texts.specs.Assembly.{IsGiven}
-use Rattle.llsc_call.specs.inner.Outcome.{Gives, GivesBy, IsOneOf, refused_by}
+use Rattle.llsc_call.specs.inner.Outcome.{Gives, GivesBy, IsOneAnswer, refused_by}
 use Rattle.llsc_call.specs.Run.{told, UnlessRun}
 use Rattle.llsc_call.specs.declared.outcome.Outcome.{Outcome}
 
 -- an outcome that is one of some answers is one of others, where those are among these
-pub one_as : {A B : ℕ → List ℕ → Type 0} (o : Outcome) → ((s : ℕ) (text : List ℕ) → A s text → B s text) → IsOneOf A o → IsOneOf B o
+pub one_as : {A B : ℕ → List ℕ → Type 0} (o : Outcome) → ((s : ℕ) (text : List ℕ) → A s text → B s text) → IsOneAnswer A o → IsOneAnswer B o
 one_as o also one = record { sayable = one.sayable; done = one.done; is = also _ _ one.is }
 
 pub gives_as : {A B : ℕ → List ℕ → Type 0} (o : Outcome) → ((s : ℕ) (text : List ℕ) → A s text → B s text) → Gives A o → Gives B o
@@ -36,7 +36,7 @@ pub gives_alone : (A : ℕ → List ℕ → Type 0) (B : Option (List Entry) →
     → ((s : ℕ) (text : List ℕ) → A s text → B None s text) → Gives A made → GivesBy B o story
 gives_alone A B made o story same none also (inl wanting) = inl (same ∙ wanting, none)
 gives_alone A B made o story same none also (inr one) =
-    inr (subst (λ t. IsOneOf (B (told t)) o) (sym none) (one_as o also (subst (IsOneOf A) (sym same) one)))
+    inr (subst (λ t. IsOneAnswer (B (told t)) o) (sym none) (one_as o also (subst (IsOneAnswer A) (sym same) one)))
 
 -- a refusal
 pub gives_refused : (A : ℕ → List ℕ → Type 0) (against : Option (List ℕ)) (o : Outcome) (r : Refusal) → o ≡ refused_by r → IsRefusal against r

@@ -22,7 +22,7 @@ use Rattle.run_merge.specs.declared.merges.MergeFault.TheVariants.{TooLong, Memo
 use Rattle.llsc_words.specs.declared.formats.Format.{Format}
 use Rattle.llsc_files.specs.Programs.{image_of, program_refusal}
 use Rattle.llsc_call.specs.inner.Merged.{Tells, TellsOf}
-use Rattle.llsc_call.specs.inner.Outcome.{IsOneOf, status_of, text_of}
+use Rattle.llsc_call.specs.inner.Outcome.{IsOneAnswer, status_of, text_of}
 use Rattle.llsc_call.specs.Record.{AnswersRecord, IsTooLongFor, PrintsMerge, RecordsRun}
 use Rattle.llsc_call.specs.Run.{UnlessRun}
 use Rattle.llsc_call.specs.Versions.{KeepsVersions}
@@ -43,7 +43,7 @@ pub recorded : (program : Program) (size : Numbers) (budget : ℕ) (history : Li
     → IsOutcome a32 program size budget history ends → KeepsVersions size history
     → IfOk merged (λ all. IsMerge size history all.items) → OnOk merged (length (accesses_of history) ≤ most_accesses)
     → IfErr merged (λ fault. fault ≡ TooLong → most_accesses < length (accesses_of history)) → TellsOf size budget ends merged outcome
-    → IsOneOf (RecordsRun (Some history) program size budget) outcome
+    → IsOneAnswer (RecordsRun (Some history) program size budget) outcome
 recorded program size budget history ends merged outcome is versions merge few long tells = record {
   sayable = tells.sayable;
   done = tells.done;
@@ -56,7 +56,7 @@ pub closed_record : (program : Program) (origin : Origin) (size : Numbers) (budg
     → IsLegalFrom origin seen → IsComplete seen → KeepsVersions origin.size seen → AreEndsOn a32 program origin.size budget seen ends
     → IfOk merged (λ all. IsMerge size seen all.items) → OnOk merged (length (accesses_of seen) ≤ most_accesses)
     → IfErr merged (λ fault. fault ≡ TooLong → most_accesses < length (accesses_of seen)) → TellsOf size budget ends merged outcome
-    → IsOneOf (RecordsRun (Some history) program origin.size budget) outcome
+    → IsOneAnswer (RecordsRun (Some history) program origin.size budget) outcome
 closed_record program origin size budget seen history ends merged outcome sized same begins all none legal complete versions are merge few long tells =
     let is : IsOutcome a32 program origin.size budget seen ends = record {
       legal = subst (λ b. IsLegal origin.size b seen) begins legal.legal;
@@ -64,7 +64,7 @@ closed_record program origin size budget seen history ends merged outcome sized 
       born = subst (λ n. AreBorn origin.size.threads n seen) none (subst (λ n. AreBorn n origin.spare seen) all legal.born);
       ends = are;
     } in
-    subst (λ h. IsOneOf (RecordsRun (Some h) program origin.size budget) outcome) (sym same)
+    subst (λ h. IsOneAnswer (RecordsRun (Some h) program origin.size budget) outcome) (sym same)
     (recorded program origin.size budget seen ends merged outcome is versions (subst (λ (n : Numbers). IfOk merged (λ all. IsMerge n seen all.items)) sized merge) few long
     (subst (λ (n : Numbers). TellsOf n budget ends merged outcome) sized tells))
 

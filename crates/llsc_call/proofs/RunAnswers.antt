@@ -8,7 +8,7 @@ use Rattle.guest_thread.specs.declared.ends.GuestEnd.{GuestEnd}
 use Rattle.llsc_words.specs.declared.formats.Format.{Format}
 use Rattle.llsc_words.specs.declared.sets.SetName.{SetName}
 use Rattle.llsc_words.specs.declared.sets.SetName.TheVariants.{A32, Rv32}
-use Rattle.llsc_call.specs.Beside.{Ran, RanFrom}
+use Rattle.llsc_call.specs.Beside.{HaveRun, HaveRunFrom}
 use Rattle.llsc_call.specs.Versions.{KeepsVersions}
 use Rattle.llsc_files.specs.Programs.{image_of, program_refusal_as}
 use Rattle.llsc_report.specs.Report.{report_of}
@@ -18,12 +18,12 @@ use Rattle.llsc_report.specs.Status.{status_of_all}
 -- ---- the report
 
 pub reported : (program : Program) (size : Numbers) (first spare budget : ℕ) (history : List Entry) (ends : List GuestEnd) (cells : List ℕ)
-    → RanFrom program size first spare budget history ends cells
+    → HaveRunFrom program size first spare budget history ends cells
     → IsReportOf A32 history program size first spare budget (status_of_all ends) (report_of budget ends)
 reported program size first spare budget history ends cells ran = (ends, (ran.outcome, (ran.versions, (refl, refl))))
 
 pub reported_rv : (program : Program) (size : Numbers) (first spare budget : ℕ) (history : List Entry) (ends : List GuestEnd) (cells : List ℕ)
-    → Ran rv32 program size budget history ends cells
+    → HaveRun rv32 program size budget history ends cells
     → IsReportOf Rv32 history program size first spare budget (status_of_all ends) (report_of budget ends)
 reported_rv program size first spare budget history ends cells ran = (ends, (ran.outcome, (ran.versions, (refl, refl))))
 

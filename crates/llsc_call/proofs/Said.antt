@@ -14,7 +14,7 @@ use Rattle.llsc_files.specs.declared.refusals.Refusal.{Refusal}
 use Rattle.llsc_call.specs.Answer.{Answers, AreFiles, AreTold, IsAnswer, IsCut, IsDue, IsNoneOf, ReadFailed}
 use Rattle.llsc_call.specs.inner.Comes.{Comes, IsUnread, refused, unread, wanting, answered}
 use Rattle.llsc_call.specs.inner.Files.{ReadFiles, barred}
-use Rattle.llsc_call.specs.inner.Outcome.{CanBeSaid, GivesBy, IsOneOf, Says, refused_by, status_of, text_of}
+use Rattle.llsc_call.specs.inner.Outcome.{CanBeSaid, GivesBy, IsOneAnswer, Says, refused_by, status_of, text_of}
 use Rattle.llsc_call.specs.Run.{told}
 use Rattle.llsc_call.specs.declared.outcome.Outcome.{Outcome}
 use Rattle.llsc_call.specs.declared.outcome.Outcome.TheVariants as outcome
@@ -91,7 +91,7 @@ failed_on host old mid new request kept failed =
 
 -- an answer of a request
 answer_of : (o : Outcome) (held : List ℕ → Option (List ℕ)) (request : Option Request) (story : Option VersionStory) (status : ℕ) → status ≡ status_of o
-    → IsOneOf (IsAnswer held request (told story)) o → IsDone status × IsAnswer held request (told story) status (text_of o)
+    → IsOneAnswer (IsAnswer held request (told story)) o → IsDone status × IsAnswer held request (told story) status (text_of o)
 answer_of o held request story status same one =
     (subst IsDone (sym same) one.done, subst (λ s. IsAnswer held request (told story) s (text_of o)) (sym same) one.is)
 

@@ -24,7 +24,7 @@ pub record AreCells (size : Numbers) (memory cells : List ℕ) : Type 0 where
   pub each : (i : ℕ) → i < length cells → slice_index cells i ≡ cell_at memory i
 
 -- the threads, of instructions of this set, ended so by a history of memory that is kept by versions, and it left these cells
-pub record Ran {I S : Type 0} (set : InstructionSet I S) (program : Program) (size : Numbers) (budget : ℕ) (history : List Entry) (ends : List GuestEnd) (cells : List ℕ) : Type 0 where
+pub record HaveRun {I S : Type 0} (set : InstructionSet I S) (program : Program) (size : Numbers) (budget : ℕ) (history : List Entry) (ends : List GuestEnd) (cells : List ℕ) : Type 0 where
   pub outcome : IsOutcome set program size budget history ends
   pub versions : KeepsVersions size history
   pub sums : HasSums ends
@@ -32,7 +32,7 @@ pub record Ran {I S : Type 0} (set : InstructionSet I S) (program : Program) (si
 
 -- so many threads began by themselves, each of which could start so many more; all that have begun ended so, by a history of memory
 -- that is kept by versions, and it left these cells
-pub record RanFrom (program : Program) (size : Numbers) (first spare budget : ℕ) (history : List Entry) (ends : List GuestEnd) (cells : List ℕ) : Type 0 where
+pub record HaveRunFrom (program : Program) (size : Numbers) (first spare budget : ℕ) (history : List Entry) (ends : List GuestEnd) (cells : List ℕ) : Type 0 where
   pub outcome : IsOutcomeFrom a32 program size first spare budget history ends
   pub versions : KeepsVersions size history
   pub sums : HasSums ends

@@ -1,7 +1,7 @@
 //! What a request is answered with, before anything is said of it.
 ghost use Rattle.std.specs.Prelude.{◌≡◌, None, Some};
 
-use crate::beside::Finished;
+use crate::beside::ClosedRun;
 use crate::outcome::Outcome;
 use version_memory::VersionStory;
 
@@ -16,7 +16,7 @@ pub struct Answer {
 
 impl Answer {
     /// Threads ran beside each other, each with so many steps at most.
-    pub fn of_threads(budget: u64, done: Finished<VersionStory>) -> Answer
+    pub fn of_threads(budget: u64, done: ClosedRun<VersionStory>) -> Answer
         ensures { result ≡ record { outcome = Outcome.Beside budget done.ends; story = Some done.story } }
     {
         Answer {

@@ -21,7 +21,7 @@ fn unread(alloc: Global, fault: ReadFault) -> Outcome
 {
     match fault {
         ReadFault::Failed => Outcome::Unread,
-        ReadFault::FileTooLong => Outcome::from(refuse(alloc, "FileTooLong")),
+        ReadFault::FileTooLong => Outcome::from(refuse(alloc, fault.name())),
         ReadFault::Memory => Outcome::NoMemory,
     }
 }

@@ -3,7 +3,7 @@ ghost use Rattle.std.specs.Prelude.{◌≡◌, ◌≤◌, ◌+◌, ◌*◌, ℕ,
 ghost use Rattle.llsc_base.specs.Limits.{most_budget};
 ghost use Rattle.version_memory.specs.Memory.{story_history};
 ghost use Rattle.a32_step.specs.Machine.{a32};
-ghost use Rattle.llsc_call.specs.Beside.{Ran as HasRun, RanFrom};
+ghost use Rattle.llsc_call.specs.Beside.{HaveRun, HaveRunFrom};
 
 use guest_core::Core;
 use guest_family::{prepare_family, run_family};
@@ -16,9 +16,9 @@ use std::sync::Wait;
 use std::thread::Threads;
 use version_memory::{VersionMemory, VersionStory};
 
-/// What threads have done that ran beside each other, once their memory is closed.
+/// A run whose memory is closed: what threads have done that ran beside each other.
 #[derive(Drop)]
-pub struct Finished<S> {
+pub struct ClosedRun<S> {
     /// How each thread ended that has begun, in order of number.
     pub ends: Vec<GuestEnd>,
     /// The cells of memory as it was left.
@@ -36,7 +36,7 @@ fn run_over<M: SharedMemory, C: Core, R: Threads + Wait + Sync>(
     pass: M::Pass,
     image: &Image,
     budget: u64,
-) -> Result<Finished<M::Story>, AllocError>
+) -> Result<ClosedRun<M::Story>, AllocError>
     requires made { M.home pass ≡ M.id memory }
     requires all { (t : ℕ) → M.numbers pass t ≡ nat_lt t (M.origin memory).size.threads }
     requires none { M.seen pass ≡ [] }
@@ -47,14 +47,14 @@ fn run_over<M: SharedMemory, C: Core, R: Threads + Wait + Sync>(
     requires steady { (M.origin memory).steady ≡ true }
     requires whole { length image.now.bytes ≡ (M.origin memory).size.mem }
     requires budget { budget ≤ most_budget }
-    ensures { IfOk result (λ done. HasRun C.set image.now (M.origin memory).size budget (M.history done.story) done.ends.items done.rows) }
+    ensures { IfOk result (λ done. HaveRun C.set image.now (M.origin memory).size budget (M.history done.story) done.ends.items done.rows) }
 {
     let crew: Crew<M::Pass, C, C::Ready> = prepare(alloc, &memory, image, pass)?;
     let threads = memory.size().threads();
     prove!(threads <= 16);
     let Ran { pass, ends } = run_all(rt, &memory, image, crew, budget);
     let (rows, story) = memory.close(pass);
-    Ok(Finished { ends, rows, story })
+    Ok(ClosedRun { ends, rows, story })
 }
 
 /// Runs an image's threads, of a core's instructions, beside each other on a machine, each up to its stop. All memory that this takes is taken before the
@@ -69,10 +69,10 @@ pub fn run_beside<C: Core, R: Threads + Wait + Sync>(
     size: &MachineSize,
     image: &Image,
     budget: u64,
-) -> Result<Finished<VersionStory>, AllocError>
+) -> Result<ClosedRun<VersionStory>, AllocError>
     requires whole { length image.now.bytes ≡ size.now.mem }
     requires budget { budget ≤ most_budget }
-    ensures { IfOk result (λ done. HasRun C.set image.now size.now budget (story_history done.story) done.ends.items done.rows) }
+    ensures { IfOk result (λ done. HaveRun C.set image.now size.now budget (story_history done.story) done.ends.items done.rows) }
 {
     let (memory, pass) = VersionMemory::new(alloc, image, size)?;
     run_over::<VersionMemory, C, R>(rt, alloc, memory, pass, image, budget)
@@ -89,7 +89,7 @@ fn pool_over<M: SharedMemory, R: Threads + Wait + Sync>(
     workers: u32,
     slice: u64,
     budget: u64,
-) -> Result<Finished<M::Story>, AllocError>
+) -> Result<ClosedRun<M::Story>, AllocError>
     requires made { M.home pass ≡ M.id memory }
     requires all { (t : ℕ) → M.numbers pass t ≡ nat_lt t (M.origin memory).size.threads }
     requires none { M.seen pass ≡ [] }
@@ -102,7 +102,7 @@ fn pool_over<M: SharedMemory, R: Threads + Wait + Sync>(
     requires workers { (1 ≤ workers) × (workers ≤ 4) }
     requires slice { 1 ≤ slice }
     requires budget { budget ≤ most_budget }
-    ensures { IfOk result (λ done. HasRun a32 image.now (M.origin memory).size budget (M.history done.story) done.ends.items done.rows) }
+    ensures { IfOk result (λ done. HaveRun a32 image.now (M.origin memory).size budget (M.history done.story) done.ends.items done.rows) }
 {
     let pool = pool_crew(alloc, &memory, image, pass, workers)?;
     let threads = memory.size().threads();
@@ -113,7 +113,7 @@ fn pool_over<M: SharedMemory, R: Threads + Wait + Sync>(
         turns: _,
     } = run_pool(rt, &memory, image, pool, slice, budget);
     let (rows, story) = memory.close(pass);
-    Ok(Finished { ends, rows, story })
+    Ok(ClosedRun { ends, rows, story })
 }
 
 /// Runs an image's threads on a machine, each up to its stop, on one to four workers beside each other: a worker runs a slice of one
@@ -131,12 +131,12 @@ pub fn run_pool_beside<R: Threads + Wait + Sync>(
     workers: u32,
     slice: u64,
     budget: u64,
-) -> Result<Finished<VersionStory>, AllocError>
+) -> Result<ClosedRun<VersionStory>, AllocError>
     requires whole { length image.now.bytes ≡ size.now.mem }
     requires workers { (1 ≤ workers) × (workers ≤ 4) }
     requires slice { 1 ≤ slice }
     requires budget { budget ≤ most_budget }
-    ensures { IfOk result (λ done. HasRun a32 image.now size.now budget (story_history done.story) done.ends.items done.rows) }
+    ensures { IfOk result (λ done. HaveRun a32 image.now size.now budget (story_history done.story) done.ends.items done.rows) }
 {
     let (memory, pass) = VersionMemory::new(alloc, image, size)?;
     pool_over(rt, alloc, memory, pass, image, workers, slice, budget)
@@ -151,7 +151,7 @@ fn family_over<M: StartMemory, R: Threads + Wait + Sync>(
     pass: M::Pass,
     image: &Image,
     budget: u64,
-) -> Result<Finished<M::Story>, AllocError>
+) -> Result<ClosedRun<M::Story>, AllocError>
     requires made { M.home pass ≡ M.id memory }
     requires all { (t : ℕ) → M.numbers pass t ≡ nat_lt t (M.origin memory).size.threads }
     requires none { M.seen pass ≡ [] }
@@ -160,14 +160,14 @@ fn family_over<M: StartMemory, R: Threads + Wait + Sync>(
     requires steady { (M.origin memory).steady ≡ true }
     requires whole { length image.now.bytes ≡ (M.origin memory).size.mem }
     requires budget { budget ≤ most_budget }
-    ensures { IfOk result (λ done. RanFrom image.now (M.origin memory).size (M.origin memory).first (M.origin memory).spare budget (M.history done.story) done.ends.items done.rows) }
+    ensures { IfOk result (λ done. HaveRunFrom image.now (M.origin memory).size (M.origin memory).first (M.origin memory).spare budget (M.history done.story) done.ends.items done.rows) }
 {
     let kin = prepare_family(alloc, &memory, image, pass)?;
     let threads = memory.size().threads();
     prove!(threads <= 16);
     let Ran { pass, ends } = run_family(rt, &memory, image, kin, budget);
     let (rows, story) = memory.close(pass);
-    Ok(Finished { ends, rows, story })
+    Ok(ClosedRun { ends, rows, story })
 }
 
 /// Runs an image's threads beside each other on a machine, each up to its stop: so many begin by themselves, and each of these may
@@ -185,12 +185,12 @@ pub fn run_family_beside<R: Threads + Wait + Sync>(
     first: u32,
     spare: u32,
     budget: u64,
-) -> Result<Finished<VersionStory>, AllocError>
+) -> Result<ClosedRun<VersionStory>, AllocError>
     requires whole { length image.now.bytes ≡ size.now.mem }
     requires some { 1 ≤ first }
     requires all { first * (1 + spare) ≡ size.now.threads }
     requires budget { budget ≤ most_budget }
-    ensures { IfOk result (λ done. RanFrom image.now size.now first spare budget (story_history done.story) done.ends.items done.rows) }
+    ensures { IfOk result (λ done. HaveRunFrom image.now size.now first spare budget (story_history done.story) done.ends.items done.rows) }
 {
     let (memory, pass) = VersionMemory::with_spare(alloc, image, size, first, spare)?;
     family_over(rt, alloc, memory, pass, image, budget)

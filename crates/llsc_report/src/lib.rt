@@ -12,5 +12,5 @@ pub mod worked;
 pub mod worked_statuses;
 
 pub use report::write_report;
-pub use statuses::{status, status_of_all};
+pub use statuses::{have_left, status, status_of_all};
 pub use summary::{total, write_summary};

@@ -17,7 +17,7 @@ pub fn status(stop: Stop) -> u8
 }
 
 /// Whether each thread left by an exit call with code 0.
-fn have_left(ends: &[GuestEnd]) -> bool
+pub fn have_left(ends: &[GuestEnd]) -> bool
     ensures { result ≡ have_left ends.now }
 {
     ends.iter().all(|end| status(end.stop) == 0)

@@ -4,7 +4,7 @@ use Rattle.llsc_base.specs.Images.{Program}
 use Rattle.llsc_base.specs.Sizes.{Numbers}
 use Rattle.history.specs.declared.entry.Access.{Access}
 use Rattle.run_checker.specs.Verdict.{IsRight, IsWrong, AreRight, Judges, good, wrong, unfinished}
-use Rattle.run_checker.specs.inner.Positions.{AreBrought, HaveEnded, SomeAsks}
+use Rattle.run_checker.specs.inner.Positions.{AreBrought, AllHaveEnded, SomeAsks}
 use Rattle.run_checker.specs.declared.checker.Checker.{Checker}
 use Rattle.run_checker.specs.declared.verdicts.Reason.{Reason}
 use Rattle.run_checker.specs.declared.verdicts.Reason.TheVariants.{Unfinished}
@@ -68,7 +68,7 @@ module _ {I S : Type 0} (set : InstructionSet I S) {C R : Type 0} (machine : C �
     -- every thread has stopped
     pub under_good : (checker : Checker C R) (index threads : ℕ) (rest : List Access) → rest ≡ [] → size.threads ≡ threads
         → IsUnder program size budget accesses checker index rest
-        → ((early : List Access) → AreBrought set machine program size budget early checker → HaveEnded set program size budget early threads)
+        → ((early : List Access) → AreBrought set machine program size budget early checker → AllHaveEnded set program size budget early threads)
         → Judges set program size budget accesses Good
     under_good checker index threads rest none all was step =
         let whole = all_early accesses was.early rest was.parts none in

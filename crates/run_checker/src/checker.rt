@@ -8,7 +8,7 @@ ghost use Rattle.guest_thread.specs.ThreadState.{IsReadyIn, thread_in};
 ghost use Rattle.run_record.specs.Limits.{IsAccess};
 ghost use Rattle.guest_thread.specs.Accesses.{monitor_of};
 ghost use Rattle.run_checker.specs.Verdict.{IsRight, IsWrong};
-ghost use Rattle.run_checker.specs.inner.Positions.{AreBrought, BringsOn, HaveEnded, IsBrought, MayGoOn, SomeAsks};
+ghost use Rattle.run_checker.specs.inner.Positions.{AreBrought, BringsOn, AllHaveEnded, IsBrought, MayGoOn, SomeAsks};
 
 use crate::asked::is_asked;
 use crate::serving::serve;
@@ -68,7 +68,7 @@ impl<C: Core> Checker<C> {
         ensures asks { OnTrue result ((size : Numbers) (early : List Access) → AreBrought C.set C.machine image.now size budget early self.old
             → SomeAsks C.set image.now size budget early (length self.old.guests.items)) }
         ensures stopped { OnFalse result ((size : Numbers) (early : List Access) → AreBrought C.set C.machine image.now size budget early self.old
-            → HaveEnded C.set image.now size budget early (length self.old.guests.items)) }
+            → AllHaveEnded C.set image.now size budget early (length self.old.guests.items)) }
     {
         for guest in self.guests.iter_mut() {
             if let Turn::Asks(_) = guest.next(image, budget) {

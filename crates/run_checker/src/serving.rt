@@ -3,7 +3,7 @@ ghost use Rattle.std.specs.Prelude.{◌≢◌, ◌≤◌, ◌+◌, IfSome, IfNon
 ghost use Rattle.llsc_base.specs.Memory.{size_bytes};
 ghost use Rattle.history.specs.Monitor.{IsAsLarge};
 ghost use Rattle.run_record.specs.Limits.{IsAccess};
-ghost use Rattle.run_checker.specs.inner.Serving.{IsRefused, IsMadeAsRecorded};
+ghost use Rattle.run_checker.specs.inner.Serving.{StandsAgainst, IsMadeAsRecorded};
 
 use crate::verdicts::Reason;
 use history::{Access, Deed, PlainMemory};
@@ -12,7 +12,7 @@ use history::{Access, Deed, PlainMemory};
 pub fn serve(memory: &mut PlainMemory, access: Access) -> Option<Reason>
     requires access { IsAccess (length memory.old.marks) access }
     requires inside { access.deed ≢ Deed.Clear → access.place.addr + size_bytes access.place.size ≤ length memory.old.memory }
-    ensures refused { IfSome result (λ reason. IsRefused memory.old access reason) }
+    ensures refused { IfSome result (λ reason. StandsAgainst memory.old access reason) }
     ensures served { IfNone result (IsMadeAsRecorded memory.old access memory.new) }
     ensures size { IsAsLarge memory.old memory.new }
 {

@@ -13,7 +13,7 @@ use Rattle.history.specs.declared.entry.Deed.TheVariants as deed
 use Rattle.history.specs.declared.entry.Entry.{Entry}
 use Rattle.run_merge.specs.Logs.{log_of, logged, stamped}
 use Rattle.run_merge.specs.inner.Tables.{AreApart}
-use Rattle.run_merge.specs.Taking.{AreKnown, IsUnderWay}
+use Rattle.run_merge.specs.Taking.{AreKnown, IsTakenSoFar}
 use Rattle.run_merge.proofs.Logged.{log_at, logged_no, logged_yes}
 use Rattle.run_merge.proofs.Parts.{filter_no, filter_yes}
 use Rattle.run_merge.proofs.Tables.{sum_less, sum_none}
@@ -72,7 +72,7 @@ pub all_accesses : (merged : List Access) → length (accesses_of (history_of me
 all_accesses [] = refl
 all_accesses (access ∷ merged) = ap length (filter_yes is_access (entry_of access) (history_of merged) (one_access access)) ∙ ap suc (all_accesses merged)
 
-pub no_more : (size : Numbers) (seen : List Entry) (merged : List Access) (base : List ℕ) → IsUnderWay size seen (history_of merged) → AreApart size seen base → AreKnown size.threads seen
+pub no_more : (size : Numbers) (seen : List Entry) (merged : List Access) (base : List ℕ) → IsTakenSoFar size seen (history_of merged) → AreApart size seen base → AreKnown size.threads seen
     → length merged ≤ length (accesses_of seen)
 no_more size seen merged base way apart known =
     let taken_known : AreKnown size.threads (history_of merged) = λ front e back is access.

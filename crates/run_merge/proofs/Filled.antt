@@ -22,7 +22,7 @@ use Rattle.run_merge.specs.Merge.{IsMerge}
 use Rattle.run_merge.specs.Runs.{KeepLogs}
 use Rattle.run_merge.specs.inner.Merging.{AreLogs, IsMerging, tables_of}
 use Rattle.run_merge.specs.inner.Tables.{AreApart, AreTables, class_at, is_read_at, spot, waiting}
-use Rattle.run_merge.specs.Taking.{AreKnown, IsUnderWay, row_at}
+use Rattle.run_merge.specs.Taking.{AreKnown, IsTakenSoFar, row_at}
 use Rattle.run_merge.specs.declared.merging.Merging.{Merging}
 use Rattle.run_merge.specs.declared.logs.Log.{Log}
 use Rattle.run_merge.specs.declared.logs.Stamped.{Stamped}
@@ -179,7 +179,7 @@ module _ (size : Numbers) (seen : List Entry) where
         } in
         record {
           form = subst (λ (l : List Access). l ≡ map access_of (history_of l)) (sym out) refl;
-          way = subst (λ (l : List Access). IsUnderWay size seen (history_of l)) (sym out) (none_taken size seen);
+          way = subst (λ (l : List Access). IsTakenSoFar size seen (history_of l)) (sym out) (none_taken size seen);
           tables = subst (λ (l : List Access). AreTables size seen (history_of l) (tables_of m)) (sym out) tables;
           apart = subst (AreApart size seen) (sym base) apart_of;
           room = record {

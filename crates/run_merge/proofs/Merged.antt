@@ -12,7 +12,7 @@ use Rattle.run_merge.proofs.Logged.{split_logged}
 use Rattle.run_merge.specs.inner.Merging.{AreLogs, IsMerging, tables_of}
 use Rattle.run_merge.specs.declared.logs.Log.{Log}
 use Rattle.run_merge.specs.inner.Tables.{AreApart, AreTables, Tables, after_taking, class_at, is_open, is_read_at, spot}
-use Rattle.run_merge.specs.Taking.{IsUnderWay, MayBeTaken, reads, row_at, writes}
+use Rattle.run_merge.specs.Taking.{IsTakenSoFar, MayBeTaken, reads, row_at, writes}
 use Rattle.run_merge.specs.declared.merging.Merging.{Merging}
 use Rattle.run_merge.specs.declared.logs.Stamped.{Stamped}
 use Rattle.guest_calls.proofs.Splits.{same_head}
@@ -36,7 +36,7 @@ behind front (x ∷ after) all d next is short got =
     first : (k : ℕ) → k ≡ 0 → get_or (x ∷ after) k d ≡ x
     first k zero_is = ap (λ n. get_or (x ∷ after) n d) zero_is
 
-pub next_of : (size : Numbers) (seen taken : List Entry) (t at : ℕ) (d next : Stamped) → IsUnderWay size seen taken → at ≡ length (log_of size t taken)
+pub next_of : (size : Numbers) (seen taken : List Entry) (t at : ℕ) (d next : Stamped) → IsTakenSoFar size seen taken → at ≡ length (log_of size t taken)
     → at < length (log_of size t seen) → next ≡ get_or (log_of size t seen) at d → NextOf size seen taken t next
 next_of size seen taken t at d next way is short got =
     let found = behind (log_of size t taken) (way.fronts t).0 (log_of size t seen) d next (way.fronts t).1 (subst (λ n. n < length (log_of size t seen)) is short) (got ∙ ap (λ n. get_or (log_of size t seen) n d) is) in
@@ -180,7 +180,7 @@ module _ (size : Numbers) (seen : List Entry) (old : Merging) (is : IsMerging si
       let count : length new.count.items ≡ length old.count.items = ap (λ (x : Tables). length x.count) tables ∙ after_count size (tables_of old) next in
       record {
         form = out ∙ ap (λ l. l ++ next.access ∷ []) is.form ∙ ap (λ a. map access_of taken ++ a ∷ []) here ∙ sym (map-append access_of taken (entry_of next.access ∷ [])) ∙ ap (map access_of) (sym grown);
-        way = subst (IsUnderWay size seen) (sym grown) (one_taken size seen taken is.way t next may);
+        way = subst (IsTakenSoFar size seen) (sym grown) (one_taken size seen taken is.way t next may);
         tables = subst (λ l. AreTables size seen l (tables_of new)) (sym grown) (subst (AreTables size seen (taken ++ entry_of next.access ∷ [])) (sym tables) later_tables);
         apart = subst (AreApart size seen) (sym base) is.apart;
         room = record {

@@ -10,7 +10,7 @@ use Rattle.history.specs.Entry.{is_in_class}
 use Rattle.history.specs.declared.entry.Entry.{Entry}
 use Rattle.run_merge.specs.Logs.{log_of}
 use Rattle.run_merge.specs.inner.Tables.{AreApart, AreTables, Tables, class_at, is_read_at, rest_of, spot, waiting}
-use Rattle.run_merge.specs.Taking.{IsReadAt, IsUnderWay, MayBeTaken, reads, row_at, writes}
+use Rattle.run_merge.specs.Taking.{IsReadAt, IsTakenSoFar, MayBeTaken, reads, row_at, writes}
 use Rattle.run_merge.specs.declared.logs.Stamped.{Stamped}
 use Rattle.history.specs.Accesses.{entry_of}
 use Rattle.history.specs.Cause.{is_write}
@@ -182,7 +182,7 @@ count_one_more size row taken access is =
     let here : ◌≡◌ {A = ℕ} (cond (p (entry_of access)) 1 0) 1 = ap (λ b. cond b 1 0) is in
     omega (arith, parts, one, here)
 
-module _ (size : Numbers) (history taken : List Entry) (way : IsUnderWay size history taken) (t : ℕ) (next : Stamped) (may : MayBeTaken size history taken t next)
+module _ (size : Numbers) (history taken : List Entry) (way : IsTakenSoFar size history taken) (t : ℕ) (next : Stamped) (may : MayBeTaken size history taken t next)
     (tables : Tables) (are : AreTables size history taken tables) (apart : AreApart size history tables.base)
     (inside : spot size tables.base next < length tables.left) (within : class_at size next < length tables.count) where
   abbrev new : List Entry

@@ -15,7 +15,7 @@ use Rattle.history.specs.declared.entry.Deed.TheVariants as deed
 use Rattle.history.specs.declared.entry.Entry.{Entry}
 use Rattle.history.specs.declared.entry.Entry.TheVariants.{Read, Write, Fail, Clear, Watch, Miss, Begin, End, Start}
 use Rattle.run_merge.specs.Logs.{access_of, is_own, log_of, logged, stamp_behind, stamped}
-use Rattle.run_merge.specs.Taking.{IsReadAt, IsUnderWay, MayBeTaken, reads, row_at, writes}
+use Rattle.run_merge.specs.Taking.{IsReadAt, IsTakenSoFar, MayBeTaken, reads, row_at, writes}
 use Rattle.run_merge.specs.declared.logs.Stamped.{Stamped}
 use Rattle.guest_calls.proofs.Splits.{at_it, before_it, behind_it, meets}
 use Rattle.run_merge.proofs.Parts.{filter_no, filter_yes, front_in, next_in, same_front, split_filter}
@@ -140,7 +140,7 @@ read_or_write size row (Start t child entry arg) read is = cc
 
 -- ---- on the way
 
-module _ (size : Numbers) (history taken : List Entry) (way : IsUnderWay size history taken) where
+module _ (size : Numbers) (history taken : List Entry) (way : IsTakenSoFar size history taken) where
   -- all accesses of these entries are taken
   abbrev pub AllTaken : List Entry → Type 0
   AllTaken early = (u : ℕ) → length (log_of size u early) ≤ length (log_of size u taken)
@@ -434,7 +434,7 @@ class_turned size one other near =
     eq-eqb (class_of size.classes (row_of size.granule one)) (class_of size.classes (row_of size.granule other))
     (sym (eqb-true (class_of size.classes (row_of size.granule other)) (class_of size.classes (row_of size.granule one)) near))
 
-module _ (size : Numbers) (history taken : List Entry) (way : IsUnderWay size history taken) (t : ℕ) (next : Stamped) (may : MayBeTaken size history taken t next) where
+module _ (size : Numbers) (history taken : List Entry) (way : IsTakenSoFar size history taken) (t : ℕ) (next : Stamped) (may : MayBeTaken size history taken t next) where
   abbrev pub new : List Entry
   new = taken ++ entry_of next.access ∷ []
 
@@ -512,19 +512,19 @@ module _ (size : Numbers) (history taken : List Entry) (way : IsUnderWay size hi
     ]
   ]
 
-  pub one_taken : IsUnderWay size history new
+  pub one_taken : IsTakenSoFar size history new
   one_taken = record { fronts = new_front; loads = new_loads }
 
 -- ---- the first, and the last
 
-pub none_taken : (size : Numbers) (history : List Entry) → IsUnderWay size history []
+pub none_taken : (size : Numbers) (history : List Entry) → IsTakenSoFar size history []
 none_taken size history = record {
   fronts = λ u. (log_of size u history, refl);
   loads = λ u before one at behind. absurd (omega (arith, behind));
 }
 
 -- all of them are a merge
-pub all_taken : (size : Numbers) (history taken : List Entry) → IsUnderWay size history taken → ((u : ℕ) → length (log_of size u history) ≤ length (log_of size u taken))
+pub all_taken : (size : Numbers) (history taken : List Entry) → IsTakenSoFar size history taken → ((u : ℕ) → length (log_of size u history) ≤ length (log_of size u taken))
     → (u : ℕ) → log_of size u taken ≡ log_of size u history
 all_taken size history taken way all u =
     let was = way.fronts u in

@@ -32,7 +32,7 @@ IsReadAt size history thread before one =
     (reads one.access.deed ≡ true) × ((after : List Stamped) × (log_of size thread history ≡ before ++ one ∷ after))
 
 -- of each thread's log a front is taken, and of the loads all those whose class has moved on
-pub record IsUnderWay (size : Numbers) (history taken : List Entry) : Type 0 where
+pub record IsTakenSoFar (size : Numbers) (history taken : List Entry) : Type 0 where
   pub fronts : (thread : ℕ) → (left : List Stamped) × (log_of size thread history ≡ log_of size thread taken ++ left)
   pub loads : (thread : ℕ) (before : List Stamped) (one : Stamped) → IsReadAt size history thread before one
       → one.stamp < writes_in_class size (row_at size one) taken → length before < length (log_of size thread taken)

@@ -10,7 +10,7 @@ ghost use Rattle.history.specs.declared.entry.Entry.{Entry};
 ghost use Rattle.run_record.specs.Limits.{IsAccess};
 ghost use Rattle.run_merge.specs.Logs.{access_of, log_of};
 ghost use Rattle.run_merge.specs.Merge.{IsMerge};
-ghost use Rattle.run_merge.specs.Taking.{IsUnderWay, MayBeTaken};
+ghost use Rattle.run_merge.specs.Taking.{IsTakenSoFar, MayBeTaken};
 ghost use Rattle.run_merge.specs.declared.logs.Stamped.{Stamped};
 
 /// A merge of a legal history is what Arm's memory and monitors allow.
@@ -22,13 +22,13 @@ pub fn merges_are_legal()
 
 /// Where logs are merged access by access, an access may be taken as long as one is left; and what is taken in the end is a merge.
 pub fn logs_can_be_merged()
-    ensures begins { (size : Numbers) (history : List Entry) → IsUnderWay size history [] }
-    ensures goes_on { (size : Numbers) (history taken : List Entry) → IsUnderWay size history taken →
+    ensures begins { (size : Numbers) (history : List Entry) → IsTakenSoFar size history [] }
+    ensures goes_on { (size : Numbers) (history taken : List Entry) → IsTakenSoFar size history taken →
         ((t : ℕ) → length (log_of size t history) ≤ length (log_of size t taken))
         ⊎ ((t : ℕ) × (next : Stamped) × MayBeTaken size history taken t next) }
-    ensures one_more { (size : Numbers) (history taken : List Entry) (t : ℕ) (next : Stamped) → IsUnderWay size history taken →
-        MayBeTaken size history taken t next → IsUnderWay size history (taken ++ entry_of next.access ∷ []) }
-    ensures ends { (size : Numbers) (history : List Entry) (merged : List Access) → IsUnderWay size history (history_of merged) →
+    ensures one_more { (size : Numbers) (history taken : List Entry) (t : ℕ) (next : Stamped) → IsTakenSoFar size history taken →
+        MayBeTaken size history taken t next → IsTakenSoFar size history (taken ++ entry_of next.access ∷ []) }
+    ensures ends { (size : Numbers) (history : List Entry) (merged : List Access) → IsTakenSoFar size history (history_of merged) →
         ((t : ℕ) → length (log_of size t history) ≤ length (log_of size t (history_of merged))) → IsMerge size history merged }
 {}
 

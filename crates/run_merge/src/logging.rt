@@ -8,7 +8,7 @@ ghost use Rattle.guest_core.specs.Ports.{IsAskIn};
 ghost use Rattle.llsc_base.specs.declared.outside.Ask.{Ask};
 ghost use Rattle.llsc_base.specs.Memory.{size_bytes};
 ghost use Rattle.guest_thread.specs.inner.Sharing.{IsServedSharing, IsUnserved, RefusesAt};
-ghost use Rattle.run_merge.specs.inner.Logging.{IsLogged, IsRecordedBy};
+ghost use Rattle.run_merge.specs.inner.Logging.{IsLogged, RepliesLogging};
 ghost use Rattle.run_record.specs.Limits.{most_accesses};
 
 use crate::logs::{Log, Stamped};
@@ -212,9 +212,9 @@ impl<'a, R: Wait> Logging<'a, R> {
 }
 
 impl<'a, R: Wait> Port for Logging<'a, R> {
-    ghost use Rattle.run_merge.specs.inner.Logging.{IsRecordedBy, RefusesLogged};
+    ghost use Rattle.run_merge.specs.inner.Logging.{RepliesLogging, RefusesLogged};
 
-    ghost replies = { IsRecordedBy };
+    ghost replies = { RepliesLogging };
 
     ghost mem = { λ logging. logging.sharing.origin.size.mem };
 

@@ -13,8 +13,8 @@ use Rattle.guest_calls.specs.Run.{Pair, begins, Reaches}
 use Rattle.guest_thread.specs.Counts.{reads_of, writes_of, fails_of}
 use Rattle.guest_thread.specs.Start.{thread_start}
 use Rattle.slice_pool.specs.inner.Hands.{key_of}
-use Rattle.slice_pool.specs.Pools.{IsFresh}
-use Rattle.slice_pool.specs.inner.Rule.{IsUnderWay}
+use Rattle.slice_pool.specs.Pools.{IsFreshGuest}
+use Rattle.slice_pool.specs.inner.Rule.{IsGuestUnderWay}
 use Rattle.slice_pool.specs.declared.queue.Waiting.{Waiting}
 
 -- no access, no step, nothing written: a run that has begun
@@ -27,7 +27,7 @@ has_begun program budget start cpu pairs steps out none at zeroth nothing =
     (subst (Reaches a32 program budget start [] start 0) (sym nothing) begins)))
 
 module _ {P : Type 0} (home : P → TableId) (numbers : P → ℕ → Bool) (seen : P → List Entry) (mem : TableId) (origin : Origin) (program : Program) (slice budget : ℕ) where
-  under_way : (x : Waiting P) → IsFresh home numbers seen mem origin program x → IsUnderWay home numbers seen (key_of mem program origin.size slice budget) x
+  under_way : (x : Waiting P) → IsFreshGuest home numbers seen mem origin program x → IsGuestUnderWay home numbers seen (key_of mem program origin.size slice budget) x
   under_way x is = record {
     memory = is.memory;
     single = is.single;
@@ -45,10 +45,10 @@ module _ {P : Type 0} (home : P → TableId) (numbers : P → ℕ → Bool) (see
     within = let s = is.steps in omega (arith, s);
   }
 
-  pub all_under_way : (xs : List (Waiting P)) → All (IsFresh home numbers seen mem origin program) xs
-      → All (IsUnderWay home numbers seen (key_of mem program origin.size slice budget)) xs
-  all_under_way [] all = All-nil (IsUnderWay home numbers seen (key_of mem program origin.size slice budget))
+  pub all_under_way : (xs : List (Waiting P)) → All (IsFreshGuest home numbers seen mem origin program) xs
+      → All (IsGuestUnderWay home numbers seen (key_of mem program origin.size slice budget)) xs
+  all_under_way [] all = All-nil (IsGuestUnderWay home numbers seen (key_of mem program origin.size slice budget))
   all_under_way (x ∷ xs) all =
-      All-cons (IsUnderWay home numbers seen (key_of mem program origin.size slice budget)) x xs
-      (under_way x (All-head (IsFresh home numbers seen mem origin program) x xs all))
-      (all_under_way xs (All-tail (IsFresh home numbers seen mem origin program) x xs all))
+      All-cons (IsGuestUnderWay home numbers seen (key_of mem program origin.size slice budget)) x xs
+      (under_way x (All-head (IsFreshGuest home numbers seen mem origin program) x xs all))
+      (all_under_way xs (All-tail (IsFreshGuest home numbers seen mem origin program) x xs all))

@@ -22,7 +22,7 @@ use Rattle.guest_thread.proofs.FewAccesses.{few_counted, few_in_history}
 use Rattle.slice_pool.specs.inner.Hands.{key_of}
 use Rattle.slice_pool.specs.Over.{AreTurnsOf}
 use Rattle.slice_pool.specs.inner.Over.{IsGoneFrom, IsUpto}
-use Rattle.slice_pool.specs.inner.Rule.{IsUnderWay}
+use Rattle.slice_pool.specs.inner.Rule.{IsGuestUnderWay}
 use Rattle.slice_pool.specs.declared.queue.Waiting.{Waiting}
 use Rattle.slice_pool.specs.declared.views.Key.{Key}
 
@@ -46,9 +46,9 @@ module _ {P : Type 0} (home : P → TableId) (numbers : P → ℕ → Bool) (see
   key = key_of mem program origin.size slice budget
 
   -- it pauses
-  pub paused : (x : Waiting P) (upto : ℕ) (part : Part P Machine) → IsUpto slice budget x.part.steps upto → IsUnderWay home numbers seen key x
+  pub paused : (x : Waiting P) (upto : ℕ) (part : Part P Machine) → IsUpto slice budget x.part.steps upto → IsGuestUnderWay home numbers seen key x
       → IsPiece a32 (λ m. m) home numbers seen mem origin program false upto budget x.thread x.part (Pause part)
-      → IsUnderWay home numbers seen key (record { part = part; thread = x.thread; turns = x.turns + 1 })
+      → IsGuestUnderWay home numbers seen key (record { part = part; thread = x.thread; turns = x.turns + 1 })
   paused x upto part to was goes =
       let start = thread_start a32 program origin.size origin.size.threads x.thread in
       let comes : Reaches a32 program budget start (pairs_of x.thread (seen x.part.pass) ++ goes.pairs) part.cpu part.steps part.out =
@@ -67,7 +67,7 @@ module _ {P : Type 0} (home : P → TableId) (numbers : P → ℕ → Bool) (see
       }
 
   -- how it ended, by what its pass has seen
-  ended_on : (x : Waiting P) (upto : ℕ) (done : Finished P) → IsUnderWay home numbers seen key x
+  ended_on : (x : Waiting P) (upto : ℕ) (done : Finished P) → IsGuestUnderWay home numbers seen key x
       → IsPiece a32 (λ m. m) home numbers seen mem origin program false upto budget x.thread x.part (Ended done)
       → IsEndOn a32 program origin.size budget (thread_start a32 program origin.size origin.size.threads x.thread) (seen done.pass) done.end
   ended_on x upto done was goes =
@@ -82,7 +82,7 @@ module _ {P : Type 0} (home : P → TableId) (numbers : P → ℕ → Bool) (see
         counts = subst (λ u. AreCounts u (seen done.pass) (counts_in done.end)) thread (goes.counts was.counts);
       }
 
-  ended_as : (x : Waiting P) (upto : ℕ) (done : Finished P) → origin.first ≡ origin.size.threads → budget ≤ most_budget → IsUnderWay home numbers seen key x
+  ended_as : (x : Waiting P) (upto : ℕ) (done : Finished P) → origin.first ≡ origin.size.threads → budget ≤ most_budget → IsGuestUnderWay home numbers seen key x
       → IsPiece a32 (λ m. m) home numbers seen mem origin program false upto budget x.thread x.part (Ended done)
       → IsEndOf a32 program origin budget (seen done.pass) x.thread done.end
   ended_as x upto done begin small was goes =
@@ -97,7 +97,7 @@ module _ {P : Type 0} (home : P → TableId) (numbers : P → ℕ → Bool) (see
 
   -- it ends
   pub ended : (x : Waiting P) (upto : ℕ) (done : Finished P) → origin.first ≡ origin.size.threads → budget ≤ most_budget → IsUpto slice budget x.part.steps upto
-      → IsUnderWay home numbers seen key x → IsPiece a32 (λ m. m) home numbers seen mem origin program false upto budget x.thread x.part (Ended done)
+      → IsGuestUnderWay home numbers seen key x → IsPiece a32 (λ m. m) home numbers seen mem origin program false upto budget x.thread x.part (Ended done)
       → IsGoneFrom home numbers seen origin key x.thread (record { pass = done.pass; end = done.end; turns = x.turns + 1 })
   ended x upto done begin small to was goes =
       let t : x.thread ≡ done.end.thread = sym goes.stands.thread in (

@@ -17,7 +17,7 @@ use Rattle.a32_step.specs.Machine.{a32}
 
 module _ {P : Type 0} (home : P → TableId) (numbers : P → ℕ → Bool) (seen : P → List Entry) where
   -- a guest is at its start, and has a pass that holds its number alone, with no access
-  pub record IsFresh (mem : TableId) (origin : Origin) (program : Program) (x : Waiting P) : Type 0 where
+  pub record IsFreshGuest (mem : TableId) (origin : Origin) (program : Program) (x : Waiting P) : Type 0 where
     pub memory : home x.part.pass ≡ mem
     pub single : IsSingle x.thread (numbers x.part.pass)
     pub known : x.thread < origin.size.threads
@@ -32,7 +32,7 @@ module _ {P : Type 0} (home : P → TableId) (numbers : P → ℕ → Bool) (see
   -- and its one seat has all parts; there are at most four workers; and there is room for every guest's end
   pub record IsReadyPool {M Story : Type 0} (mem : TableId) (origin : Origin) (program : Program) (pool : Pool M P Story) : Type 0 where
     pub begin : origin.first ≡ origin.size.threads
-    pub guests : All (IsFresh mem origin program) pool.guests.items
+    pub guests : All (IsFreshGuest mem origin program) pool.guests.items
     pub numbers_are : last_first pool.guests.items [] ≡ downto origin.size.threads
     pub queue : IsPassOf pool.line pool.seat
     pub seat : view pool.seat ≡ hand 8 [] no_key

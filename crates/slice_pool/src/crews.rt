@@ -5,7 +5,7 @@ ghost use Rattle.crossbeam_queue.specs.Passes.{view, IsPassOf};
 ghost use Rattle.slice_pool.specs.Hands.{hand};
 ghost use Rattle.slice_pool.specs.inner.Hands.{key_of};
 ghost use Rattle.slice_pool.specs.Rule.{last_first};
-ghost use Rattle.slice_pool.specs.inner.Rule.{IsUnderWay};
+ghost use Rattle.slice_pool.specs.inner.Rule.{IsGuestUnderWay};
 ghost use Rattle.slice_pool.specs.AtWork.{IsFree};
 ghost use Rattle.slice_pool.specs.inner.AtWork.{IsWorker};
 
@@ -158,7 +158,7 @@ pub(crate) fn put_all<M: SharedMemory, R: Wait>(
     requires queue { IsPassOf line.now seat.old }
     requires some_part { 1 ≤ (view seat.old).parts }
     requires held { (view seat.old).held ≡ last_first guests.items [] }
-    requires guests { All (IsUnderWay M.home M.numbers M.seen (view seat.old).key) guests.items }
+    requires guests { All (IsGuestUnderWay M.home M.numbers M.seen (view seat.old).key) guests.items }
     ensures queue { IsPassOf line.now seat.new }
     ensures put { view seat.new ≡ hand (view seat.old).parts [] (view seat.old).key }
 {

@@ -4,7 +4,7 @@ ghost use Rattle.history.specs.Parts.{entries_of};
 ghost use Rattle.shared_memory.specs.Seen.{IsSingle};
 ghost use Rattle.slice_pool.specs.AtWork.{IsFree};
 ghost use Rattle.slice_pool.specs.Hands.{downto};
-ghost use Rattle.slice_pool.specs.Pools.{IsFresh, IsReadyPool};
+ghost use Rattle.slice_pool.specs.Pools.{IsFreshGuest, IsReadyPool};
 ghost use Rattle.slice_pool.specs.Rule.{last_first};
 
 use crate::crews::Desk;
@@ -29,7 +29,7 @@ fn guest_of<M: SharedMemory>(
     requires single { IsSingle thread (M.numbers pass) }
     requires known { thread < (M.origin mem.now).size.threads }
     requires none { entries_of thread (M.seen pass) ≡ [] }
-    ensures fresh { IfOk result (IsFresh M.home M.numbers M.seen (M.id mem.now) (M.origin mem.now) image.now) }
+    ensures fresh { IfOk result (IsFreshGuest M.home M.numbers M.seen (M.id mem.now) (M.origin mem.now) image.now) }
     ensures thread { IfOk result (λ guest. guest.thread ≡ thread) }
 {
     let size = mem.size();
@@ -52,7 +52,7 @@ fn guests_of<M: SharedMemory>(
     requires memory { M.home first ≡ M.id mem.now }
     requires numbers { (t : ℕ) → M.numbers first t ≡ nat_lt t (M.origin mem.now).size.threads }
     requires none { (t : ℕ) → entries_of t (M.seen first) ≡ [] }
-    ensures fresh { IfOk result (λ guests. All (IsFresh M.home M.numbers M.seen (M.id mem.now) (M.origin mem.now) image.now) guests.items) }
+    ensures fresh { IfOk result (λ guests. All (IsFreshGuest M.home M.numbers M.seen (M.id mem.now) (M.origin mem.now) image.now) guests.items) }
     ensures numbers { IfOk result (λ guests. last_first guests.items [] ≡ downto (M.origin mem.now).size.threads) }
 {
     let size = mem.size();

@@ -7,7 +7,7 @@ ghost use Rattle.slice_pool.specs.inner.Hands.{key_of};
 ghost use Rattle.slice_pool.specs.Rule.{last_first};
 ghost use Rattle.slice_pool.specs.inner.Over.{AreAllGone, IsGone};
 ghost use Rattle.slice_pool.specs.AtWork.{IsFree};
-ghost use Rattle.slice_pool.specs.Pools.{IsFresh, IsReadyPool};
+ghost use Rattle.slice_pool.specs.Pools.{IsFreshGuest, IsReadyPool};
 ghost use Rattle.shared_memory.specs.Seen.{IsOneOf};
 ghost use Rattle.guest_thread.specs.Counting.{accesses_counted, counts_in};
 ghost use Rattle.guest_thread.specs.Outcome.{AreEndsOn};
@@ -62,7 +62,7 @@ fn run_guests<'i, K: Knows + Send + Sync, M: SharedMemory, R: Threads + Wait + S
     requires budget { budget ≤ most_budget }
     requires queue { IsPassOf line.now seat }
     requires seat { view seat ≡ hand 8 [] no_key }
-    requires guests { All (IsFresh M.home M.numbers M.seen (M.id mem.now) (M.origin mem.now) image.now) guests.items }
+    requires guests { All (IsFreshGuest M.home M.numbers M.seen (M.id mem.now) (M.origin mem.now) image.now) guests.items }
     requires numbers { last_first guests.items [] ≡ downto (M.origin mem.now).size.threads }
     requires desks { All (IsFree image.now (M.origin mem.now).size.threads) desks.items × (vec_len desks ≤ 4) }
     requires empty { (workers.items ≡ []) × (vec_len workers ≡ 0) }

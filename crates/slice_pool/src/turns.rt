@@ -4,7 +4,7 @@ ghost use Rattle.llsc_base.specs.Limits.{most_budget};
 ghost use Rattle.crossbeam_queue.specs.Passes.{view, IsPassOf};
 ghost use Rattle.slice_pool.specs.Hands.{hand};
 ghost use Rattle.slice_pool.specs.inner.Hands.{key_of, IsSeated};
-ghost use Rattle.slice_pool.specs.inner.Rule.{IsUnderWay};
+ghost use Rattle.slice_pool.specs.inner.Rule.{IsGuestUnderWay};
 ghost use Rattle.slice_pool.specs.inner.Over.{HasTurned, IsGoneFrom, IsUpto};
 
 use crate::queue::{Line, Puts, Seat, Waiting};
@@ -55,7 +55,7 @@ fn turn<M: SharedMemory, R: Wait>(
     requires whole { length code.old.program.bytes ≡ (M.origin mem.now).size.mem }
     requires slice { 1 ≤ slice }
     requires budget { budget ≤ most_budget }
-    requires guest { IsUnderWay M.home M.numbers M.seen (key_of (M.id mem.now) code.old.program (M.origin mem.now).size slice budget) guest }
+    requires guest { IsGuestUnderWay M.home M.numbers M.seen (key_of (M.id mem.now) code.old.program (M.origin mem.now).size slice budget) guest }
     ensures program { code.new.program ≡ code.old.program }
     ensures turned { HasTurned M.home M.numbers M.seen (M.origin mem.now) (key_of (M.id mem.now) code.old.program (M.origin mem.now).size slice budget) guest result }
 {
@@ -95,7 +95,7 @@ pub(crate) fn turns_of<M: SharedMemory, R: Wait>(
     requires whole { length code.old.program.bytes ≡ (M.origin mem.now).size.mem }
     requires slice { 1 ≤ slice }
     requires budget { budget ≤ most_budget }
-    requires guest { IsUnderWay M.home M.numbers M.seen (key_of (M.id mem.now) code.old.program (M.origin mem.now).size slice budget) guest }
+    requires guest { IsGuestUnderWay M.home M.numbers M.seen (key_of (M.id mem.now) code.old.program (M.origin mem.now).size slice budget) guest }
     requires queue { IsPassOf line.now seat.old }
     requires seat { IsSeated (key_of (M.id mem.now) code.old.program (M.origin mem.now).size slice budget) (view seat.old) }
     requires held { (rest : List ℕ) × ((view seat.old).held ≡ guest.thread ∷ rest) }

@@ -14,7 +14,7 @@ use Rattle.guest_thread.specs.inner.Crews.{AreTaken}
 use Rattle.guest_thread.specs.Start.{thread_start}
 use Rattle.guest_thread.specs.declared.ends.GuestEnd.{GuestEnd}
 use Rattle.guest_family.specs.Kin.{AreSpares, own_numbers, spares_of}
-use Rattle.guest_family.specs.inner.UnderWay.{IsEndFrom, IsUnderWay}
+use Rattle.guest_family.specs.inner.UnderWay.{IsEndFrom, IsPartUnderWay}
 use Rattle.guest_family.specs.declared.families.Gathered.{Gathered}
 use Rattle.guest_family.specs.declared.kin.Spare.{Spare}
 use Rattle.guest_family.specs.declared.starters.Branch.{Branch}
@@ -80,7 +80,7 @@ module _ {P : Type 0} (home : P → TableId) (numbers : P → ℕ → Bool) (see
   -- one of the first threads under way, with those that it may still start, in order of number, and with room for all ends
   pub record IsStarterPart (mem : TableId) (origin : Origin) (program : Program) (budget t : ℕ) (starter : StarterPart P) : Type 0 where
     pub first : t < origin.first
-    pub goes : IsUnderWay home numbers seen mem origin program budget t (thread_start a32 program origin.size origin.first t) starter.part
+    pub goes : IsPartUnderWay home numbers seen mem origin program budget t (thread_start a32 program origin.size origin.first t) starter.part
     pub code : starter.code.program ≡ program
     pub spares : AreSpares home numbers seen mem program starter.spares.items
     pub threads : spares_of starter.spares.items ≡ range_with_len (child_of origin.first origin.spare t (starts_of t (seen starter.part.pass))) (vec_len starter.spares)
@@ -117,8 +117,8 @@ module _ {P : Type 0} (home : P → TableId) (numbers : P → ℕ → Bool) (see
   Branches mem origin program budget t old (Starts rest spare entry arg) = HasBranched mem origin program budget t old rest spare entry arg
 
   -- to that it has come, whichever of the first threads it is
-  abbrev pub ComesTo : TableId → Origin → Program → (budget : ℕ) → StarterPart P → Branch P → Type 0
-  ComesTo mem origin program budget old branch =
+  abbrev pub ComesToBranch : TableId → Origin → Program → (budget : ℕ) → StarterPart P → Branch P → Type 0
+  ComesToBranch mem origin program budget old branch =
       (t : ℕ) → IsStarterPart mem origin program budget t old → Branches mem origin program budget t old branch
 
   -- and to its end

@@ -10,7 +10,7 @@ use Rattle.guest_core.specs.Machine.{returned_of}
 use Rattle.history.specs.Starts.{Started}
 use Rattle.guest_thread.specs.StockRun.{Stock, bad_entry, none_left}
 use Rattle.guest_thread.specs.declared.pieces.Part.{Part}
-use Rattle.guest_family.specs.inner.UnderWay.{HasCalled, HasEnded}
+use Rattle.guest_family.specs.inner.UnderWay.{HasCalled, HasReachedEnd}
 use Rattle.guest_family.specs.declared.running.Next.{Next}
 use Rattle.guest_family.specs.declared.running.Next.TheVariants.{Ended, Calls}
 
@@ -35,6 +35,6 @@ IsAligned (Calls part entry arg) = entry % 4 ≡ 0
 module _ {P : Type 0} (home : P → TableId) (numbers : P → ℕ → Bool) (seen : P → List Entry) where
   -- from where it stood with that pass and so many steps
   abbrev pub IsNext : TableId → Origin → Program → (budget t : ℕ) → Machine → (old : P) → (steps : ℕ) → Next P → Type 0
-  IsNext mem origin program budget t start old steps (Ended done) = HasEnded home numbers seen mem origin program budget t start old done
+  IsNext mem origin program budget t start old steps (Ended done) = HasReachedEnd home numbers seen mem origin program budget t start old done
   IsNext mem origin program budget t start old steps (Calls part entry arg) =
       HasCalled home numbers seen mem origin program budget t start old part entry arg × (steps ≤ part.steps)

@@ -36,7 +36,7 @@ pub record IsEndFrom (program : Program) (origin : Origin) (budget t : ℕ) (sta
 -- what a memory says of a pass: which memory made it, which numbers it holds, and what it has seen
 module _ {P : Type 0} (home : P → TableId) (numbers : P → ℕ → Bool) (seen : P → List Entry) where
   -- a thread that may act is between two instructions: it came there from its start by the accesses and the starts that its pass has seen
-  pub record IsUnderWay (mem : TableId) (origin : Origin) (program : Program) (budget t : ℕ) (start : Machine) (part : Part P Machine) : Type 0 where
+  pub record IsPartUnderWay (mem : TableId) (origin : Origin) (program : Program) (budget t : ℕ) (start : Machine) (part : Part P Machine) : Type 0 where
     pub memory : home part.pass ≡ mem
     pub single : IsSingle t (numbers part.pass)
     pub may_act : MayAct origin.first t (seen part.pass)
@@ -71,7 +71,7 @@ module _ {P : Type 0} (home : P → TableId) (numbers : P → ℕ → Bool) (see
     pub arg_is : arg ≡ call.b
 
   -- it has gone on to its end, and has started none on its way
-  pub record HasEnded (mem : TableId) (origin : Origin) (program : Program) (budget t : ℕ) (start : Machine) (old : P) (done : Finished P) : Type 0 where
+  pub record HasReachedEnd (mem : TableId) (origin : Origin) (program : Program) (budget t : ℕ) (start : Machine) (old : P) (done : Finished P) : Type 0 where
     pub memory : home done.pass ≡ mem
     pub single : IsSingle t (numbers done.pass)
     pub front : IsFront (seen old) (seen done.pass)

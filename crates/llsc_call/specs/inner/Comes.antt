@@ -9,7 +9,7 @@ use Rattle.llsc_host.specs.declared.host.ReadFault.TheVariants.{Failed, FileTooL
 use Rattle.llsc_host.specs.Writes.{KeepsReads}
 use Rattle.llsc_words.specs.Request.{Request}
 use Rattle.llsc_call.specs.Answer.{IsAnswer, ReadFailed}
-use Rattle.llsc_call.specs.inner.Outcome.{Gives, IsOneOf}
+use Rattle.llsc_call.specs.inner.Outcome.{Gives, IsOneAnswer}
 use Rattle.llsc_call.specs.Run.{told}
 use Rattle.llsc_call.specs.declared.outcome.Outcome.{Outcome}
 use Rattle.llsc_call.specs.declared.outcome.Outcome.TheVariants.{NoRequest, NoMemory, Unread}
@@ -27,4 +27,4 @@ pub data Comes {S : Type 0} (host : Ghosts S) (old new : S) (request : Option Re
   unread : ReadFailed (host.file old) request (host.read_faults old) (host.read_faults new) (host.lost new) → outcome ≡ Unread → story ≡ None
       → Comes host old new request outcome story
   wanting : outcome ≡ NoMemory → story ≡ None → KeepsReads host old new → Comes host old new request outcome story
-  answered : IsOneOf (IsAnswer (host.file old) request (told story)) outcome → KeepsReads host old new → Comes host old new request outcome story
+  answered : IsOneAnswer (IsAnswer (host.file old) request (told story)) outcome → KeepsReads host old new → Comes host old new request outcome story

@@ -58,18 +58,18 @@ refused_by (refusal.Said text) = Refused text
 refused_by refusal.Memory = NoMemory
 
 -- it answers a request by one of these answers, whole
-pub record IsOneOf (answers : ℕ → List ℕ → Type 0) (outcome : Outcome) : Type 0 where
+pub record IsOneAnswer (answers : ℕ → List ℕ → Type 0) (outcome : Outcome) : Type 0 where
   pub sayable : CanBeSaid outcome
   pub done : IsDone (status_of outcome)
   pub is : answers (status_of outcome) (text_of outcome)
 
 -- one of these answers, or want of memory
 abbrev pub Gives : (ℕ → List ℕ → Type 0) → Outcome → Type 0
-Gives answers outcome = (outcome ≡ NoMemory) ⊎ IsOneOf answers outcome
+Gives answers outcome = (outcome ≡ NoMemory) ⊎ IsOneAnswer answers outcome
 
 -- one of these answers by the history of a story, or want of memory, which has none
 abbrev pub GivesBy : (Option (List Entry) → ℕ → List ℕ → Type 0) → Outcome → Option VersionStory → Type 0
-GivesBy answers outcome story = ((outcome ≡ NoMemory) × (story ≡ None)) ⊎ IsOneOf (answers (told story)) outcome
+GivesBy answers outcome story = ((outcome ≡ NoMemory) × (story ≡ None)) ⊎ IsOneAnswer (answers (told story)) outcome
 
 -- it was said with a status: whole with its own, or with 5 where a write failed
 abbrev pub Says : {S : Type 0} → Ghosts S → (old new : S) → Outcome → ℕ → Type 0

@@ -7,10 +7,10 @@ ghost use Rattle.guest_gen.specs.Counters.{counter_unit};
 ghost use Rattle.history.specs.declared.entry.Entry.{Entry};
 ghost use Rattle.llsc_files.specs.Refusals.{IsRefusal};
 ghost use Rattle.a32_step.specs.Machine.{a32};
-ghost use Rattle.llsc_call.specs.Beside.{Ran};
+ghost use Rattle.llsc_call.specs.Beside.{HaveRun};
 ghost use Rattle.llsc_call.specs.Load.{AnswersLoad, TellsLoad, guest_refusal, load_program, load_refusal, load_size};
 ghost use Rattle.llsc_call.specs.inner.Load.{IsPrepared};
-ghost use Rattle.llsc_call.specs.inner.Outcome.{GivesBy, IsOneOf};
+ghost use Rattle.llsc_call.specs.inner.Outcome.{GivesBy, IsOneAnswer};
 
 use crate::answer::Answer;
 use crate::beside::run_beside;
@@ -21,7 +21,7 @@ use guest_gen::{GenFault, counters};
 use guest_thread::GuestEnd;
 use llsc_base::{Image, MachineSize};
 use llsc_files::{LEAST_GRANULE, Loaded, Refusal, machine, numbers_of, refuse};
-use llsc_report::status_of_all;
+use llsc_report::have_left;
 use llsc_words::{DEFAULT_MEM, LoadNumbers};
 use shared_memory::Rows;
 use std::alloc::{AllocError, Global};
@@ -49,7 +49,7 @@ fn refuse_guest(alloc: Global, fault: GenFault) -> Refusal
     ensures memory { fault ≡ GenFault.Memory → result ≡ Refusal.Memory }
 {
     match fault {
-        GenFault::Range => refuse(alloc, "Range"),
+        GenFault::Range => refuse(alloc, fault.name()),
         GenFault::Memory => Refusal::Memory,
     }
 }
@@ -92,11 +92,10 @@ fn prepare(alloc: Global, numbers: &LoadNumbers) -> Result<Loaded, Refusal>
 /// What threads that ran come to: what they counted where each left by an exit call with code 0, and else their ends.
 fn outcome_of(numbers: LoadNumbers, ends: Vec<GuestEnd>, rows: Rows) -> Outcome
     requires { guest_refusal numbers.threads numbers.rounds ≡ None }
-    ensures { (history : List Entry) → Ran a32 (load_program numbers.seed numbers.threads numbers.rounds) (load_size numbers.threads) numbers.budget history ends.items rows
-        → IsOneOf (TellsLoad (Some history) numbers.seed numbers.threads numbers.rounds numbers.budget) result }
+    ensures { (history : List Entry) → HaveRun a32 (load_program numbers.seed numbers.threads numbers.rounds) (load_size numbers.threads) numbers.budget history ends.items rows
+        → IsOneAnswer (TellsLoad (Some history) numbers.seed numbers.threads numbers.rounds numbers.budget) result }
 {
-    let all_left = status_of_all(ends.as_slice()) == 0;
-    if !all_left {
+    if !have_left(ends.as_slice()) {
         return Outcome::Beside {
             budget: numbers.budget,
             ends,

@@ -5,12 +5,12 @@ ghost use Rattle.version_memory.specs.Memory.{story_history};
 ghost use Rattle.llsc_words.specs.Request.{size_of_run};
 ghost use Rattle.llsc_files.specs.Programs.{program_refusal_as, IsLoadedAs};
 ghost use Rattle.llsc_files.specs.Refusals.{most_program, too_long, IsRefusal};
-ghost use Rattle.llsc_call.specs.Beside.{RanFrom};
+ghost use Rattle.llsc_call.specs.Beside.{HaveRunFrom};
 ghost use Rattle.llsc_call.specs.Run.{AnswersRun, ReportsRun};
 ghost use Rattle.llsc_call.specs.inner.Outcome.{GivesBy};
 
 use crate::answer::Answer;
-use crate::beside::{Finished, run_beside, run_family_beside};
+use crate::beside::{ClosedRun, run_beside, run_family_beside};
 use crate::outcome::Outcome;
 use a32_step::Cpu;
 use llsc_base::{Image, MachineSize};
@@ -35,12 +35,12 @@ fn run_threads<R: Threads + Wait + Sync>(
     first: u32,
     spare: u32,
     budget: u64,
-) -> Result<Finished<VersionStory>, AllocError>
+) -> Result<ClosedRun<VersionStory>, AllocError>
     requires whole { length image.now.bytes ≡ size.now.mem }
     requires some { 1 ≤ first }
     requires all { first * (1 + spare) ≡ size.now.threads }
     requires budget { budget ≤ most_budget }
-    ensures { IfOk result (λ done. RanFrom image.now size.now first spare budget (story_history done.story) done.ends.items done.rows) }
+    ensures { IfOk result (λ done. HaveRunFrom image.now size.now first spare budget (story_history done.story) done.ends.items done.rows) }
 {
     if spare == 0 {
         return run_beside::<Cpu, R>(rt, alloc, size, image, budget);

@@ -20,7 +20,7 @@ fn refuse_trace(alloc: Global, fault: TraceFault) -> Refusal
     ensures memory { fault ≡ TraceFault.Memory → result ≡ Refusal.Memory }
 {
     match fault {
-        TraceFault::TooLong => refuse(alloc, "TooLong"),
+        TraceFault::TooLong => refuse(alloc, fault.name()),
         TraceFault::Memory => Refusal::Memory,
     }
 }

@@ -50,5 +50,5 @@ module _ {I S : Type 0} (set : InstructionSet I S) where
     pub next : AsksNext set program size budget early thread ask
 
   -- each of the threads below a number has ended
-  abbrev pub HaveEnded : Program → Numbers → ℕ → List Access → ℕ → Type 0
-  HaveEnded program size budget early threads = (t : ℕ) → t < threads → HasEnded set program size budget early t
+  abbrev pub AllHaveEnded : Program → Numbers → ℕ → List Access → ℕ → Type 0
+  AllHaveEnded program size budget early threads = (t : ℕ) → t < threads → HasEnded set program size budget early t

@@ -9,12 +9,12 @@ use Rattle.run_checker.specs.declared.verdicts.Reason.{Reason}
 use Rattle.run_checker.specs.declared.verdicts.Reason.TheVariants.{AfterStop, NotAsked, WrongValue, NoReservation, Unfinished}
 
 -- memory stands against an access for this reason
-abbrev pub IsRefused : Monitor → Access → Reason → Type 0
-IsRefused monitor access WrongValue = HasWrongValue monitor access
-IsRefused monitor access NoReservation = LacksMark monitor access
-IsRefused monitor access AfterStop = ⊥
-IsRefused monitor access NotAsked = ⊥
-IsRefused monitor access Unfinished = ⊥
+abbrev pub StandsAgainst : Monitor → Access → Reason → Type 0
+StandsAgainst monitor access WrongValue = HasWrongValue monitor access
+StandsAgainst monitor access NoReservation = LacksMark monitor access
+StandsAgainst monitor access AfterStop = ⊥
+StandsAgainst monitor access NotAsked = ⊥
+StandsAgainst monitor access Unfinished = ⊥
 
 -- memory has nothing against an access, and has moved on by it
 pub record IsMadeAsRecorded (monitor : Monitor) (access : Access) (after : Monitor) : Type 0 where

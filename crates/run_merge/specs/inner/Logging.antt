@@ -18,22 +18,22 @@ abbrev pub IsLogged : LoggingState → Type 0
 IsLogged state = IsLogOf state.sharing.origin.size state.sharing.thread state.sharing.seen state.entries state.count
 
 -- an access was made as any is, and is logged
-pub record IsRecorded (old : LoggingState) (ask : Ask) (reply : ℕ) (new : LoggingState) : Type 0 where
+pub record IsServedLogging (old : LoggingState) (ask : Ask) (reply : ℕ) (new : LoggingState) : Type 0 where
   pub served : IsServedSharing old.sharing ask reply new.sharing
   pub log : IsLogged old → IsLogged new
   pub one : new.count ≤ old.count + 1
   pub legal : IsLegalFrom new.sharing.origin new.sharing.seen
 
 -- none was made
-pub record IsUnrecorded (old new : LoggingState) : Type 0 where
+pub record IsUnservedLogging (old new : LoggingState) : Type 0 where
   pub unserved : IsUnserved old.sharing new.sharing
   pub log : IsLogged old → IsLogged new
   pub none : new.count ≤ old.count
   pub legal : IsLegalFrom new.sharing.origin new.sharing.seen
 
-abbrev pub IsRecordedBy : LoggingState → Ask → Option ℕ → LoggingState → Type 0
-IsRecordedBy old ask (Some reply) new = IsRecorded old ask reply new
-IsRecordedBy old ask None new = IsUnrecorded old new
+abbrev pub RepliesLogging : LoggingState → Ask → Option ℕ → LoggingState → Type 0
+RepliesLogging old ask (Some reply) new = IsServedLogging old ask reply new
+RepliesLogging old ask None new = IsUnservedLogging old new
 
 abbrev pub RefusesLogged : LoggingState → ℕ → Type 0
 RefusesLogged state addr = RefusesAt state.sharing addr

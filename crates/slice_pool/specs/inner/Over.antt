@@ -8,7 +8,7 @@ use Rattle.shared_memory.specs.Seen.{IsSingle}
 use Rattle.a32_step.specs.Machine.{a32}
 use Rattle.guest_thread.specs.inner.Crews.{IsEndOf}
 use Rattle.slice_pool.specs.Hands.{downto}
-use Rattle.slice_pool.specs.inner.Rule.{IsUnderWay}
+use Rattle.slice_pool.specs.inner.Rule.{IsGuestUnderWay}
 use Rattle.slice_pool.specs.declared.queue.Waiting.{Waiting}
 use Rattle.slice_pool.specs.declared.turns.Gone.{Gone}
 use Rattle.slice_pool.specs.declared.turns.Turned.{Turned}
@@ -51,4 +51,4 @@ module _ {P : Type 0} (home : P → TableId) (numbers : P → ℕ → Bool) (see
   -- what comes of a slice
   abbrev pub HasTurned : Origin → Key → Waiting P → Turned P → Type 0
   HasTurned origin key guest (Over gone) = IsGoneFrom origin key guest.thread gone
-  HasTurned origin key guest (Waits next) = IsUnderWay home numbers seen key next × (next.thread ≡ guest.thread)
+  HasTurned origin key guest (Waits next) = IsGuestUnderWay home numbers seen key next × (next.thread ≡ guest.thread)

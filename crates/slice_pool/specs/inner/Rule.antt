@@ -40,7 +40,7 @@ AreAllBut v items = v.parts ≡ 8 → (weight : ℕ → ℕ) → sum_by (waits w
 module _ {P : Type 0} (home : P → TableId) (numbers : P → ℕ → Bool) (seen : P → List Entry) where
   -- a guest between two of its slices, each of which had its steps: it has come so far from its start, with the accesses that
   -- its pass has seen
-  pub record IsUnderWay (key : Key) (x : Waiting P) : Type 0 where
+  pub record IsGuestUnderWay (key : Key) (x : Waiting P) : Type 0 where
     pub memory : home x.part.pass ≡ key.memory
     pub single : IsSingle x.thread (numbers x.part.pass)
     pub known : x.thread < key.size.threads
@@ -57,10 +57,10 @@ module _ {P : Type 0} (home : P → TableId) (numbers : P → ℕ → Bool) (see
     pub parts : sum_by parts_of views ≡ 8
     pub once : (weight : ℕ → ℕ) → sum_by (waits weight) items + sum_by (share weight) views ≡ sum_by weight (downto key.size.threads)
     pub seats : AreSeats key views
-    pub each : All (IsUnderWay key) items
+    pub each : All (IsGuestUnderWay key) items
 
   -- a seat takes a guest: it's under way, and the seat held it not
   pub record HasTaken (v : Hand) (x : Waiting P) (w : Hand) : Type 0 where
     pub view : w ≡ hand v.parts (x.thread ∷ v.held) v.key
-    pub under_way : IsUnderWay v.key x
+    pub under_way : IsGuestUnderWay v.key x
     pub few : AreFew v.key.size.threads (x.thread ∷ v.held)

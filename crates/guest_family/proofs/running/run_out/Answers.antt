@@ -3,7 +3,7 @@ use Rattle.llsc_base.specs.Images.{Program}
 use Rattle.history.specs.Starts.{Started}
 use Rattle.guest_thread.specs.Begun.{stock_of}
 use Rattle.guest_family.specs.inner.Next.{HasNoneLeft, after_answer}
-use Rattle.guest_family.specs.inner.UnderWay.{HasCalled, IsUnderWay}
+use Rattle.guest_family.specs.inner.UnderWay.{HasCalled, IsPartUnderWay}
 use Rattle.guest_family.proofs.Answered.{refused_by_stock}
 use Rattle.guest_family.proofs.GoingOn.{HasGone, HasGoneOn, gone_more}
 use Rattle.guest_family.proofs.running.run_out.Goals as goal
@@ -21,7 +21,7 @@ calls-preserved g c =
     let gone : HasGoneOn home numbers seen mem origin program c.args.budget c.args.part c.answered-part.result =
     λ t start goes.
     let before = c.calls.invariant.gone t start goes in
-    let now = subst (λ (p : Program). IsUnderWay home numbers seen mem origin p c.args.budget t start c.calls.part) (sym c.calls.invariant.program) before.0 in
+    let now = subst (λ (p : Program). IsPartUnderWay home numbers seen mem origin p c.args.budget t start c.calls.part) (sym c.calls.invariant.program) before.0 in
     let is = subst (λ (p : Program). HasCalled home numbers seen mem origin p c.args.budget t start c.calls.part.pass called entry c.in-Calls.arg × (c.calls.part.steps ≤ called.steps))
     c.calls.invariant.program (c.in-Calls.ensures.next t start now) in
     let none = subst (λ (ss : List Started). HasNoneLeft (stock_of origin.first origin.spare t) ss) (sym (is.0.same ∙ before.2)) (c.requires.none t goes.single) in

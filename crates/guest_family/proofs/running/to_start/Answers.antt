@@ -1,6 +1,6 @@
 use Rattle.std.proofs.Common.{◌≢◌, ◌≤◌, ◌%◌, rules, subst, sym, ◌∙◌, arith}
 use Rattle.llsc_base.specs.Images.{Program}
-use Rattle.guest_family.specs.inner.UnderWay.{HasCalled, IsUnderWay}
+use Rattle.guest_family.specs.inner.UnderWay.{HasCalled, IsPartUnderWay}
 use Rattle.guest_family.proofs.Answered.{refused_by_entry}
 use Rattle.guest_family.proofs.GoingOn.{HasGone, HasGoneOn, gone_more, gone_to_call}
 use Rattle.guest_family.proofs.running.to_start.Goals as goal
@@ -18,7 +18,7 @@ calls-preserved g c =
     let gone : HasGoneOn home numbers seen mem origin program c.args.budget c.args.part c.answered-part.result =
     λ t start goes.
     let before = c.calls.invariant.gone t start goes in
-    let now = subst (λ (p : Program). IsUnderWay home numbers seen mem origin p c.args.budget t start c.calls.part) (sym c.calls.invariant.program) before.0 in
+    let now = subst (λ (p : Program). IsPartUnderWay home numbers seen mem origin p c.args.budget t start c.calls.part) (sym c.calls.invariant.program) before.0 in
     let is = subst (λ (p : Program). HasCalled home numbers seen mem origin p c.args.budget t start c.calls.part.pass called entry c.in-Calls.arg × (c.calls.part.steps ≤ called.steps))
     c.calls.invariant.program (c.in-Calls.ensures.next t start now) in
     let odd : entry % 4 ≢ 0 = search rules in
@@ -41,7 +41,7 @@ returns-then-entry-eq0-clause-next g c t start goes =
     let called = c.in-Calls.called in
     let before = c.calls.invariant.gone t start goes in
     let first = before.3 in
-    let now = subst (λ (p : Program). IsUnderWay home numbers seen mem origin p c.args.budget t start c.calls.part) (sym c.calls.invariant.program) before.0 in
+    let now = subst (λ (p : Program). IsPartUnderWay home numbers seen mem origin p c.args.budget t start c.calls.part) (sym c.calls.invariant.program) before.0 in
     let is = subst (λ (p : Program). HasCalled home numbers seen mem origin p c.args.budget t start c.calls.part.pass called c.in-Calls.entry c.in-Calls.arg × (c.calls.part.steps ≤ called.steps))
     c.calls.invariant.program (c.in-Calls.ensures.next t start now) in
     let later = is.1 in

@@ -10,7 +10,7 @@ use Rattle.guest_thread.specs.Start.{thread_start}
 use Rattle.guest_family.specs.inner.EndedStarters.{IsLater}
 use Rattle.guest_family.specs.Kin.{spares_of}
 use Rattle.guest_family.specs.inner.Next.{HasNoneLeft}
-use Rattle.guest_family.specs.inner.UnderWay.{HasCalled, HasEnded, IsUnderWay}
+use Rattle.guest_family.specs.inner.UnderWay.{HasCalled, HasReachedEnd, IsPartUnderWay}
 use Rattle.guest_family.specs.declared.kin.Spare.{Spare}
 use Rattle.guest_family.specs.declared.starters.StarterPart.{StarterPart}
 use Rattle.guest_family.proofs.GoingOn.{front_on}
@@ -47,8 +47,8 @@ returns-in_default-clause-branches g c t is =
     let program = c.args.image.now in
     let starter = c.args.starter in
     let start = thread_start a32 program origin.size origin.first t in
-    let done = subst (λ (p : Program). HasEnded home numbers seen mem origin p c.args.budget t start starter.part.pass c.run_out-done.result) is.code
-    (c.run_out-done.ensures.ended t start (subst (λ (p : Program). IsUnderWay home numbers seen mem origin p c.args.budget t start starter.part) (sym is.code) is.goes)) in
+    let done = subst (λ (p : Program). HasReachedEnd home numbers seen mem origin p c.args.budget t start starter.part.pass c.run_out-done.result) is.code
+    (c.run_out-done.ensures.ended t start (subst (λ (p : Program). IsPartUnderWay home numbers seen mem origin p c.args.budget t start starter.part) (sym is.code) is.goes)) in
     let ended = c.with_ends.result in
     let pass = sym c.with_ends.ensures.pass in
     let later = subst (IsLater home numbers seen c.run_out-done.result.pass) pass (later_none home numbers seen c.run_out-done.result.pass) in
@@ -67,8 +67,8 @@ returns-in-Ended-clause-branches g c t is =
     let program = c.args.image.now in
     let starter = c.args.starter in
     let start = thread_start a32 program origin.size origin.first t in
-    let done = subst (λ (p : Program). HasEnded home numbers seen mem origin p c.args.budget t start starter.part.pass c.in-Ended.field-0) is.code
-    (c.in-Ended.ensures.next t start (subst (λ (p : Program). IsUnderWay home numbers seen mem origin p c.args.budget t start starter.part) (sym is.code) is.goes)) in
+    let done = subst (λ (p : Program). HasReachedEnd home numbers seen mem origin p c.args.budget t start starter.part.pass c.in-Ended.field-0) is.code
+    (c.in-Ended.ensures.next t start (subst (λ (p : Program). IsPartUnderWay home numbers seen mem origin p c.args.budget t start starter.part) (sym is.code) is.goes)) in
     let ended = c.with_ends-in-Ended.result in
     let pass = sym c.with_ends-in-Ended.ensures.pass in
     let later = subst (IsLater home numbers seen c.in-Ended.field-0.pass) pass c.join_unstarted-pass.ensures.later in
@@ -91,7 +91,7 @@ started-part-requires-clause-single g c κs outlives =
     let is = c.requires.starter.1 in
     let start = thread_start a32 program origin.size origin.first t in
     let called = subst (λ (p : Program). HasCalled home numbers seen mem origin p c.args.budget t start starter.part.pass c.in-Calls.part c.in-Calls.entry c.in-Calls.arg) is.code
-    (c.in-Calls.ensures.next t start (subst (λ (p : Program). IsUnderWay home numbers seen mem origin p c.args.budget t start starter.part) (sym is.code) is.goes)).0 in
+    (c.in-Calls.ensures.next t start (subst (λ (p : Program). IsPartUnderWay home numbers seen mem origin p c.args.budget t start starter.part) (sym is.code) is.goes)).0 in
     let next = next_spare home numbers seen mem origin program c.args.budget t starter c.in-Some.spare c.take_next.new.spares.items (vec_len c.take_next.new.spares) is c.in-Some.ensures.items c.in-Some.ensures.len in (
       t,
       called.single,
@@ -111,7 +111,7 @@ returns-clause-branches g c t is =
     let starter = c.args.starter in
     let start = thread_start a32 program origin.size origin.first t in
     let called = subst (λ (p : Program). HasCalled home numbers seen mem origin p c.args.budget t start starter.part.pass c.in-Calls.part c.in-Calls.entry c.in-Calls.arg) is.code
-    (c.in-Calls.ensures.next t start (subst (λ (p : Program). IsUnderWay home numbers seen mem origin p c.args.budget t start starter.part) (sym is.code) is.goes)).0 in
+    (c.in-Calls.ensures.next t start (subst (λ (p : Program). IsPartUnderWay home numbers seen mem origin p c.args.budget t start starter.part) (sym is.code) is.goes)).0 in
     let next = next_spare home numbers seen mem origin program c.args.budget t starter c.in-Some.spare c.take_next.new.spares.items (vec_len c.take_next.new.spares) is c.in-Some.ensures.items c.in-Some.ensures.len in
     let few = called_few home numbers seen mem origin program c.args.budget t starter c.in-Some.spare c.take_next.new.spares.items (vec_len c.take_next.new.spares)
     c.in-Calls.part c.in-Calls.entry c.in-Calls.arg next called in
@@ -133,7 +133,7 @@ returns-clause-goes g c =
     let is = c.requires.starter.1 in
     let start = thread_start a32 program origin.size origin.first t in
     let called = subst (λ (p : Program). HasCalled home numbers seen mem origin p c.args.budget t start starter.part.pass c.in-Calls.part c.in-Calls.entry c.in-Calls.arg) is.code
-    (c.in-Calls.ensures.next t start (subst (λ (p : Program). IsUnderWay home numbers seen mem origin p c.args.budget t start starter.part) (sym is.code) is.goes)).0 in
+    (c.in-Calls.ensures.next t start (subst (λ (p : Program). IsPartUnderWay home numbers seen mem origin p c.args.budget t start starter.part) (sym is.code) is.goes)).0 in
     let next = next_spare home numbers seen mem origin program c.args.budget t starter c.in-Some.spare c.take_next.new.spares.items (vec_len c.take_next.new.spares) is c.in-Some.ensures.items c.in-Some.ensures.len in
     let few = called_few home numbers seen mem origin program c.args.budget t starter c.in-Some.spare c.take_next.new.spares.items (vec_len c.take_next.new.spares)
     c.in-Calls.part c.in-Calls.entry c.in-Calls.arg next called in

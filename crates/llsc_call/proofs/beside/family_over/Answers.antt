@@ -1,5 +1,5 @@
 use Rattle.std.proofs.Common.{◌≤◌, rules, arith}
-use Rattle.llsc_call.proofs.Finished.{closed_cells, ran_from, sums}
+use Rattle.llsc_call.proofs.Closed.{closed_cells, ran_from, sums}
 use Rattle.llsc_call.proofs.beside.family_over.Goals as goal
 
 pub returns : goal.returns

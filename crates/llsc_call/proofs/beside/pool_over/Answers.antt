@@ -1,6 +1,6 @@
 use Rattle.std.proofs.Common.{◌≡◌, ◌≤◌, length, rules, sym, subst}
 use Rattle.a32_step.specs.Machine.{a32}
-use Rattle.llsc_call.proofs.Finished.{closed_cells, ran, sums}
+use Rattle.llsc_call.proofs.Closed.{closed_cells, ran, sums}
 use Rattle.llsc_call.proofs.beside.pool_over.Goals as goal
 
 pub returns : goal.returns

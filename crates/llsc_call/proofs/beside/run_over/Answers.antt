@@ -1,5 +1,5 @@
 use Rattle.std.proofs.Common.{◌≡◌, ◌≤◌, length, rules, sym, subst}
-use Rattle.llsc_call.proofs.Finished.{closed_cells, ran, sums}
+use Rattle.llsc_call.proofs.Closed.{closed_cells, ran, sums}
 use Rattle.llsc_call.proofs.beside.run_over.Goals as goal
 
 pub returns : goal.returns

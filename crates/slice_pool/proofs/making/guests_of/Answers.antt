@@ -2,7 +2,7 @@ use Rattle.std.proofs.Common.{All, ap, arith, rules, subst, sym, ◌+◌, ◌-�
 use Rattle.std.proofs.lemmas.List.Elements.{All-nil}
 use Rattle.shared_memory.specs.Seen.{IsSingle}
 use Rattle.slice_pool.specs.Hands.{downto}
-use Rattle.slice_pool.specs.Pools.{IsFresh}
+use Rattle.slice_pool.specs.Pools.{IsFreshGuest}
 use Rattle.slice_pool.specs.Rule.{last_first}
 use Rattle.slice_pool.proofs.Made.{all_from, has_one, numbers_more, one_less, single_left}
 use Rattle.slice_pool.proofs.Moves.{all_more}
@@ -13,9 +13,9 @@ loop-t-init g c = record {
   memory = search rules;
   seen = search rules;
   left = all_from (g.M.SharedMemory.origin c.args.mem.now).size.threads (g.M.SharedMemory.numbers c.args.first) c.requires.numbers;
-  fresh = subst (All (IsFresh g.M.SharedMemory.home g.M.SharedMemory.numbers g.M.SharedMemory.seen (g.M.SharedMemory.id c.args.mem.now) (g.M.SharedMemory.origin c.args.mem.now) c.args.image.now))
+  fresh = subst (All (IsFreshGuest g.M.SharedMemory.home g.M.SharedMemory.numbers g.M.SharedMemory.seen (g.M.SharedMemory.id c.args.mem.now) (g.M.SharedMemory.origin c.args.mem.now) c.args.image.now))
       (sym c.in_ok-guests.ensures.items)
-      (All-nil (IsFresh g.M.SharedMemory.home g.M.SharedMemory.numbers g.M.SharedMemory.seen (g.M.SharedMemory.id c.args.mem.now) (g.M.SharedMemory.origin c.args.mem.now) c.args.image.now));
+      (All-nil (IsFreshGuest g.M.SharedMemory.home g.M.SharedMemory.numbers g.M.SharedMemory.seen (g.M.SharedMemory.id c.args.mem.now) (g.M.SharedMemory.origin c.args.mem.now) c.args.image.now));
   numbers = ap (λ l. last_first l []) c.in_ok-guests.ensures.items;
 }
 
@@ -39,7 +39,7 @@ split-pass-requires-clause-one g c =
 pub loop-t-preserved : goal.loop-t-preserved
 loop-t-preserved g c =
     let guest = c.in_ok-guest_of.field-0 in
-    let fresh = IsFresh g.M.SharedMemory.home g.M.SharedMemory.numbers g.M.SharedMemory.seen (g.M.SharedMemory.id c.args.mem.now) (g.M.SharedMemory.origin c.args.mem.now) c.args.image.now in
+    let fresh = IsFreshGuest g.M.SharedMemory.home g.M.SharedMemory.numbers g.M.SharedMemory.seen (g.M.SharedMemory.id c.args.mem.now) (g.M.SharedMemory.origin c.args.mem.now) c.args.image.now in
     let next : suc c.loop-t.t ≡ c.loop-t.t + 1 = omega arith in
     record {
       memory = c.split-pass.ensures.memory.0 ∙ c.loop-t.invariant.memory;
@@ -63,7 +63,7 @@ guest_of-requires-2-clause-single g c κs within =
 
 pub returns-clause-fresh : goal.returns-clause-fresh
 returns-clause-fresh g c =
-    let fresh = IsFresh g.M.SharedMemory.home g.M.SharedMemory.numbers g.M.SharedMemory.seen (g.M.SharedMemory.id c.args.mem.now) (g.M.SharedMemory.origin c.args.mem.now) c.args.image.now in
+    let fresh = IsFreshGuest g.M.SharedMemory.home g.M.SharedMemory.numbers g.M.SharedMemory.seen (g.M.SharedMemory.id c.args.mem.now) (g.M.SharedMemory.origin c.args.mem.now) c.args.image.now in
     subst (All fresh) (sym c.in_ok-push-2.ensures.items) (all_more fresh c.loop-t.guests.items c.in_ok-guest_of-2.field-0 c.loop-t.invariant.fresh c.in_ok-guest_of-2.ensures.fresh)
 
 pub returns-clause-numbers : goal.returns-clause-numbers

@@ -1,7 +1,7 @@
 use Rattle.std.proofs.Common.{inr, subst, sym, refl}
 use Rattle.std.proofs.Math.Nat.{mul-one}
 use Rattle.version_memory.specs.Memory.{story_history}
-use Rattle.llsc_call.proofs.Finished.{unstarted}
+use Rattle.llsc_call.proofs.Closed.{unstarted}
 use Rattle.llsc_words.specs.declared.sets.SetName.TheVariants.{A32}
 use Rattle.llsc_call.specs.inner.Outcome.{GivesBy}
 use Rattle.llsc_call.specs.Run.{ReportsRun}

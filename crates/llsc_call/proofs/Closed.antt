@@ -19,7 +19,7 @@ use Rattle.guest_thread.specs.Counting.{accesses_counted, counts_in}
 use Rattle.guest_thread.specs.Outcome.{AreEndsOn, IsOutcome}
 use Rattle.guest_thread.specs.declared.ends.GuestEnd.{GuestEnd}
 use Rattle.guest_thread.proofs.Unstarted.{outcome_from}
-use Rattle.llsc_call.specs.Beside.{AreCells, Ran, RanFrom, left_by}
+use Rattle.llsc_call.specs.Beside.{AreCells, HaveRun, HaveRunFrom, left_by}
 use Rattle.llsc_call.specs.Versions.{KeepsVersions}
 use Rattle.llsc_report.specs.Report.{HasSums}
 
@@ -51,7 +51,7 @@ closed_cells program size bytes history seen cells same begins count each =
 pub ran : {I S : Type 0} (set : InstructionSet I S) (program : Program) (size : Numbers) (budget first spare : ℕ) (bytes : List ℕ) (history seen : List Entry) (ends : List GuestEnd) (cells : List ℕ)
     → history ≡ seen → bytes ≡ program.bytes → first ≡ size.threads → spare ≡ 0 → IsLegal size bytes seen → IsComplete seen → AreBorn first spare seen → AreEndsOn set program size budget seen ends → KeepsVersions size seen
     → HasSums ends → AreCells size (left_by program size history) cells
-    → Ran set program size budget history ends cells
+    → HaveRun set program size budget history ends cells
 ran set program size budget first spare bytes history seen ends cells same begins all none legal complete born are versions sums cells_are = record {
   outcome = subst (λ h. IsOutcome set program size budget h ends) (sym same)
       (record { legal = subst (λ b. IsLegal size b seen) begins legal; complete = complete; born = subst (λ n. AreBorn size.threads n seen) none (subst (λ n. AreBorn n spare seen) all born); ends = are });
@@ -64,7 +64,7 @@ ran set program size budget first spare bytes history seen ends cells same begin
 pub ran_from : (program : Program) (size : Numbers) (budget first spare : ℕ) (bytes : List ℕ) (history seen : List Entry) (ends : List GuestEnd) (cells : List ℕ)
     → history ≡ seen → bytes ≡ program.bytes → IsLegal size bytes seen → IsComplete seen → AreBorn first spare seen → AreBegunEnds a32 program size first spare budget seen ends
     → KeepsVersions size seen → HasSums ends → AreCells size (left_by program size history) cells
-    → RanFrom program size first spare budget history ends cells
+    → HaveRunFrom program size first spare budget history ends cells
 ran_from program size budget first spare bytes history seen ends cells same begins legal complete born are versions sums cells_are = record {
   outcome = subst (λ h. IsOutcomeFrom a32 program size first spare budget h ends) (sym same)
       (record { legal = subst (λ b. IsLegal size b seen) begins legal; complete = complete; born = born; ends = are });
@@ -75,7 +75,7 @@ ran_from program size budget first spare bytes history seen ends cells same begi
 
 -- where none may be started, all threads began by themselves
 pub unstarted : (program : Program) (size : Numbers) (budget first spare : ℕ) (history : List Entry) (ends : List GuestEnd) (cells : List ℕ)
-    → spare ≡ 0 → first * (1 + spare) ≡ size.threads → Ran a32 program size budget history ends cells → RanFrom program size first spare budget history ends cells
+    → spare ≡ 0 → first * (1 + spare) ≡ size.threads → HaveRun a32 program size budget history ends cells → HaveRunFrom program size first spare budget history ends cells
 unstarted program size budget first spare history ends cells none all ran =
     let threads : size.threads ≡ first = sym all ∙ (rw none (mul-one first)) in
     record {
