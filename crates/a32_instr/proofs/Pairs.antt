@@ -1,15 +1,15 @@
 -- No word fits two rows of the table.
-use Rattle.std.proofs.Common.{List, [], ◌∷◌, AllPairs, refl}
+use Rattle.std.proofs.Common.{List, ◌∷◌, AllPairs, drop, refl}
 use Rattle.std.proofs.lemmas.Bool.{and_parts}
 use Rattle.std.proofs.lemmas.List.Elements.{All-cons}
 use Rattle.a32_instr.specs.Fields.{index_fits, half_fits}
-use Rattle.a32_instr.specs.Table.{Row, AreApart, table, alu_imm, alu_by_num, alu_by_reg, half_imm, half_reg, movw, movt, nop, yields, mul, mla, mls, long, clz, extend, rev, word_imm, word_reg, block, branch, branch_reg, svc, load_ex, store_ex, clrex, barrier}
+use Rattle.a32_instr.specs.Table.{Row, AreApart, table, alu_imm, alu_by_num, alu_by_reg, half_imm, half_reg, clrex, barrier}
 use Rattle.llsc_base.specs.Bits.{bits_of}
 use Rattle.a32_instr.proofs.Apart.{clash_is_apart, pairs_apart, pairs_more, data_apart, halves_apart, IsData, IsHalf, unconditional_apart, fixed_unconditional}
 
 -- the rows after those of data processing and of halfwords, each of which has a fixed bit that differs from each later one's
 abbrev others : List Row
-others = movw ∷ movt ∷ nop ∷ yields ∷ mul ∷ mla ∷ mls ∷ long ∷ clz ∷ extend ∷ rev ∷ word_imm ∷ word_reg ∷ block ∷ branch ∷ branch_reg ∷ svc ∷ load_ex ∷ store_ex ∷ []
+others = drop 7 table
 
 -- the rows after those of data processing
 abbrev after_data : List Row
