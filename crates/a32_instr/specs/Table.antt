@@ -97,9 +97,11 @@ y = 121
 abbrev pub z : ℕ
 z = 122
 
--- The rows.
+-- The rows, each below the assembler syntax of its words as the manual has it: {c} is a condition, which may be left out, {S} an S
+-- where the flags are set, {!} a ! where the base is written back, and +/- a sign.
 
 -- data processing with an immediate (DDI 0406C A5.2.3)
+-- ADD{S}{c} Rd, Rn, #const, and so the other operations; MOV{S}{c} Rd, #const, MVN{S}{c}; CMP{c} Rn, #const, CMN{c}, TST{c}, TEQ{c}
 abbrev pub alu_imm : Row
 alu_imm = record {
   bits = runs (codes "cccc 001o ooos nnnn dddd rrrr iiii iiii");
@@ -109,6 +111,8 @@ alu_imm = record {
 }
 
 -- data processing with a register that is shifted by a number (DDI 0406C A5.2.1)
+-- ADD{S}{c} Rd, Rn, Rm{, shift}, and so the other operations; MOV{S}{c} Rd, Rm{, shift}, MVN{S}{c}; CMP{c} Rn, Rm{, shift},
+-- CMN{c}, TST{c}, TEQ{c}. A shift is LSL, LSR, ASR or ROR by #amount, or RRX.
 abbrev pub alu_by_num : Row
 alu_by_num = record {
   bits = runs (codes "cccc 000o ooos nnnn dddd aaaa akk0 mmmm");
@@ -118,6 +122,8 @@ alu_by_num = record {
 }
 
 -- data processing with a register that is shifted by another (DDI 0406C A5.2.2)
+-- ADD{S}{c} Rd, Rn, Rm, LSL Rs, and so the other operations and shifts; MOV{S}{c} Rd, Rm, LSL Rs, MVN{S}{c}; CMP{c} Rn, Rm, LSL Rs,
+-- CMN{c}, TST{c}, TEQ{c}
 abbrev pub alu_by_reg : Row
 alu_by_reg = record {
   bits = runs (codes "cccc 000o ooos nnnn dddd qqqq 0kk1 mmmm");
@@ -126,7 +132,8 @@ alu_by_reg = record {
   instr = λ f. Alu (f c) (alu_op (f o)) (f s == 1) (f d) (f n) (operand.ByReg (f m) (shift_kind (f k)) (f q));
 }
 
--- wide moves (DDI 0406C A5.2, A8.8.102, A8.8.106)
+-- wide moves (DDI 0406C A5.2)
+-- MOVW{c} Rd, #imm16 (A8.8.102)
 abbrev pub movw : Row
 movw = record {
   bits = runs (codes "cccc 0011 0000 iiii dddd iiii iiii iiii");
@@ -135,6 +142,7 @@ movw = record {
   instr = λ f. Movw (f c) (f d) (f i);
 }
 
+-- MOVT{c} Rd, #imm16 (A8.8.106)
 abbrev pub movt : Row
 movt = record {
   bits = runs (codes "cccc 0011 0100 iiii dddd iiii iiii iiii");
@@ -144,6 +152,7 @@ movt = record {
 }
 
 -- hints (DDI 0406C A5.2.11), of which NOP and YIELD are known here: every other one fits no row
+-- NOP{c} (A8.8.119)
 abbrev pub nop : Row
 nop = record {
   bits = runs (codes "cccc 0011 0010 0000 1111 0000 0000 0000");
@@ -152,6 +161,7 @@ nop = record {
   instr = λ f. Nop (f c);
 }
 
+-- YIELD{c} (A8.8.426)
 abbrev pub yields : Row
 yields = record {
   bits = runs (codes "cccc 0011 0010 0000 1111 0000 0000 0001");
@@ -161,6 +171,7 @@ yields = record {
 }
 
 -- multiplications (DDI 0406C A5.2.5)
+-- MUL{S}{c} Rd, Rn, Rm (A8.8.114)
 abbrev pub mul : Row
 mul = record {
   bits = runs (codes "cccc 0000 000s dddd 0000 mmmm 1001 nnnn");
@@ -169,6 +180,7 @@ mul = record {
   instr = λ f. Mul (f c) (f s == 1) (f d) (f n) (f m);
 }
 
+-- MLA{S}{c} Rd, Rn, Rm, Ra (A8.8.100)
 abbrev pub mla : Row
 mla = record {
   bits = runs (codes "cccc 0000 001s dddd aaaa mmmm 1001 nnnn");
@@ -177,6 +189,7 @@ mla = record {
   instr = λ f. Mla (f c) (f s == 1) (f d) (f n) (f m) (f a);
 }
 
+-- MLS{c} Rd, Rn, Rm, Ra (A8.8.101)
 abbrev pub mls : Row
 mls = record {
   bits = runs (codes "cccc 0000 0110 dddd aaaa mmmm 1001 nnnn");
@@ -185,6 +198,7 @@ mls = record {
   instr = λ f. Mls (f c) (f d) (f n) (f m) (f a);
 }
 
+-- UMULL{S}{c} RdLo, RdHi, Rn, Rm, UMLAL{S}{c}, SMULL{S}{c}, SMLAL{S}{c} (A8.8.257, A8.8.256, A8.8.189, A8.8.178)
 abbrev pub long : Row
 long = record {
   bits = runs (codes "cccc 0000 1kks hhhh llll mmmm 1001 nnnn");
@@ -194,6 +208,7 @@ long = record {
 }
 
 -- count of leading zeros (DDI 0406C A5.2.12)
+-- CLZ{c} Rd, Rm (A8.8.33)
 abbrev pub clz : Row
 clz = record {
   bits = runs (codes "cccc 0001 0110 1111 dddd 1111 0001 mmmm");
@@ -203,6 +218,7 @@ clz = record {
 }
 
 -- extended parts and reversed bytes (DDI 0406C A5.4.3)
+-- UXTB{c} Rd, Rm{, ROR #turn}, UXTH{c}, SXTB{c}, SXTH{c}, where a turn is 8, 16 or 24 (A8.8.274, A8.8.276, A8.8.233, A8.8.235)
 abbrev pub extend : Row
 extend = record {
   bits = runs (codes "cccc 0110 1u1h 1111 dddd rr00 0111 mmmm");
@@ -211,6 +227,7 @@ extend = record {
   instr = λ f. Extend (f c) (f u == 1) (f h == 1) (f d) (f m) (f r);
 }
 
+-- REV{c} Rd, Rm (A8.8.145)
 abbrev pub rev : Row
 rev = record {
   bits = runs (codes "cccc 0110 1011 1111 dddd 1111 0011 mmmm");
@@ -220,6 +237,7 @@ rev = record {
 }
 
 -- load and store of a word or a byte (DDI 0406C A5.3), with an immediate offset and with a register
+-- LDR{c} Rt, [Rn{, #+/-imm12}], LDR{c} Rt, [Rn, #+/-imm12]!, LDR{c} Rt, [Rn], #+/-imm12; and so LDRB{c}, STR{c}, STRB{c}
 abbrev pub word_imm : Row
 word_imm = record {
   bits = runs (codes "cccc 010p ubwl nnnn tttt iiii iiii iiii");
@@ -228,6 +246,7 @@ word_imm = record {
   instr = λ f. Word (f c) (f l == 1) (f b == 1) (index_of (f p) (f w)) (f n) (f t) (offset.Imm (f u == 1) (f i));
 }
 
+-- LDR{c} Rt, [Rn, +/-Rm{, shift}]{!}, LDR{c} Rt, [Rn], +/-Rm{, shift}; and so LDRB{c}, STR{c}, STRB{c}
 abbrev pub word_reg : Row
 word_reg = record {
   bits = runs (codes "cccc 011p ubwl nnnn tttt aaaa akk0 mmmm");
@@ -237,6 +256,7 @@ word_reg = record {
 }
 
 -- load and store of a halfword, and load of a signed byte (DDI 0406C A5.2.8), with an immediate offset and with a register
+-- LDRH{c} Rt, [Rn{, #+/-imm8}], LDRH{c} Rt, [Rn, #+/-imm8]!, LDRH{c} Rt, [Rn], #+/-imm8; and so LDRSB{c}, LDRSH{c}, STRH{c}
 abbrev pub half_imm : Row
 half_imm = record {
   bits = runs (codes "cccc 000p u1wl nnnn tttt iiii 1xy1 iiii");
@@ -245,6 +265,7 @@ half_imm = record {
   instr = λ f. Half (f c) (half_kind (f l) (f x) (f y)) (index_of (f p) (f w)) (f n) (f t) (offset.Imm (f u == 1) (f i));
 }
 
+-- LDRH{c} Rt, [Rn, +/-Rm]{!}, LDRH{c} Rt, [Rn], +/-Rm; and so LDRSB{c}, LDRSH{c}, STRH{c}
 abbrev pub half_reg : Row
 half_reg = record {
   bits = runs (codes "cccc 000p u0wl nnnn tttt 0000 1xy1 mmmm");
@@ -254,6 +275,8 @@ half_reg = record {
 }
 
 -- load and store of a block of registers, whose list is g (DDI 0406C A5.5)
+-- LDMIA{c} Rn{!}, registers, LDMIB{c}, LDMDA{c}, LDMDB{c} (A8.8.58 to A8.8.61); STMIA{c} Rn{!}, registers, STMIB{c}, STMDA{c},
+-- STMDB{c} (A8.8.199 to A8.8.202)
 abbrev pub block : Row
 block = record {
   bits = runs (codes "cccc 100p u0wl nnnn gggg gggg gggg gggg");
@@ -263,6 +286,7 @@ block = record {
 }
 
 -- branch, with a link or without (DDI 0406C A5.5)
+-- B{c} label, BL{c} label (A8.8.18, A8.8.25)
 abbrev pub branch : Row
 branch = record {
   bits = runs (codes "cccc 101l iiii iiii iiii iiii iiii iiii");
@@ -272,6 +296,7 @@ branch = record {
 }
 
 -- branch to a register's address, with a link or without (DDI 0406C A5.2.12)
+-- BX{c} Rm, BLX{c} Rm (A8.8.27, A8.8.26)
 abbrev pub branch_reg : Row
 branch_reg = record {
   bits = runs (codes "cccc 0001 0010 1111 1111 1111 00l1 mmmm");
@@ -281,6 +306,7 @@ branch_reg = record {
 }
 
 -- supervisor call (DDI 0406C A5.6)
+-- SVC{c} #imm24 (A8.8.228)
 abbrev pub svc : Row
 svc = record {
   bits = runs (codes "cccc 1111 iiii iiii iiii iiii iiii iiii");
@@ -290,6 +316,7 @@ svc = record {
 }
 
 -- load-exclusive and store-exclusive (DDI 0406C A5.2.10)
+-- LDREX{c} Rt, [Rn], LDREXB{c}, LDREXH{c}; LDREXD{c} Rt, Rt2, [Rn] (A8.8.75 to A8.8.78)
 abbrev pub load_ex : Row
 load_ex = record {
   bits = runs (codes "cccc 0001 1zz1 nnnn tttt 1111 1001 1111");
@@ -298,6 +325,7 @@ load_ex = record {
   instr = λ f. LoadEx (f c) (exclusive_size (f z)) (f n) (f t);
 }
 
+-- STREX{c} Rd, Rt, [Rn], STREXB{c}, STREXH{c}; STREXD{c} Rd, Rt, Rt2, [Rn] (A8.8.212 to A8.8.215)
 abbrev pub store_ex : Row
 store_ex = record {
   bits = runs (codes "cccc 0001 1zz0 nnnn dddd 1111 1001 tttt");
@@ -307,6 +335,7 @@ store_ex = record {
 }
 
 -- clear-exclusive (DDI 0406C A5.7.1)
+-- CLREX (A8.8.32)
 abbrev pub clrex : Row
 clrex = record {
   bits = runs (codes "1111 0101 0111 1111 1111 0000 0001 1111");
@@ -316,6 +345,7 @@ clrex = record {
 }
 
 -- barriers (DDI 0406C A5.7.1)
+-- DSB option, DMB option, ISB option (A8.8.44, A8.8.43, A8.8.53)
 abbrev pub barrier : Row
 barrier = record {
   bits = runs (codes "1111 0101 0111 1111 1111 0000 01bb oooo");
