@@ -1,10 +1,10 @@
 -- The registers of a list, from each register up.
-use Rattle.std.proofs.Common.{◌≡◌, ℕ, zero, suc, ◌+◌, ◌-◌, ◌/◌, ◌%◌, ◌^◌, ◌<◌, ◌≤◌, ◌==◌, Bool, true, false, if◌then◌else◌, List, [], ◌∷◌, length, slice_index, slice_set, drop, arith, refl, sym, ◌∙◌, ap, subst, shr-shr}
-use Rattle.std.proofs.lemmas.List.{drop_more}
+use Rattle.std.proofs.Common.{◌≡◌, ℕ, zero, suc, ◌+◌, ◌-◌, ◌/◌, ◌%◌, ◌^◌, ◌<◌, ◌≤◌, ◌==◌, Bool, true, false, if◌then◌else◌, List, [], ◌∷◌, length, slice_index, slice_set, arith, refl, sym, ◌∙◌, ap, subst, shr-shr}
+use Rattle.std.proofs.lemmas.Bool.{eqb-true}
 use Rattle.std.proofs.lemmas.Nat.{ones-le}
 use lib.Count.{ones, ones_step}
 use Rattle.llsc_base.specs.Words.{low32}
-use Rattle.a32_instr.specs.Block.{is_listed, registers_of, count_of, loaded}
+use Rattle.a32_instr.specs.Block.{is_listed, registers_of, count_of, below, loaded, value_of}
 use Rattle.a32_compute.specs.Lists.{highest, AreLeft}
 
 -- all of them
@@ -83,6 +83,30 @@ registers_most list = subst (λ (rs : List ℕ). length rs ≤ 16) (from_lowest 
 pub ones_most : (list : ℕ) → list < 2 ^ 16 → ones list ≤ 16
 ones_most list small = ones-le 16 list small
 
+-- Those that are below.
+
+below_next : (list r : ℕ) → below list (r + 1) ≡ (if is_listed list r then below list r + 1 else below list r)
+unfolding below
+below_next list r = let more : r + 1 ≡ suc r = omega arith in ap (below list) more
+
+choose_then : (b : Bool) (x y : ℕ) → b ≡ true → (if b then x else y) ≡ x
+choose_then true x y e = refl
+choose_then false x y e = cc
+
+choose_else : (b : Bool) (x y : ℕ) → b ≡ false → (if b then x else y) ≡ y
+choose_else true x y e = cc
+choose_else false x y e = refl
+
+below_listed : (list r : ℕ) → is_listed list r ≡ true → below list (r + 1) ≡ below list r + 1
+below_listed list r e = below_next list r ∙ choose_then (is_listed list r) (below list r + 1) (below list r) e
+
+below_unlisted : (list r : ℕ) → is_listed list r ≡ false → below list (r + 1) ≡ below list r
+below_unlisted list r e = below_next list r ∙ choose_else (is_listed list r) (below list r + 1) (below list r) e
+
+none_below : (list : ℕ) → 0 ≡ below list 0
+unfolding below
+none_below list = refl
+
 -- Those that are left.
 
 pub left_first : (list : ℕ) → AreLeft list 0 0
@@ -91,6 +115,7 @@ left_first list =
     let whole : highest list (16 - 0) ≡ registers_of list = ap (highest list) all ∙ from_lowest list in
     record {
       few = omega arith;
+      passed = none_below list;
       same = λ i. ap (λ rs. slice_index rs i) whole ∙ ap (slice_index (registers_of list)) (omega arith);
       count = let none : 0 + length (highest list (16 - 0)) ≡ length (highest list (16 - 0)) = omega arith in none ∙ ap (λ rs. length rs) whole;
     }
@@ -99,6 +124,7 @@ left_first list =
 pub left_unlisted : (list r number : ℕ) → r < 16 → is_listed list r ≡ false → AreLeft list r number → AreLeft list (r + 1) number
 left_unlisted list r number low unlisted left = record {
   few = omega (arith, left.few);
+  passed = left.passed ∙ sym (below_unlisted list r unlisted);
   same = λ i. ap (λ rs. slice_index rs i) (sym (at_unlisted list r low unlisted)) ∙ left.same i;
   count = ap (λ rs. number + length rs) (sym (at_unlisted list r low unlisted)) ∙ left.count;
 }
@@ -126,6 +152,7 @@ module _ (list r number : ℕ) (low : r < 16) (listed : is_listed list r ≡ tru
   pub left_listed : AreLeft list (r + 1) (number + 1)
   left_listed = record {
     few = omega (arith, left.few);
+    passed = ap (λ n. n + 1) left.passed ∙ sym (below_listed list r listed);
     same = λ i.
         let further : number + suc i ≡ number + 1 + i = omega arith in
         ap (λ rs. slice_index rs (suc i)) (sym (at_listed list r low listed)) ∙ left.same (suc i) ∙ ap (slice_index (registers_of list)) further;
@@ -145,15 +172,58 @@ highest_filled list (suc k) e = grown (is_listed list (15 - suc k)) (15 - suc k)
 pub pc_counts : (list : ℕ) → is_listed list 15 ≡ true → 1 ≤ count_of list
 pc_counts list e = subst (λ (rs : List ℕ). 1 ≤ length rs) (from_lowest list) (highest_filled list 15 e)
 
+left_next : (list r : ℕ) (b : Bool) → r < 16 → is_listed list r ≡ b → AreLeft list r (below list r) → AreLeft list (r + 1) (below list (r + 1))
+left_next list r true low e left = subst (AreLeft list (r + 1)) (sym (below_listed list r e)) (left_listed list r (below list r) low e left)
+left_next list r false low e left = subst (AreLeft list (r + 1)) (sym (below_unlisted list r e)) (left_unlisted list r (below list r) low e left)
+
+-- those from r up are left behind those below
+left_at : (list r : ℕ) → r ≤ 16 → AreLeft list r (below list r)
+left_at list zero few = subst (AreLeft list 0) (none_below list) (left_first list)
+left_at list (suc r) few =
+    let more : r + 1 ≡ suc r = omega arith in
+    subst (λ q. AreLeft list q (below list q)) more (left_next list r (is_listed list r) (omega (arith, few)) refl (left_at list r (omega (arith, few))))
+
+-- the PC, where it is listed, is the last
+pub pc_last : (list : ℕ) → is_listed list 15 ≡ true → below list 15 ≡ count_of list - 1
+pc_last list e =
+    let all : below list 16 ≡ count_of list = left_end list 16 (below list 16) (omega arith) (left_at list 16 (omega arith)) in
+    let last : below list 16 ≡ below list 15 + 1 = below_listed list 15 e in
+    omega (arith, all, last)
+
+module _ (list i : ℕ) (counts : i < count_of list) where
+  abbrev IsBelow : ℕ → Type 0
+  IsBelow k = (r number : ℕ) → r + k ≡ 16 → AreLeft list r number → number ≤ i → below list (slice_index (registers_of list) i) ≡ i
+
+  -- register r is the one of this number, or one further up is
+  here_or_up : (k r number : ℕ) → r + suc k ≡ 16 → AreLeft list r number → number ≤ i → IsBelow k
+      → (listed here : Bool) → is_listed list r ≡ listed → (number == i) ≡ here → below list (slice_index (registers_of list) i) ≡ i
+  here_or_up k r number whole left few up true true e same =
+      let is : number ≡ i = eqb-true number i same in
+      ap (λ q. below list (slice_index (registers_of list) q)) (sym is)
+      ∙ ap (below list) (next_listed list r number (omega (arith, whole)) e left) ∙ sym left.passed ∙ is
+  here_or_up k r number whole left few up true false e other =
+      let behind : number + 1 ≤ i = grind (arith, few, other) in
+      up (r + 1) (number + 1) (omega (arith, whole)) (left_listed list r number (omega (arith, whole)) e left) behind
+  here_or_up k r number whole left few up false here e same =
+      up (r + 1) number (omega (arith, whole)) (left_unlisted list r number (omega (arith, whole)) e left) few
+
+  below_from : (k : ℕ) → IsBelow k
+  below_from zero r number whole left few =
+      let all : number ≡ count_of list = left_end list r number (omega (arith, whole)) left in
+      absurd (omega (arith, all, few, counts))
+  below_from (suc k) r number whole left few = here_or_up k r number whole left few (below_from k) (is_listed list r) (number == i) refl refl
+
+-- below the register of a number are so many
+pub below_is : (list i : ℕ) → i < count_of list → below list (slice_index (registers_of list) i) ≡ i
+below_is list i counts = below_from list i counts 16 0 0 (omega arith) (left_first list) (omega arith)
+
 -- The loaded registers.
 
-pub loaded_all : (list r : ℕ) (values regs : List ℕ) → 16 ≤ r → loaded (highest list (16 - r)) values regs ≡ regs
+pub loaded_all : (list r : ℕ) (words regs : List ℕ) → 16 ≤ r → loaded (highest list (16 - r)) list words regs ≡ regs
 unfolding loaded
-loaded_all list r values regs past = ap (λ (rs : List ℕ). loaded rs values regs) (at_end list r past)
+loaded_all list r words regs past = ap (λ (rs : List ℕ). loaded rs list words regs) (at_end list r past)
 
-pub loaded_next : (list r number : ℕ) (values regs : List ℕ) → r < 16 → is_listed list r ≡ true → number < length values
-    → loaded (highest list (16 - r)) (drop number values) regs ≡ loaded (highest list (16 - (r + 1))) (drop (number + 1) values) (slice_set regs r (low32 (slice_index values number)))
+pub loaded_next : (list r : ℕ) (words regs : List ℕ) → r < 16 → is_listed list r ≡ true
+    → loaded (highest list (16 - r)) list words regs ≡ loaded (highest list (16 - (r + 1))) list words (slice_set regs r (value_of list words r))
 unfolding loaded
-loaded_next list r number values regs low e less =
-    ap (λ (rs : List ℕ). loaded rs (drop number values) regs) (at_listed list r low e)
-    ∙ ap (λ (vs : List ℕ). loaded (r ∷ highest list (16 - (r + 1))) vs regs) (drop_more values number 0 less)
+loaded_next list r words regs low e = ap (λ (rs : List ℕ). loaded rs list words regs) (at_listed list r low e)

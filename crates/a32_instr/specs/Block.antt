@@ -1,7 +1,8 @@
 -- Loads and stores of a block of registers (DDI 0406C A5.5, A8.8.58 to A8.8.61, A8.8.199 to A8.8.202).
-use Rattle.std.specs.Prelude.{ℕ, ◌+◌, ◌-◌, ◌*◌, ◌/◌, ◌%◌, ◌^◌, ◌==◌, not, nat_lt, if◌then◌else◌, Bool, true, false, Option, Some, None, List, [], ◌∷◌, filter, length, slice_index, slice_set}
+use Rattle.std.specs.Prelude.{ℕ, zero, suc, ◌+◌, ◌-◌, ◌*◌, ◌/◌, ◌%◌, ◌^◌, ◌==◌, not, nat_lt, if◌then◌else◌, Bool, true, false, Option, Some, None, List, [], ◌∷◌, filter, length, slice_index, slice_set}
 use Rattle.llsc_base.specs.Images.{Program, first_barred, word_place}
 use Rattle.llsc_base.specs.declared.access.BarredWord.{BarredWord}
+use Rattle.llsc_base.specs.declared.access.Place.{Place}
 use Rattle.llsc_base.specs.declared.outside.Ask.{Ask}
 use Rattle.llsc_base.specs.declared.outside.Ask.TheVariants.{Load, Store}
 use Rattle.a32_instr.specs.State.{State, Effect, register, advanced, jumps}
@@ -24,9 +25,14 @@ count_of list = length (registers_of list)
 abbrev pub block_size : ℕ → ℕ
 block_size list = 4 * count_of list
 
--- The address of the lowest word of so many bytes. Upwards from the base the block begins at the base, or with `before`
--- a word above it; downwards it ends at the base, or with `before` a word below it.
-abbrev pub lowest_address : Bool → Bool → ℕ → ℕ → ℕ
+-- how many registers of a list are below r
+unfoldable pub below : ℕ → ℕ → ℕ
+below list zero = 0
+below list (suc r) = if is_listed list r then below list r + 1 else below list r
+
+-- The address of the lowest word of so many bytes, by the mode: increment after (IA) begins at the base, increment before (IB)
+-- a word above it, decrement after (DA) ends at the base, and decrement before (DB) a word below it.
+abbrev pub lowest_address : (up before : Bool) → ℕ → ℕ → ℕ
 lowest_address true false base bytes = base
 lowest_address true true base bytes = low32 (base + 4)
 lowest_address false false base bytes = low32 (base + (2 ^ 32 - bytes) + 4)
@@ -41,26 +47,33 @@ abbrev pub block_back : Bool → Bool → ℕ → ℕ → State → State
 block_back wback up rn bytes state =
     record state { regs = base_regs wback rn (moved (register state rn) up bytes) state.regs }
 
--- the access of one of the registers: the word at its place in the list, from the lowest address up
-abbrev pub block_ask : Bool → ℕ → List ℕ → State → ℕ → Ask
-block_ask true lowest registers state i = Load (word_place (lowest + 4 * i))
-block_ask false lowest registers state i = Store (word_place (lowest + 4 * i)) (register state (slice_index registers i))
+-- where the word of a register of a list is: above the lowest by the words of those below
+abbrev pub word_of : ℕ → ℕ → ℕ → Place
+word_of lowest list r = word_place (lowest + 4 * below list r)
 
--- r0 to r14 with loaded values, those of a list in order (the PC, which would come last, is none of them)
-unfoldable pub loaded : List ℕ → List ℕ → List ℕ → List ℕ
-loaded [] values regs = regs
-loaded (r ∷ registers) [] regs = regs
-loaded (r ∷ registers) (value ∷ values) regs = loaded registers values (slice_set regs r (low32 value))
+-- the access of one of the registers
+abbrev pub block_ask : Bool → ℕ → ℕ → State → ℕ → Ask
+block_ask true lowest list state r = Load (word_of lowest list r)
+block_ask false lowest list state r = Store (word_of lowest list r) (register state r)
+
+-- the value of a register of a list, by the words of the block from the lowest up
+abbrev pub value_of : ℕ → List ℕ → ℕ → ℕ
+value_of list words r = low32 (slice_index words (below list r))
+
+-- r0 to r14 where each of these registers of a list has its value (the PC is none of r0 to r14)
+unfoldable pub loaded : List ℕ → ℕ → List ℕ → List ℕ → List ℕ
+loaded [] list words regs = regs
+loaded (r ∷ registers) list words regs = loaded registers list words (slice_set regs r (value_of list words r))
 
 abbrev pub with_block : ℕ → List ℕ → State → State
-with_block list values state = record state { regs = loaded (registers_of list) values state.regs }
+with_block list words state = record state { regs = loaded (registers_of list) list words state.regs }
 
--- the load of a block is complete: a listed PC is written last, with the last value
+-- the load of a block is complete: a listed PC is written last
 abbrev pub block_loaded : ℕ → List ℕ → State → Effect
-block_loaded list values back =
+block_loaded list words back =
     if is_listed list 15
-    then jumps (with_block list values back) (low32 (slice_index values (count_of list - 1)))
-    else completes (advanced (with_block list values back))
+    then jumps (with_block list words back) (value_of list words 15)
+    else completes (advanced (with_block list words back))
 
 abbrev pub block_done : Bool → ℕ → List ℕ → State → Effect
 block_done load list replies back = if load then block_loaded list replies back else completes (advanced back)
@@ -69,7 +82,7 @@ block_done load list replies back = if load then block_loaded list replies back 
 abbrev pub block_next : Bool → ℕ → ℕ → State → List ℕ → State → Effect
 block_next load lowest list back replies state =
     if nat_lt (length replies) (count_of list)
-    then asks (block_ask load lowest (registers_of list) state (length replies))
+    then asks (block_ask load lowest list state (slice_index (registers_of list) (length replies)))
     else block_done load list replies back
 
 abbrev pub unless_barred : Option BarredWord → Effect → Effect

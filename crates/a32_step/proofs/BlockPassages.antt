@@ -1,11 +1,11 @@
 -- A block's words that are accessed one after another.
-use Rattle.std.proofs.Common.{◌≡◌, ◌<◌, ◌≤◌, ◌+◌, ◌*◌, ◌%◌, ◌^◌, ℕ, Bool, true, false, if◌then◌else◌, not, Option, None, Some, refl, List, length, arith, sym, ap, subst, ◌∙◌}
+use Rattle.std.proofs.Common.{◌≡◌, ◌<◌, ◌≤◌, ◌+◌, ◌*◌, ◌%◌, ◌^◌, ℕ, Bool, true, false, if◌then◌else◌, not, Option, None, Some, refl, List, length, slice_index, arith, sym, ap, subst, ◌∙◌}
 use Rattle.std.proofs.lemmas.Bool.{le-ltb, lt-ltb}
 use Rattle.llsc_base.specs.declared.access.Size.TheVariants.{B4}
 use Rattle.llsc_base.specs.Images.{Program, first_barred}
 use Rattle.llsc_base.specs.declared.outside.Ask.{Ask}
 use Rattle.llsc_base.specs.declared.outside.Ask.TheVariants.{Load, Store}
-use Rattle.a32_instr.specs.Block.{block, block_ask, block_at, block_back, block_done, block_next, block_size, count_of, is_listed, lowest_address, registers_of, unless_barred}
+use Rattle.a32_instr.specs.Block.{below, block, block_ask, block_at, block_back, block_done, block_next, block_size, count_of, is_listed, lowest_address, registers_of, unless_barred}
 use Rattle.a32_instr.specs.State.{State, Effect, register}
 use Rattle.llsc_base.specs.Effects.{asks, stops, barred}
 use Rattle.a32_step.specs.declared.execution.blocks.Transfer.{Transfer}
@@ -33,17 +33,21 @@ module _ (program : Program) (load : Bool) (lowest list : ℕ) (state : State) (
   short : length had < count_of list
   short = less list r (length had) low listed left
 
-  next_ask : (b : Bool) → word_ask b addr r state ≡ block_ask b lowest (registers_of list) state (length had)
-  next_ask true = ap (λ a. Load (record { addr = a; size = B4 })) at
-  next_ask false =
-      ap (λ a. Store (record { addr = a; size = B4 }) (register state r)) at
-      ∙ ap (λ q. Store (record { addr = (lowest + 4 * length had) % 2 ^ 32; size = B4 }) (register state q)) (sym (next_listed list r (length had) low listed left))
+  word_at : addr ≡ (lowest + 4 * below list r) % 2 ^ 32
+  word_at = at ∙ ap (λ n. (lowest + 4 * n) % 2 ^ 32) left.passed
+
+  own_ask : (b : Bool) → word_ask b addr r state ≡ block_ask b lowest list state r
+  own_ask true = ap (λ a. Load (record { addr = a; size = B4 })) word_at
+  own_ask false = ap (λ a. Store (record { addr = a; size = B4 }) (register state r)) word_at
+
+  next_ask : (b : Bool) → word_ask b addr r state ≡ block_ask b lowest list state (slice_index (registers_of list) (length had))
+  next_ask b = own_ask b ∙ ap (block_ask b lowest list state) (sym (next_listed list r (length had) low listed left))
 
   -- it is the access that the block asks for next
   pub asked : (back : State) → block_at program load lowest list back had state ≡ asks ask
   asked back =
       ap (λ b. unless_barred b (block_next load lowest list back had state)) passes
-      ∙ ap (λ b. if b then asks (block_ask load lowest (registers_of list) state (length had)) else block_done load list had back) (lt-ltb (length had) (count_of list) short)
+      ∙ ap (λ b. if b then asks (block_ask load lowest list state (slice_index (registers_of list) (length had))) else block_done load list had back) (lt-ltb (length had) (count_of list) short)
       ∙ ap asks (sym (is ∙ next_ask load))
 
   -- and may be made
@@ -51,7 +55,7 @@ module _ (program : Program) (load : Bool) (lowest list : ℕ) (state : State) (
   may words =
       let sound = ask_sound (AreWords state.regs) program had load lowest list state (register_fits state) passes short in
       subst (IsAskIn (length program.bytes)) (sym (is ∙ next_ask load))
-      (passed_placed program (block_ask load lowest (registers_of list) state (length had)) sound.passes, sound.fits words)
+      (passed_placed program (block_ask load lowest list state (slice_index (registers_of list) (length had))) sound.passes, sound.fits words)
 
 -- ---- a block, by its accesses
 
@@ -112,7 +116,7 @@ module _ (program : Program) (t : Transfer) (old : ExecutionState) where
         done_is =
             effect_is standing.replies
             ∙ ap (λ b. unless_barred b (block_next t.load lowest t.list (back old.state) standing.replies begun.state)) passes
-            ∙ ap (λ b. if b then asks (block_ask t.load lowest (registers_of t.list) begun.state (length standing.replies)) else block_done t.load t.list standing.replies (back old.state))
+            ∙ ap (λ b. if b then asks (block_ask t.load lowest t.list begun.state (slice_index (registers_of t.list) (length standing.replies))) else block_done t.load t.list standing.replies (back old.state))
             (le-ltb (length standing.replies) (count_of t.list) all)
             ∙ ap (λ (s : ExecutionState). block_done t.load t.list standing.replies (back s.state)) (sym stands_so)
 

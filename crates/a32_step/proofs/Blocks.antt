@@ -1,14 +1,13 @@
 -- What a block asks for is sound.
-use Rattle.std.proofs.Common.{◌≡◌, ◌≤◌, ◌<◌, ◌+◌, ◌*◌, ◌^◌, ◌-◌, ℕ, zero, suc, Bool, true, false, not, nat_lt, List, Option, None, Some, length, slice_index, arith, refl, subst, if◌then◌else◌}
+use Rattle.std.proofs.Common.{◌≡◌, ◌≤◌, ◌<◌, ◌+◌, ◌*◌, ◌^◌, ◌-◌, ℕ, zero, suc, Bool, true, false, not, nat_lt, List, Option, None, Some, length, slice_index, arith, refl, subst, sym, if◌then◌else◌}
 use Rattle.std.proofs.lemmas.Bool.{ltb-true}
 use Rattle.llsc_base.specs.Images.{Program, bar_of, first_barred, or_later, word_place}
 use Rattle.llsc_base.specs.declared.access.Bar.{Bar}
 use Rattle.llsc_base.specs.declared.access.BarredWord.{BarredWord}
 use Rattle.a32_instr.specs.State.{State, Effect, register, advanced, jumps}
 use Rattle.llsc_base.specs.Effects.{asks, completes}
-use Rattle.llsc_base.specs.Words.{low32}
-use Rattle.a32_instr.specs.Block.{is_listed, registers_of, count_of, block_ask, block_loaded, block_done, block_next, block_at, unless_barred, with_block}
-use Rattle.a32_compute.proofs.Lists.{registers_most}
+use Rattle.a32_instr.specs.Block.{is_listed, registers_of, count_of, below, block_ask, block_loaded, block_done, block_next, block_at, unless_barred, value_of, with_block, word_of}
+use Rattle.a32_compute.proofs.Lists.{below_is, registers_most}
 use Rattle.a32_step.proofs.Effects.{IsSound, Stands, barred_own, chosen, jumps_stands}
 
 -- where no word is barred, none is
@@ -35,29 +34,36 @@ none_barred program store addr (suc count) (suc i) none less =
 module _ (words : Type 0) (program : Program) (replies : List ℕ) where
   loaded_stands : (list : ℕ) (back : State) → Stands words program replies (block_loaded list replies back)
   loaded_stands list back =
-      chosen words program replies (is_listed list 15) (jumps (with_block list replies back) (low32 (slice_index replies (count_of list - 1)))) (completes (advanced (with_block list replies back)))
-      (jumps_stands words program replies (with_block list replies back) (low32 (slice_index replies (count_of list - 1)))) tt
+      chosen words program replies (is_listed list 15) (jumps (with_block list replies back) (value_of list replies 15)) (completes (advanced (with_block list replies back)))
+      (jumps_stands words program replies (with_block list replies back) (value_of list replies 15)) tt
 
   done_stands : (load : Bool) (list : ℕ) (back : State) → Stands words program replies (block_done load list replies back)
   done_stands load list back =
       chosen words program replies load (block_loaded list replies back) (completes (advanced back)) (loaded_stands list back) tt
 
+  -- the word of the register that comes next isn't barred
+  next_word : (store : Bool) (lowest list : ℕ) → first_barred program store lowest (count_of list) ≡ None → length replies < count_of list
+      → bar_of program (word_of lowest list (slice_index (registers_of list) (length replies))) store ≡ None
+  next_word store lowest list none less =
+      subst (λ n. bar_of program (word_place (lowest + 4 * n)) store ≡ None) (sym (below_is list (length replies) less))
+      (none_barred program store lowest (count_of list) (length replies) none less)
+
   pub ask_sound : (load : Bool) (lowest list : ℕ) (state : State) → (words → (r : ℕ) → register state r < 2 ^ 32) → first_barred program (not load) lowest (count_of list) ≡ None
-      → length replies < count_of list → IsSound words program replies (block_ask load lowest (registers_of list) state (length replies))
+      → length replies < count_of list → IsSound words program replies (block_ask load lowest list state (slice_index (registers_of list) (length replies)))
   ask_sound true lowest list state small none less =
       let most : count_of list ≤ 16 = registers_most list in
-      record { passes = none_barred program false lowest (count_of list) (length replies) none less; room = omega (arith, most, less); fits = λ are. tt }
+      record { passes = next_word false lowest list none less; room = omega (arith, most, less); fits = λ are. tt }
   ask_sound false lowest list state small none less =
       let most : count_of list ≤ 16 = registers_most list in
       record {
-        passes = none_barred program true lowest (count_of list) (length replies) none less;
+        passes = next_word true lowest list none less;
         room = omega (arith, most, less);
         fits = λ are. small are (slice_index (registers_of list) (length replies));
       }
 
   next_stands : (load : Bool) (lowest list : ℕ) (back state : State) (more : Bool) → nat_lt (length replies) (count_of list) ≡ more
       → (words → (r : ℕ) → register state r < 2 ^ 32) → first_barred program (not load) lowest (count_of list) ≡ None
-      → Stands words program replies (if more then asks (block_ask load lowest (registers_of list) state (length replies)) else block_done load list replies back)
+      → Stands words program replies (if more then asks (block_ask load lowest list state (slice_index (registers_of list) (length replies))) else block_done load list replies back)
   next_stands load lowest list back state true test small none = ask_sound load lowest list state small none (ltb-true (length replies) (count_of list) test)
   next_stands load lowest list back state false test small none = done_stands load list back
 

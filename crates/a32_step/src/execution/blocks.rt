@@ -44,7 +44,7 @@ impl Execution {
     }
 
     /// Each listed register gets its reply.
-    #[tactic(auto, using(a32_compute::proofs::Lists::from_lowest, a32_compute::proofs::Lists::at_unlisted, a32_compute::proofs::Lists::loaded_all, a32_compute::proofs::Lists::loaded_next, a32_compute::proofs::Lists::at_listed))]
+    #[tactic(auto, using(a32_compute::proofs::Lists::from_lowest, a32_compute::proofs::Lists::at_unlisted, a32_compute::proofs::Lists::loaded_all, a32_compute::proofs::Lists::left_first, a32_compute::proofs::Lists::left_unlisted, a32_compute::proofs::Lists::less))]
     fn set_listed(&mut self, list: u16)
         requires { count_of list ≤ length self.old.replies }
         ensures { self.new ≡ record self.old { state = with_block list self.old.replies self.old.state } }
@@ -61,7 +61,7 @@ impl Execution {
     }
 
     /// A block is loaded: the base moves, and then the registers get their words.
-    #[tactic(auto, using(a32_compute::proofs::Lists::pc_counts))]
+    #[tactic(auto, using(a32_compute::proofs::Lists::pc_counts, a32_compute::proofs::Lists::pc_last))]
     fn finish_block(&mut self, transfer: Transfer, count: u32) -> Progress
         requires count { count ≡ count_of transfer.list }
         requires most { count ≤ 16 }
