@@ -1,4 +1,5 @@
 ghost use Rattle.std.specs.Prelude.{◌≡◌};
+ghost use Rattle.a32_instr.specs.Effect.{condition_of};
 ghost use Rattle.a32_instr.specs.Fields.{is_compare, is_move};
 
 use crate::conditions::Cond;
@@ -291,4 +292,35 @@ pub enum Instr {
         kind: BarrierKind,
         option: u8,
     },
+}
+
+impl Instr {
+    /// The condition of an instruction; one that has none is carried out always.
+    pub fn cond(&self) -> Cond
+        ensures { result ≡ condition_of self.now }
+    {
+        match self {
+            Instr::Alu { cond, .. } => *cond,
+            Instr::Movw { cond, .. } => *cond,
+            Instr::Movt { cond, .. } => *cond,
+            Instr::Nop { cond } => *cond,
+            Instr::Yield { cond } => *cond,
+            Instr::Mul { cond, .. } => *cond,
+            Instr::Mla { cond, .. } => *cond,
+            Instr::Mls { cond, .. } => *cond,
+            Instr::Long { cond, .. } => *cond,
+            Instr::Clz { cond, .. } => *cond,
+            Instr::Extend { cond, .. } => *cond,
+            Instr::Rev { cond, .. } => *cond,
+            Instr::Word { cond, .. } => *cond,
+            Instr::Half { cond, .. } => *cond,
+            Instr::Block { cond, .. } => *cond,
+            Instr::Branch { cond, .. } => *cond,
+            Instr::BranchReg { cond, .. } => *cond,
+            Instr::Svc { cond, .. } => *cond,
+            Instr::LoadEx { cond, .. } => *cond,
+            Instr::StoreEx { cond, .. } => *cond,
+            Instr::Clrex | Instr::Barrier { .. } => Cond::ALWAYS,
+        }
+    }
 }

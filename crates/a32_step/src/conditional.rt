@@ -1,7 +1,6 @@
 //! A32 instructions that are kept ready, each with its condition.
 ghost use Rattle.std.specs.Prelude.{◌≡◌, Ok, Some};
 
-use a32_compute::conditions::condition;
 use a32_decode::decode;
 use a32_instr::{Cond, Instr};
 use guest_core::Ready;
@@ -44,7 +43,7 @@ impl Ready for Conditional {
             return None;
         };
         Some(Conditional {
-            cond: condition(&instr),
+            cond: instr.cond(),
             instr,
             fill: [0, 0],
         })

@@ -5,7 +5,6 @@ ghost use Rattle.a32_instr.specs.Effect.{condition_of};
 ghost use Rattle.a32_instr.specs.Table.{meaning, table};
 ghost use Rattle.a32_step.specs.Machine.{decoded, instr_at};
 
-use a32_compute::conditions::condition;
 use a32_decode::decode;
 use a32_instr::{Cond, Instr};
 use llsc_base::{DecodeFault, Image, Stop};
@@ -129,7 +128,7 @@ impl Slot {
         let instr = decode(word)?;
         *self = Slot {
             word,
-            cond: condition(&instr),
+            cond: instr.cond(),
             instr,
         };
         Ok(())

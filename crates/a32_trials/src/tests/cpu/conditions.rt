@@ -2,7 +2,7 @@
 ghost use Rattle.guest_core.specs.Machine.{AwaitsNothing};
 
 use super::*;
-use a32_compute::conditions::{condition, passes};
+use a32_compute::conditions::passes;
 use a32_decode::decode;
 
 /// A move of 1 to r0 under each condition, and the flags at which it was done: bit F is set for flags F.
@@ -49,7 +49,7 @@ fn passes_conditions(rt: HostRuntime) -> Result<(), Fail> {
 /// Whether flags meet the condition of a word, by the functions that a core asks.
 fn meets(word: u32, flags: Flags) -> bool {
     match decode(word) {
-        Ok(instr) => passes(condition(&instr), flags),
+        Ok(instr) => passes(instr.cond(), flags),
         Err(_) => false,
     }
 }
