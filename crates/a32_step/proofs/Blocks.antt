@@ -1,12 +1,12 @@
 -- What a block asks for is sound.
-use Rattle.std.proofs.Common.{◌≡◌, ◌≤◌, ◌<◌, ◌+◌, ◌*◌, ◌^◌, ◌-◌, ℕ, zero, suc, Bool, true, false, not, nat_lt, List, Option, None, Some, length, slice_index, arith, refl, subst, sym, if◌then◌else◌}
+use Rattle.std.proofs.Common.{◌≡◌, ◌≤◌, ◌<◌, ◌+◌, ◌*◌, ◌^◌, ℕ, zero, suc, Bool, true, false, not, nat_lt, List, Option, None, Some, length, slice_index, arith, refl, subst, sym, if◌then◌else◌}
 use Rattle.std.proofs.lemmas.Bool.{ltb-true}
 use Rattle.llsc_base.specs.Images.{Program, bar_of, first_barred, or_later, word_place}
 use Rattle.llsc_base.specs.declared.access.Bar.{Bar}
 use Rattle.llsc_base.specs.declared.access.BarredWord.{BarredWord}
 use Rattle.a32_instr.specs.State.{State, Effect, register, advanced, jumps}
 use Rattle.llsc_base.specs.Effects.{asks, completes}
-use Rattle.a32_instr.specs.Block.{is_listed, registers_of, count_of, below, block_ask, block_loaded, block_done, block_next, block_at, unless_barred, value_of, with_block, word_of}
+use Rattle.a32_instr.specs.Block.{is_listed, registers_of, count_of, block_ask, block_loaded, block_done, block_next, block_at, unless_barred, value_of, with_block, word_of}
 use Rattle.a32_compute.proofs.Lists.{below_is, registers_most}
 use Rattle.a32_step.proofs.Effects.{IsSound, Stands, barred_own, chosen, jumps_stands}
 

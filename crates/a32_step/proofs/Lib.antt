@@ -11,3 +11,4 @@ pub mod Places
 pub mod BlockPassages
 pub mod CarriedOn
 pub mod Unmet
+pub mod Acts

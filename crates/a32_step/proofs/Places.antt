@@ -3,38 +3,33 @@ use Rattle.std.proofs.Common.{◌≡◌, ◌^◌, ◌%◌, ℕ, Bool, List, [], 
 use Rattle.llsc_base.specs.Images.{Program}
 use Rattle.llsc_base.specs.declared.access.Place.{Place}
 use Rattle.llsc_base.specs.declared.access.Size.{Size}
-use Rattle.a32_instr.specs.declared.instructions.Instr.{Instr}
-use Rattle.a32_instr.specs.declared.instructions.Instr.TheVariants.{Half, Word}
 use Rattle.a32_instr.specs.declared.instructions.Index.{Index}
 use Rattle.a32_instr.specs.declared.instructions.Offset.{Offset}
 use Rattle.a32_instr.specs.declared.instructions.HalfKind.{HalfKind}
 use Rattle.a32_instr.specs.declared.instructions.HalfKind.TheVariants.{Strh, Ldrh, Ldrsb, Ldrsh}
 use Rattle.llsc_base.specs.declared.outside.Ask.TheVariants.{LoadEx, StoreEx}
-use Rattle.a32_instr.specs.Effect.{acts}
 use Rattle.a32_instr.specs.Exclusive.{load_exclusive, store_exclusive, stored_part}
-use Rattle.a32_instr.specs.LoadStore.{access_size, accessed_address, accesses, half_accesses, half_by, half_size, loads_half, moved_address, stores, word_by, written_back}
+use Rattle.a32_instr.specs.LoadStore.{access_size, accessed_address, accesses, half, half_accesses, half_by, half_size, loads_half, moved_address, stores, word, word_by, written_back}
 use Rattle.a32_instr.specs.State.{State, register}
 use Rattle.a32_step.specs.inner.Acting.{asked_first}
 
-module _ (program : Program) (instr : Instr) (state : State) (cond : ℕ) (index : Index) (rn rt : ℕ) (offset : Offset) (addr moved : ℕ)
+module _ (program : Program) (state : State) (index : Index) (rn rt : ℕ) (offset : Offset) (addr moved : ℕ)
     (moved_is : moved ≡ moved_address rn offset state) (addr_is : addr ≡ accessed_address index (register state rn) moved) (had : List ℕ) where
   -- a word or a byte
-  pub word_is : (load byte to wide : Bool) → instr ≡ Word cond load byte index rn rt offset → load ≡ to → byte ≡ wide
-      → acts instr program had state
+  pub word_is : (load byte to wide : Bool) → load ≡ to → byte ≡ wide
+      → word program load byte index rn rt offset had state
       ≡ accesses program to wide (record { addr = addr; size = access_size wide }) (written_back index rn moved state) rt had state
-  word_is load byte to wide is load_is byte_is =
-      ap (λ i. acts i program had state) is
-      ∙ ap (λ m. word_by program load byte index rn rt m had state) (sym moved_is)
+  word_is load byte to wide load_is byte_is =
+      ap (λ m. word_by program load byte index rn rt m had state) (sym moved_is)
       ∙ ap (λ a. accesses program load byte (record { addr = a; size = access_size byte }) (written_back index rn moved state) rt had state) (sym addr_is)
       ∙ ap (λ l. accesses program l byte (record { addr = addr; size = access_size byte }) (written_back index rn moved state) rt had state) load_is
       ∙ ap (λ b. accesses program to b (record { addr = addr; size = access_size b }) (written_back index rn moved state) rt had state) byte_is
 
   -- a halfword or a signed byte
-  pub half_is : (kind : HalfKind) → instr ≡ Half cond kind index rn rt offset
-      → acts instr program had state ≡ half_accesses kind program (record { addr = addr; size = half_size kind }) (written_back index rn moved state) rt had state
-  half_is kind is =
-      ap (λ i. acts i program had state) is
-      ∙ ap (λ m. half_by program kind index rn rt m had state) (sym moved_is)
+  pub half_is : (kind : HalfKind) → half program kind index rn rt offset had state
+      ≡ half_accesses kind program (record { addr = addr; size = half_size kind }) (written_back index rn moved state) rt had state
+  half_is kind =
+      ap (λ m. half_by program kind index rn rt m had state) (sym moved_is)
       ∙ ap (λ a. half_accesses kind program (record { addr = a; size = half_size kind }) (written_back index rn moved state) rt had state) (sym addr_is)
 
 -- a halfword's store, and the loads

@@ -1,6 +1,5 @@
 -- What only proofs and inner contracts need.
 pub mod Acting
-pub mod Classes
 pub mod ExecutionState
 pub mod Inside
 pub mod Machine

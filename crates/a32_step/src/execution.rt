@@ -7,7 +7,6 @@ ghost use Rattle.a32_instr.specs.Condition.{passes};
 ghost use Rattle.a32_instr.specs.Effect.{acts};
 ghost use Rattle.a32_step.specs.inner.Progress.{progress_of, stop_of};
 ghost use Rattle.llsc_base.specs.inner.Words.{AreWords};
-ghost use Rattle.a32_step.specs.inner.Classes.{instr_class, IsApart};
 ghost use Rattle.a32_step.specs.inner.Acting.{IsActed};
 ghost use Rattle.a32_step.specs.inner.ExecutionState.{Between, Inside, Awaiting, Calling, Stopped, IsAwaited, IsCalled, resting, moves, settled, wanted_at};
 ghost use Rattle.a32_step.specs.inner.Inside.{stage_held};
@@ -30,6 +29,8 @@ mod exclusives;
 mod load_store;
 mod moves;
 mod multiply;
+
+use blocks::Transfer;
 
 /// What is wanted by a thread that is held.
 #[inline]
@@ -355,39 +356,88 @@ impl Execution {
                 operand,
                 ..
             } => self.alu(op, s, rd, rn, operand),
+            Instr::Movw { rd, imm, .. } => self.move_wide(rd, imm),
+            Instr::Movt { rd, imm, .. } => self.move_top(rd, imm),
+            Instr::Nop { .. } => self.advance(),
+            Instr::Yield { .. } => self.advance(),
+            Instr::Barrier { .. } => self.advance(),
+            Instr::Mul { s, rd, rn, rm, .. } => self.multiply(s, rd, rn, rm),
+            Instr::Mla {
+                s,
+                rd,
+                rn,
+                rm,
+                ra,
+                ..
+            } => self.multiply_and_add(s, rd, rn, rm, ra),
+            Instr::Mls { rd, rn, rm, ra, .. } => self.multiply_and_subtract(rd, rn, rm, ra),
+            Instr::Long {
+                kind,
+                s,
+                lo,
+                hi,
+                rn,
+                rm,
+                ..
+            } => self.multiply_long(kind, s, lo, hi, rn, rm),
+            Instr::Clz { rd, rm, .. } => self.count_zeros(rd, rm),
+            Instr::Extend {
+                unsigned,
+                half,
+                rd,
+                rm,
+                turn,
+                ..
+            } => self.extend(unsigned, half, rd, rm, turn),
+            Instr::Rev { rd, rm, .. } => self.reverse(rd, rm),
+            Instr::Word {
+                load,
+                byte,
+                index,
+                rn,
+                rt,
+                ref offset,
+                ..
+            } => self.access_word(image, load, byte, index, rn, rt, offset, source),
+            Instr::Half {
+                kind,
+                index,
+                rn,
+                rt,
+                ref offset,
+                ..
+            } => self.access_half(image, kind, index, rn, rt, offset, source),
+            Instr::Block {
+                load,
+                before,
+                up,
+                wback,
+                rn,
+                list,
+                ..
+            } => {
+                let transfer = Transfer {
+                    load,
+                    before,
+                    up,
+                    wback,
+                    rn,
+                    list,
+                };
+                self.access_block(image, transfer, source)
+            }
             Instr::Branch { link, words, .. } => self.branch(link, words),
-            Instr::Word { .. } => self.access_word(instr, image, source),
-            Instr::Half { .. } => self.access_half(instr, image, source),
-            Instr::Block { .. } => self.access_block(instr, image, source),
-            Instr::LoadEx { .. } | Instr::StoreEx { .. } | Instr::Clrex => {
-                self.synchronize(instr, image, source)
-            }
-            Instr::Mul { .. } | Instr::Mla { .. } | Instr::Mls { .. } | Instr::Long { .. } => {
-                self.multiplication(instr)
-            }
-            _ => self.act_apart(instr),
-        }
-    }
-
-    /// What an instruction that is rare and asks for nothing does.
-    #[inline(never)]
-    fn act_apart(&mut self, instr: &Instr) -> Progress
-        requires { IsApart (instr_class instr.now) }
-        ensures progress { (program : Program) → result ≡ progress_of (acts instr.now program self.old.replies self.old.state) }
-        ensures state { (program : Program) → self.new ≡ moves self.old (acts instr.now program self.old.replies self.old.state) }
-    {
-        match *instr {
-            Instr::Alu { .. }
-            | Instr::Movw { .. }
-            | Instr::Movt { .. }
-            | Instr::Clz { .. }
-            | Instr::Extend { .. }
-            | Instr::Rev { .. } => self.process_data(instr),
-            Instr::Branch { .. } | Instr::BranchReg { .. } | Instr::Svc { .. } => {
-                self.branch_or_call(instr)
-            }
-            Instr::Nop { .. } | Instr::Yield { .. } | Instr::Barrier { .. } => self.advance(),
-            _ => unreachable!(),
+            Instr::BranchReg { link, rm, .. } => self.branch_by_register(link, rm),
+            Instr::Svc { imm, .. } => self.call(imm),
+            Instr::LoadEx { size, rn, rt, .. } => self.load_exclusive(image, size, rn, rt, source),
+            Instr::StoreEx {
+                size,
+                rn,
+                rd,
+                rt,
+                ..
+            } => self.store_exclusive(image, size, rn, rd, rt, source),
+            Instr::Clrex => self.clear_exclusive(image, source),
         }
     }
 }

@@ -4,9 +4,7 @@ ghost use Rattle.llsc_base.specs.Images.{first_barred};
 ghost use Rattle.a32_instr.specs.State.{State, jumps};
 ghost use Rattle.llsc_base.specs.Effects.{asks};
 ghost use Rattle.a32_instr.specs.Block.{count_of, block_size, block, block_at, block_back, block_done, block_loaded, with_block};
-ghost use Rattle.a32_instr.specs.Effect.{acts};
 ghost use Rattle.a32_step.specs.inner.Progress.{progress_of};
-ghost use Rattle.a32_step.specs.inner.Classes.{instr_class, block_access};
 ghost use Rattle.a32_step.specs.inner.ExecutionState.{Awaiting, Inside, moves, resting};
 ghost use Rattle.a32_compute.specs.Lists.{AreLeft};
 ghost use Rattle.a32_step.specs.inner.Acting.{IsActed, IsGiven, word_ask};
@@ -18,7 +16,7 @@ use crate::sources::Source;
 use a32_compute::operands::moved;
 use a32_compute::parts::low_word;
 use a32_compute::registers::{count_of, is_listed, listed, lowest_address};
-use a32_instr::{Instr, Reg};
+use a32_instr::Reg;
 use llsc_base::{Ask, Image, Place, Size};
 
 /// The fields of a block's load or store.
@@ -174,7 +172,13 @@ impl Execution {
     }
 
     /// LDM and STM (DDI 0406C A8.8.58 to A8.8.61, A8.8.199 to A8.8.202).
-    fn block<S: Source>(&mut self, image: &Image, transfer: Transfer, source: &mut S) -> Progress
+    #[inline(never)]
+    pub(super) fn access_block<S: Source>(
+        &mut self,
+        image: &Image,
+        transfer: Transfer,
+        source: &mut S,
+    ) -> Progress
         requires fresh { IsFalse S.RESUMES → self.old.replies ≡ [] }
         requires mem { S.mem source.old ≡ length image.now.bytes }
         requires few { S.counted source.old + 16 ≤ 2 ^ 63 }
@@ -207,45 +211,6 @@ impl Execution {
             self.finish();
         }
         progress
-    }
-
-    /// A load or a store of a block (DDI 0406C A5.5).
-    #[inline(never)]
-    pub(super) fn access_block<S: Source>(
-        &mut self,
-        instr: &Instr,
-        image: &Image,
-        source: &mut S,
-    ) -> Progress
-        requires class { instr_class instr.now ≡ block_access }
-        requires fresh { IsFalse S.RESUMES → self.old.replies ≡ [] }
-        requires mem { S.mem source.old ≡ length image.now.bytes }
-        requires few { S.counted source.old + 16 ≤ 2 ^ 63 }
-        ensures acted { IsActed S.replies (λ had. acts instr.now image.now had self.old.state) self.old source.old result self.new source.new }
-        ensures mem { S.mem source.new ≡ S.mem source.old }
-        ensures counted { S.counted source.new ≤ S.counted source.old + 16 }
-    {
-        let Instr::Block {
-            load,
-            before,
-            up,
-            wback,
-            rn,
-            list,
-            ..
-        } = *instr
-        else {
-            unreachable!()
-        };
-        let transfer = Transfer {
-            load,
-            before,
-            up,
-            wback,
-            rn,
-            list,
-        };
-        self.block(image, transfer, source)
     }
 }
 

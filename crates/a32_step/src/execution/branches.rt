@@ -1,17 +1,14 @@
 //! Branches (DDI 0406C A5.5) and the supervisor call (A5.6).
 ghost use Rattle.std.specs.Prelude.{◌≡◌};
-ghost use Rattle.llsc_base.specs.Images.{Program};
 ghost use Rattle.llsc_base.specs.Effects.{calls};
 ghost use Rattle.a32_instr.specs.Branch.{branched, branches_by_register, call_of};
-ghost use Rattle.a32_instr.specs.Effect.{acts};
 ghost use Rattle.a32_step.specs.inner.Progress.{progress_of};
-ghost use Rattle.a32_step.specs.inner.Classes.{instr_class, branch_or_call};
 ghost use Rattle.a32_step.specs.inner.ExecutionState.{moves};
 
 use super::Execution;
 use crate::phases::{Hold, Point, Progress};
 use a32_compute::operands::branch_target;
-use a32_instr::{Instr, Reg};
+use a32_instr::Reg;
 use llsc_base::CallAsk;
 
 impl Execution {
@@ -29,6 +26,7 @@ impl Execution {
     }
 
     /// BX and BLX (DDI 0406C A8.8.27, A8.8.26): the register is read before the link is written.
+    #[inline(never)]
     #[tactic(auto, using(llsc_base::proofs::Words::words_set))]
     pub(super) fn branch_by_register(&mut self, link: bool, rm: Reg) -> Progress
         ensures progress { result ≡ progress_of (branches_by_register link rm self.old.state) }
@@ -46,6 +44,7 @@ impl Execution {
     }
 
     /// SVC (DDI 0406C A8.8.228).
+    #[inline(never)]
     pub(super) fn call(&mut self, imm: u32) -> Progress
         ensures progress { result ≡ Progress.Held }
         ensures state { self.new ≡ moves self.old (calls (call_of imm self.old.state)) }
@@ -60,22 +59,5 @@ impl Execution {
         self.point = Point::Held;
         self.hold = Hold::Call(call);
         Progress::Held
-    }
-}
-
-impl Execution {
-    /// A branch, or a supervisor call (DDI 0406C A5.5, A5.6).
-    #[inline(always)]
-    pub(super) fn branch_or_call(&mut self, instr: &Instr) -> Progress
-        requires { instr_class instr.now ≡ branch_or_call }
-        ensures progress { (program : Program) → result ≡ progress_of (acts instr.now program self.old.replies self.old.state) }
-        ensures state { (program : Program) → self.new ≡ moves self.old (acts instr.now program self.old.replies self.old.state) }
-    {
-        match *instr {
-            Instr::Branch { link, words, .. } => self.branch(link, words),
-            Instr::BranchReg { link, rm, .. } => self.branch_by_register(link, rm),
-            Instr::Svc { imm, .. } => self.call(imm),
-            _ => unreachable!(),
-        }
     }
 }

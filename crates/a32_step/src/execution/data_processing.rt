@@ -1,17 +1,14 @@
 //! Data processing (DDI 0406C A5.2).
 ghost use Rattle.std.specs.Prelude.{◌≡◌, true};
-ghost use Rattle.llsc_base.specs.Images.{Program};
 ghost use Rattle.a32_instr.specs.DataProcessing.{operand_of, alu};
-ghost use Rattle.a32_instr.specs.Effect.{acts};
 ghost use Rattle.a32_step.specs.inner.Progress.{progress_of};
-ghost use Rattle.a32_step.specs.inner.Classes.{instr_class, data_processing};
 ghost use Rattle.a32_step.specs.inner.ExecutionState.{moves};
 
 use super::Execution;
 use crate::phases::Progress;
 use a32_compute::arithmetic::{compute, value_of};
 use a32_compute::shifts::{immediate, shift, shift_by_number};
-use a32_instr::{AluOp, Instr, Operand2, Reg, Shifted};
+use a32_instr::{AluOp, Operand2, Reg, Shifted};
 
 impl Execution {
     /// The second operand of a data-processing instruction.
@@ -67,39 +64,5 @@ impl Execution {
         let second = self.second_operand(operand);
         let value = value_of(op, self.operand(rn), second, self.flags);
         self.write(self.flags, rd, value)
-    }
-}
-
-impl Execution {
-    /// An instruction of data processing (DDI 0406C A4.4).
-    #[inline(always)]
-    pub(super) fn process_data(&mut self, instr: &Instr) -> Progress
-        requires { instr_class instr.now ≡ data_processing }
-        ensures progress { (program : Program) → result ≡ progress_of (acts instr.now program self.old.replies self.old.state) }
-        ensures state { (program : Program) → self.new ≡ moves self.old (acts instr.now program self.old.replies self.old.state) }
-    {
-        match *instr {
-            Instr::Alu {
-                op,
-                s,
-                rd,
-                rn,
-                operand,
-                ..
-            } => self.alu(op, s, rd, rn, operand),
-            Instr::Movw { rd, imm, .. } => self.move_wide(rd, imm),
-            Instr::Movt { rd, imm, .. } => self.move_top(rd, imm),
-            Instr::Clz { rd, rm, .. } => self.count_zeros(rd, rm),
-            Instr::Extend {
-                unsigned,
-                half,
-                rd,
-                rm,
-                turn,
-                ..
-            } => self.extend(unsigned, half, rd, rm, turn),
-            Instr::Rev { rd, rm, .. } => self.reverse(rd, rm),
-            _ => unreachable!(),
-        }
     }
 }

@@ -2,15 +2,13 @@
 ghost use Rattle.std.specs.Prelude.{◌≡◌, ◌<◌, ◌≤◌, ◌+◌, ◌^◌, length, [], IsFalse};
 ghost use Rattle.llsc_base.specs.Effects.{loaded_part};
 ghost use Rattle.a32_instr.specs.Exclusive.{next_register, with_loaded, stored_part, load_exclusive, store_exclusive, clear_exclusive};
-ghost use Rattle.a32_instr.specs.Effect.{acts};
-ghost use Rattle.a32_step.specs.inner.Classes.{instr_class, synchronization};
 ghost use Rattle.a32_step.specs.inner.Acting.{IsActed};
 
 use super::Execution;
 use crate::phases::Progress;
 use crate::sources::Source;
 use a32_compute::parts::{loaded_part, low_word};
-use a32_instr::{Instr, Reg};
+use a32_instr::Reg;
 use llsc_base::{Ask, Image, Place, Size};
 
 /// The register after this one, which holds the high word of a doubleword.
@@ -48,7 +46,8 @@ impl Execution {
 
 impl Execution {
     /// LDREX, LDREXB, LDREXH and LDREXD (DDI 0406C A8.8.75 to A8.8.78).
-    fn load_exclusive<S: Source>(
+    #[inline(never)]
+    pub(super) fn load_exclusive<S: Source>(
         &mut self,
         image: &Image,
         size: Size,
@@ -76,7 +75,8 @@ impl Execution {
 
     /// STREX, STREXB, STREXH and STREXD (DDI 0406C A8.8.212 to A8.8.215).
     #[tactic(auto, using(crate::proofs::Instructions::stored_part_fits))]
-    fn store_exclusive<S: Source>(
+    #[inline(never)]
+    pub(super) fn store_exclusive<S: Source>(
         &mut self,
         image: &Image,
         size: Size,
@@ -108,7 +108,8 @@ impl Execution {
     }
 
     /// CLREX (DDI 0406C A8.8.32).
-    fn clear_exclusive<S: Source>(&mut self, image: &Image, source: &mut S) -> Progress
+    #[inline(never)]
+    pub(super) fn clear_exclusive<S: Source>(&mut self, image: &Image, source: &mut S) -> Progress
         requires fresh { IsFalse S.RESUMES → self.old.replies ≡ [] }
         requires mem { S.mem source.old ≡ length image.now.bytes }
         requires few { S.counted source.old < 2 ^ 63 }
@@ -120,37 +121,5 @@ impl Execution {
             return Progress::Held;
         };
         self.advance()
-    }
-
-    /// A synchronization primitive (DDI 0406C A4.6, A5.2.10).
-    #[inline(never)]
-    pub(super) fn synchronize<S: Source>(
-        &mut self,
-        instr: &Instr,
-        image: &Image,
-        source: &mut S,
-    ) -> Progress
-        requires class { instr_class instr.now ≡ synchronization }
-        requires fresh { IsFalse S.RESUMES → self.old.replies ≡ [] }
-        requires mem { S.mem source.old ≡ length image.now.bytes }
-        requires few { S.counted source.old < 2 ^ 63 }
-        ensures acted { IsActed S.replies (λ had. acts instr.now image.now had self.old.state) self.old source.old result self.new source.new }
-        ensures mem { S.mem source.new ≡ S.mem source.old }
-        ensures counted { S.counted source.new ≤ S.counted source.old + 1 }
-    {
-        match *instr {
-            Instr::LoadEx { size, rn, rt, .. } => {
-                self.load_exclusive(image, size, rn, rt, source)
-            }
-            Instr::StoreEx {
-                size,
-                rn,
-                rd,
-                rt,
-                ..
-            } => { self.store_exclusive(image, size, rn, rd, rt, source) }
-            Instr::Clrex => self.clear_exclusive(image, source),
-            _ => unreachable!(),
-        }
     }
 }

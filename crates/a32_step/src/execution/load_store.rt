@@ -2,11 +2,9 @@
 ghost use Rattle.std.specs.Prelude.{◌≡◌, ◌<◌, ◌≤◌, ◌+◌, ◌^◌, length, [], IsFalse};
 ghost use Rattle.llsc_base.specs.Memory.{size_bytes};
 ghost use Rattle.a32_instr.specs.State.{advanced, jumps, register, writes};
-ghost use Rattle.a32_instr.specs.LoadStore.{access_size, accessed_address, half_size, distance_of, loads, loads_half, moved_address, stores, written_back};
+ghost use Rattle.a32_instr.specs.LoadStore.{access_size, accessed_address, half, half_size, distance_of, loads, loads_half, moved_address, stores, word, written_back};
 ghost use Rattle.llsc_base.specs.Effects.{barred};
-ghost use Rattle.a32_instr.specs.Effect.{acts};
 ghost use Rattle.a32_step.specs.inner.Progress.{progress_of};
-ghost use Rattle.a32_step.specs.inner.Classes.{instr_class, word_access, half_access};
 ghost use Rattle.a32_step.specs.inner.ExecutionState.{moves};
 ghost use Rattle.a32_step.specs.inner.Acting.{IsActed};
 
@@ -18,7 +16,7 @@ use a32_compute::operands::{
 };
 use a32_compute::parts::{loaded_half, loaded_word};
 use a32_compute::shifts::shift_by_number;
-use a32_instr::{HalfKind, Index, Instr, Offset, Reg};
+use a32_instr::{HalfKind, Index, Offset, Reg};
 use llsc_base::{Ask, Bar, Image, Place, Size, Stop};
 
 /// What becomes of the base register when a load or a store is complete.
@@ -207,30 +205,22 @@ impl Execution {
     #[inline(always)]
     pub(super) fn access_word<S: Source>(
         &mut self,
-        instr: &Instr,
         image: &Image,
+        load: bool,
+        byte: bool,
+        index: Index,
+        rn: Reg,
+        rt: Reg,
+        offset: &Offset,
         source: &mut S,
     ) -> Progress
-        requires class { instr_class instr.now ≡ word_access }
         requires fresh { IsFalse S.RESUMES → self.old.replies ≡ [] }
         requires mem { S.mem source.old ≡ length image.now.bytes }
         requires few { S.counted source.old < 2 ^ 63 }
-        ensures acted { IsActed S.replies (λ had. acts instr.now image.now had self.old.state) self.old source.old result self.new source.new }
+        ensures acted { IsActed S.replies (λ had. word image.now load byte index rn rt offset.now had self.old.state) self.old source.old result self.new source.new }
         ensures mem { S.mem source.new ≡ S.mem source.old }
         ensures counted { S.counted source.new ≤ S.counted source.old + 1 }
     {
-        let Instr::Word {
-            load,
-            byte,
-            index,
-            rn,
-            rt,
-            ref offset,
-            ..
-        } = *instr
-        else {
-            unreachable!()
-        };
         let Aim { addr, moved } = self.aim(index, rn, offset);
         let back = WriteBack { index, rn, moved };
         let word = Place {
@@ -258,29 +248,21 @@ impl Execution {
     #[inline(always)]
     pub(super) fn access_half<S: Source>(
         &mut self,
-        instr: &Instr,
         image: &Image,
+        kind: HalfKind,
+        index: Index,
+        rn: Reg,
+        rt: Reg,
+        offset: &Offset,
         source: &mut S,
     ) -> Progress
-        requires class { instr_class instr.now ≡ half_access }
         requires fresh { IsFalse S.RESUMES → self.old.replies ≡ [] }
         requires mem { S.mem source.old ≡ length image.now.bytes }
         requires few { S.counted source.old < 2 ^ 63 }
-        ensures acted { IsActed S.replies (λ had. acts instr.now image.now had self.old.state) self.old source.old result self.new source.new }
+        ensures acted { IsActed S.replies (λ had. half image.now kind index rn rt offset.now had self.old.state) self.old source.old result self.new source.new }
         ensures mem { S.mem source.new ≡ S.mem source.old }
         ensures counted { S.counted source.new ≤ S.counted source.old + 1 }
     {
-        let Instr::Half {
-            kind,
-            index,
-            rn,
-            rt,
-            ref offset,
-            ..
-        } = *instr
-        else {
-            unreachable!()
-        };
         let Aim { addr, moved } = self.aim(index, rn, offset);
         let place = Place {
             addr,

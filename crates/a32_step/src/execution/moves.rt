@@ -8,10 +8,11 @@ use super::Execution;
 use crate::phases::Progress;
 use a32_compute::parts::{extend, reverse, with_upper_half};
 use a32_compute::shifts::rotate_right;
-use a32_instr::{Instr, Reg};
+use a32_instr::Reg;
 
 impl Execution {
     /// MOVW (DDI 0406C A8.8.102).
+    #[inline(never)]
     pub(super) fn move_wide(&mut self, rd: Reg, imm: u16) -> Progress
         ensures progress { result ≡ progress_of (moves_wide rd imm self.old.state) }
         ensures state { self.new ≡ moves self.old (moves_wide rd imm self.old.state) }
@@ -20,6 +21,7 @@ impl Execution {
     }
 
     /// MOVT (DDI 0406C A8.8.106).
+    #[inline(never)]
     pub(super) fn move_top(&mut self, rd: Reg, imm: u16) -> Progress
         ensures progress { result ≡ progress_of (moves_top rd imm self.old.state) }
         ensures state { self.new ≡ moves self.old (moves_top rd imm self.old.state) }
@@ -29,6 +31,7 @@ impl Execution {
     }
 
     /// CLZ (DDI 0406C A8.8.33).
+    #[inline(never)]
     pub(super) fn count_zeros(&mut self, rd: Reg, rm: Reg) -> Progress
         ensures progress { result ≡ progress_of (counts_zeros rd rm self.old.state) }
         ensures state { self.new ≡ moves self.old (counts_zeros rd rm self.old.state) }
@@ -38,6 +41,7 @@ impl Execution {
     }
 
     /// SXTB, SXTH, UXTB and UXTH (DDI 0406C A8.8.233, A8.8.235, A8.8.274, A8.8.276).
+    #[inline(never)]
     pub(super) fn extend(
         &mut self,
         unsigned: bool,
@@ -54,6 +58,7 @@ impl Execution {
     }
 
     /// REV (DDI 0406C A8.8.145).
+    #[inline(never)]
     pub(super) fn reverse(&mut self, rd: Reg, rm: Reg) -> Progress
         ensures progress { result ≡ progress_of (reverses rd rm self.old.state) }
         ensures state { self.new ≡ moves self.old (reverses rd rm self.old.state) }

@@ -1,10 +1,7 @@
 //! Multiplications (DDI 0406C A5.2.5).
 ghost use Rattle.std.specs.Prelude.{◌≡◌, if◌then◌else◌};
-ghost use Rattle.llsc_base.specs.Images.{Program};
 ghost use Rattle.a32_instr.specs.Multiply.{joined, multiplied, multiplies, multiplies_and_adds, multiplies_and_subtracts, after_long};
-ghost use Rattle.a32_instr.specs.Effect.{acts};
 ghost use Rattle.a32_step.specs.inner.Progress.{progress_of};
-ghost use Rattle.a32_step.specs.inner.Classes.{instr_class, multiplication};
 ghost use Rattle.a32_step.specs.inner.ExecutionState.{moves};
 
 use super::Execution;
@@ -12,7 +9,7 @@ use crate::phases::Progress;
 use a32_compute::parts::low_word;
 use a32_compute::products::{minus_product, product, product_plus, wide};
 use a32_compute::shifts::is_negative;
-use a32_instr::{Flags, Instr, LongKind, Reg};
+use a32_instr::{Flags, LongKind, Reg};
 
 /// The flags of a product.
 #[inline(always)]
@@ -108,38 +105,5 @@ impl Execution {
         self.set(lo, low_word(value));
         self.set(hi, (value >> 32) as u32);
         self.advance()
-    }
-}
-
-impl Execution {
-    /// A multiplication (DDI 0406C A5.2.5).
-    #[inline(always)]
-    pub(super) fn multiplication(&mut self, instr: &Instr) -> Progress
-        requires { instr_class instr.now ≡ multiplication }
-        ensures progress { (program : Program) → result ≡ progress_of (acts instr.now program self.old.replies self.old.state) }
-        ensures state { (program : Program) → self.new ≡ moves self.old (acts instr.now program self.old.replies self.old.state) }
-    {
-        match *instr {
-            Instr::Mul { s, rd, rn, rm, .. } => self.multiply(s, rd, rn, rm),
-            Instr::Mla {
-                s,
-                rd,
-                rn,
-                rm,
-                ra,
-                ..
-            } => self.multiply_and_add(s, rd, rn, rm, ra),
-            Instr::Mls { rd, rn, rm, ra, .. } => self.multiply_and_subtract(rd, rn, rm, ra),
-            Instr::Long {
-                kind,
-                s,
-                lo,
-                hi,
-                rn,
-                rm,
-                ..
-            } => self.multiply_long(kind, s, lo, hi, rn, rm),
-            _ => unreachable!(),
-        }
     }
 }

@@ -1,4 +1,4 @@
-use Rattle.std.proofs.Common.{rules, ◌≡◌, ◌<◌, ◌≤◌, ◌+◌, ◌-◌, length, drop, sym, ◌∙◌, ap, arith, slice_index, slice_set, true}
+use Rattle.std.proofs.Common.{rules, ◌≡◌, ◌<◌, ◌+◌, ◌-◌, sym, ◌∙◌, ap, slice_set, true}
 use Rattle.a32_instr.specs.Block.{is_listed, loaded, value_of}
 use Rattle.a32_compute.specs.Lists.{AreLeft, highest}
 use Rattle.a32_compute.proofs.Lists.{left_listed, loaded_next}
