@@ -3,7 +3,6 @@ use Rattle.std.proofs.Common.{◌≡◌, ℕ, zero, suc, ◌+◌, ◌-◌, ◌/�
 use Rattle.std.proofs.lemmas.Bool.{eqb-true}
 use Rattle.std.proofs.lemmas.Nat.{ones-le}
 use lib.Count.{ones, ones_step}
-use Rattle.llsc_base.specs.Words.{low32}
 use Rattle.a32_instr.specs.Block.{is_listed, registers_of, count_of, below, loaded, value_of}
 use Rattle.a32_compute.specs.Lists.{highest, AreLeft}
 

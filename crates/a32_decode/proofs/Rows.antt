@@ -4,7 +4,7 @@ use Rattle.a32_instr.specs.Table.{Row, fits, outcome, meaning}
 use Rattle.a32_instr.specs.declared.instructions.Instr.{Instr}
 use Rattle.llsc_base.specs.declared.decoding.DecodeFault.{DecodeFault}
 use Rattle.llsc_base.specs.declared.decoding.DecodeFault.TheVariants.{Undefined}
-use Rattle.a32_decode.specs.inner.Rows.{Fits, Means, NoneFits, FollowsRows, Decides}
+use Rattle.a32_decode.specs.inner.Rows.{NoneFits, FollowsRows, Decides}
 
 -- a choice between two answers, by the test that decides it
 pub chosen : (test : Bool) (answer here there : Result Instr DecodeFault)

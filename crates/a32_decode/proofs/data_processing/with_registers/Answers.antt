@@ -1,4 +1,4 @@
-use Rattle.std.proofs.Common.{◌≡◌, ◌<◌, ◌≤◌, ◌%◌, ◌^◌, ℕ, List, [], ◌∷◌, Result, ◌⊎◌, ⊎_elim, refl, sym, subst, ◌∙◌, arith, rules}
+use Rattle.std.proofs.Common.{◌≡◌, ◌<◌, ◌≤◌, ◌%◌, ◌^◌, ℕ, List, ◌∷◌, Result, ◌⊎◌, ⊎_elim, refl, sym, subst, ◌∙◌, arith, rules}
 use Rattle.llsc_base.specs.Bits.{bits_of}
 use Rattle.a32_instr.specs.Table.{Row, half_imm, half_reg}
 use Rattle.a32_instr.specs.declared.instructions.Instr.{Instr}
