@@ -1,13 +1,13 @@
 -- Tables of forms of which each is read again, and not an earlier one in its place.
 use Rattle.std.specs.Prelude.{ℕ, ◌==◌, ◌&&◌, ◌||◌, not, nat_lt, if◌then◌else◌, Bool, true, false, List, [], ◌∷◌, length, take, Option, Some, None}
 use Rattle.std.specs.List.{list_all}
-use Rattle.a32_forms.specs.Text.{is_blank, is_wordy}
+use Rattle.a32_forms.specs.Text.{is_blank, is_wordy, exclamation, minus, tilde}
 use Rattle.a32_forms.specs.Forms.{b, k, X, forms_in, form_in}
 use Rattle.a32_forms.specs.Shown.{is_form}
 
 -- a sign that may take no part
 abbrev pub may_pass : ℕ → Bool
-may_pass sign = (sign == 126) || (sign == 33) || is_blank sign
+may_pass sign = (sign == tilde) || (sign == exclamation) || is_blank sign
 
 -- a sign that may take a word as another one shows it: no kind of shift is `rrx`
 abbrev pub may_be : ℕ → ℕ → Bool
@@ -17,8 +17,8 @@ may_be shown sign = is_wordy sign && (not ((shown == X) && (sign == k)) && not (
 abbrev pub after_mark : ℕ → List ℕ → Option (List ℕ)
 after_mark mark [] = None
 after_mark mark (sign ∷ form) =
-    if sign == 126 then (if mark == 45 then Some form else after_mark mark form) else
-    if sign == 33 then (if mark == 33 then Some form else after_mark mark form) else
+    if sign == tilde then (if mark == minus then Some form else after_mark mark form) else
+    if sign == exclamation then (if mark == exclamation then Some form else after_mark mark form) else
     if is_blank sign then after_mark mark form else
     if mark == sign then Some form else
     None
@@ -39,8 +39,8 @@ and_may further (Some form) = further form
 abbrev pub may_take : List ℕ → List ℕ → Bool
 may_take form [] = list_all may_pass form
 may_take form (sign ∷ shown) =
-    if sign == 126 then may_take form shown || and_may (λ left. may_take left shown) (after_mark 45 form) else
-    if sign == 33 then may_take form shown || and_may (λ left. may_take left shown) (after_mark 33 form) else
+    if sign == tilde then may_take form shown || and_may (λ left. may_take left shown) (after_mark minus form) else
+    if sign == exclamation then may_take form shown || and_may (λ left. may_take left shown) (after_mark exclamation form) else
     if sign == b then true else
     if is_blank sign then may_take form shown else
     if is_wordy sign then and_may (λ left. may_take left shown) (after_shown sign form) else

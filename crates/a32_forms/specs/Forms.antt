@@ -10,7 +10,7 @@ use Rattle.std.specs.Prelude.{ℕ, ◌+◌, ◌==◌, ◌||◌, if◌then◌else
 use Rattle.std.specs.List.{slice_split}
 use Rattle.std.specs.Option.{option_map}
 use Rattle.std.specs.Str.{bytes_eq}
-use Rattle.a32_forms.specs.Text.{Part, Word, Mark, is_blank, is_name}
+use Rattle.a32_forms.specs.Text.{Part, Word, Mark, is_blank, is_name, bar, closing_brace, exclamation, minus, tilde}
 use Rattle.a32_forms.specs.Numbers.{number_of}
 use Rattle.a32_forms.specs.Names.{register_of, shift_of}
 use Rattle.a32_forms.specs.Registers.{is_mark, registers_in}
@@ -107,7 +107,7 @@ from_mark code (part ∷ parts) = if is_mark code part then part ∷ parts else 
 
 -- a list of registers, which a brace ends
 abbrev pub takes_registers : Fields → List Part → Option Took
-takes_registers fields parts = option_map (took fields (from_mark 125 parts)) (registers_in (before_mark 125 parts))
+takes_registers fields parts = option_map (took fields (from_mark closing_brace parts)) (registers_in (before_mark closing_brace parts))
 
 -- a word or a mark for a sign that wants one
 abbrev pub takes_part : ℕ → Fields → List Part → Option Took
@@ -118,8 +118,8 @@ takes_part sign fields (Mark mark ∷ rest) = if mark == sign then Some (passed 
 -- what a sign takes from the front
 unfoldable pub takes_sign : ℕ → Fields → List Part → Option Took
 takes_sign sign fields parts =
-    if sign == 126 then takes_or_not 45 fields parts else
-    if sign == 33 then takes_or_not 33 fields parts else
+    if sign == tilde then takes_or_not minus fields parts else
+    if sign == exclamation then takes_or_not exclamation fields parts else
     if sign == b then takes_registers fields parts else
     if is_blank sign then Some (passed fields parts) else
     takes_part sign fields parts
@@ -141,7 +141,7 @@ takes form parts = takes_from form no_fields parts
 
 -- the forms of a text
 abbrev pub forms_in : List ℕ → List (List ℕ)
-forms_in text = slice_split (λ code. code == 124) text
+forms_in text = slice_split (λ code. code == bar) text
 
 -- one of the forms of a text, counted from 0
 abbrev pub form_in : List ℕ → ℕ → List ℕ

@@ -2,10 +2,11 @@
 use Rattle.std.specs.Prelude.{ℕ, ◌+◌, ◌==◌, if◌then◌else◌, List, [], ◌∷◌, slice_index_or, Option, Some, None, codes}
 use Rattle.std.specs.List.{slice_split}
 use Rattle.std.specs.Str.{bytes_eq}
+use Rattle.a32_forms.specs.Text.{space}
 
 -- the names that stand in a text, between single spaces
 abbrev pub names_in : List ℕ → List (List ℕ)
-names_in text = slice_split (λ code. code == 32) text
+names_in text = slice_split (λ code. code == space) text
 
 -- the place of a word among names, counted from a number on
 unfoldable pub place_from : ℕ → List (List ℕ) → List ℕ → Option ℕ

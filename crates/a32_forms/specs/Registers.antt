@@ -2,7 +2,7 @@
 use Rattle.std.specs.Prelude.{ℕ, ◌+◌, ◌-◌, ◌^◌, ◌==◌, ◌&&◌, nat_le, if◌then◌else◌, Bool, false, List, [], ◌∷◌, ◌++◌, Option, Some, None, codes}
 use Rattle.std.specs.List.{slice_split}
 use Rattle.std.specs.Option.{option_map, option_and_then}
-use Rattle.a32_forms.specs.Text.{Part, Word, Mark}
+use Rattle.a32_forms.specs.Text.{Part, Word, Mark, comma, minus}
 use Rattle.a32_forms.specs.Names.{register_of, register_name}
 pub use Rattle.a32_forms.specs.declared.registers.Range.{Range}
 
@@ -14,7 +14,7 @@ range _ _ = None
 -- an item of a list: a register, or two with `-` between
 abbrev pub range_of : List Part → Option Range
 range_of (Word first ∷ []) = range (register_of first) (register_of first)
-range_of (Word first ∷ Mark dash ∷ Word last ∷ []) = if dash == 45 then range (register_of first) (register_of last) else None
+range_of (Word first ∷ Mark dash ∷ Word last ∷ []) = if dash == minus then range (register_of first) (register_of last) else None
 range_of _ = None
 
 -- a range rises, and stands above the registers before it
@@ -39,7 +39,7 @@ is_mark code (Mark other) = other == code
 
 -- the registers between braces, separated by commas
 abbrev pub registers_in : List Part → Option ℕ
-registers_in parts = mask_from 0 (slice_split (is_mark 44) parts)
+registers_in parts = mask_from 0 (slice_split (is_mark comma) parts)
 
 -- a list as it is shown: each register of it, and a comma and a space between
 unfoldable pub list_text : List ℕ → List ℕ

@@ -3,7 +3,7 @@ use Rattle.std.specs.Prelude.{ℕ, ◌==◌, ◌&&◌, ◌||◌, not, if◌then�
 use Rattle.std.specs.Fmt.{decimal}
 use Rattle.number_text.specs.Hexadecimal.{word_text}
 use Rattle.a32_instr.specs.Block.{registers_of}
-use Rattle.a32_forms.specs.Text.{Part, Word, Mark, is_blank, is_wordy}
+use Rattle.a32_forms.specs.Text.{Part, Word, Mark, is_blank, is_wordy, closing_brace, comma, exclamation, minus, tilde}
 use Rattle.a32_forms.specs.Names.{register_name, shift_name}
 use Rattle.a32_forms.specs.Forms.{b, k, n, r, x, H, L, O, X}
 use Rattle.a32_forms.specs.Written.{has_number}
@@ -12,7 +12,7 @@ use Rattle.a32_forms.specs.Written.{has_number}
 unfoldable pub list_parts : List ℕ → List Part
 list_parts [] = []
 list_parts (register ∷ []) = Word (register_name register) ∷ []
-list_parts (register ∷ next ∷ registers) = Word (register_name register) ∷ Mark 44 ∷ list_parts (next ∷ registers)
+list_parts (register ∷ next ∷ registers) = Word (register_name register) ∷ Mark comma ∷ list_parts (next ∷ registers)
 
 -- a mark where its number is 1
 abbrev pub mark_parts : ℕ → ℕ → List Part
@@ -26,8 +26,8 @@ number_parts sign number =
     if sign == x then Word (codes "0x" ++ word_text number) ∷ [] else
     if sign == k then Word (shift_name number) ∷ [] else
     if sign == b then list_parts (registers_of number) else
-    if sign == 126 then mark_parts 45 number else
-    mark_parts 33 number
+    if sign == tilde then mark_parts minus number else
+    mark_parts exclamation number
 
 -- the parts of a sign without a number
 unfoldable pub sign_parts : ℕ → List Part
@@ -49,26 +49,26 @@ pieces (sign ∷ form) numbers =
 
 -- a mark or a blank that stands for itself
 abbrev pub is_plain : ℕ → Bool
-is_plain sign = not (is_wordy sign) && (not (sign == 126) && not (sign == 33))
+is_plain sign = not (is_wordy sign) && (not (sign == tilde) && not (sign == exclamation))
 
 -- a sign that can be shown: each of them but a label's name
 abbrev pub is_sign : ℕ → Bool
 is_sign sign =
     is_plain sign || (sign == r) || (sign == n) || (sign == x) || (sign == k) || (sign == b) || (sign == X) || (sign == O) ||
-    (sign == L) || (sign == H) || (sign == 126) || (sign == 33)
+    (sign == L) || (sign == H) || (sign == tilde) || (sign == exclamation)
 
 -- a form whose text begins with no word, also where its first marks are left out
 abbrev pub begins_apart : List ℕ → Bool
 begins_apart [] = true
-begins_apart (sign ∷ form) = if (sign == 126) || (sign == 33) then begins_apart form else not (is_wordy sign)
+begins_apart (sign ∷ form) = if (sign == tilde) || (sign == exclamation) then begins_apart form else not (is_wordy sign)
 
 -- a form whose first part may be this mark
 abbrev pub may_begin : ℕ → List ℕ → Bool
 may_begin code [] = false
 may_begin code (sign ∷ form) =
     if is_blank sign then may_begin code form else
-    if sign == 126 then (code == 45) || may_begin code form else
-    if sign == 33 then (code == 33) || may_begin code form else
+    if sign == tilde then (code == minus) || may_begin code form else
+    if sign == exclamation then (code == exclamation) || may_begin code form else
     sign == code
 
 abbrev pub begins_with : ℕ → List ℕ → Bool
@@ -79,9 +79,9 @@ begins_with code (sign ∷ form) = sign == code
 -- not the same mark.
 abbrev pub goes_on : ℕ → List ℕ → Bool
 goes_on sign form =
-    if sign == b then begins_with 125 form else
-    if sign == 126 then not (may_begin 45 form) else
-    if sign == 33 then not (may_begin 33 form) else
+    if sign == b then begins_with closing_brace form else
+    if sign == tilde then not (may_begin minus form) else
+    if sign == exclamation then not (may_begin exclamation form) else
     not (is_wordy sign) || begins_apart form
 
 -- a form that is read again as it is shown

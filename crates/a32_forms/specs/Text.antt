@@ -2,17 +2,46 @@
 use Rattle.std.specs.Prelude.{ℕ, ◌==◌, ◌&&◌, ◌||◌, not, nat_le, if◌then◌else◌, Bool, true, false, List, [], ◌∷◌}
 use Rattle.number_text.specs.Digits.{is_digit}
 
+-- Characters, by their ASCII codes.
+
+abbrev pub tab : ℕ
+tab = 9
+
+abbrev pub space : ℕ
+space = 32
+
+abbrev pub exclamation : ℕ
+exclamation = 33
+
+abbrev pub comma : ℕ
+comma = 44
+
+abbrev pub minus : ℕ
+minus = 45
+
+abbrev pub underscore : ℕ
+underscore = 95
+
+abbrev pub bar : ℕ
+bar = 124
+
+abbrev pub closing_brace : ℕ
+closing_brace = 125
+
+abbrev pub tilde : ℕ
+tilde = 126
+
 -- A letter, or what else may stand in a word: a digit or `_`.
 
 abbrev pub is_letter : ℕ → Bool
 is_letter code = (nat_le 65 code && nat_le code 90) || (nat_le 97 code && nat_le code 122)
 
 abbrev pub is_wordy : ℕ → Bool
-is_wordy code = is_letter code || is_digit code || (code == 95)
+is_wordy code = is_letter code || is_digit code || (code == underscore)
 
 -- a space or a tab
 abbrev pub is_blank : ℕ → Bool
-is_blank code = (code == 32) || (code == 9)
+is_blank code = (code == space) || (code == tab)
 
 -- a word, or a mark: a byte that is neither part of a word nor a blank
 pub data Part : Type 0 where

@@ -3,6 +3,7 @@ use Rattle.std.specs.Prelude.{ℕ, ◌+◌, ◌^◌, ◌==◌, ◌&&◌, ◌||�
 use Rattle.std.specs.List.{list_all}
 use Rattle.a32_forms.specs.Forms.{b, k, r, forms_in}
 use Rattle.a32_forms.specs.Written.{has_number}
+use Rattle.a32_forms.specs.Text.{exclamation, tilde}
 
 -- forms whose signs have at most eight numbers each
 abbrev pub has_room : List ℕ → Bool
@@ -17,7 +18,7 @@ is_within sign number =
     if sign == r then nat_lt number 16 else
     if sign == k then nat_lt number 4 else
     if sign == b then nat_lt number (2 ^ 16) else
-    if (sign == 126) || (sign == 33) then nat_lt number 2 else
+    if (sign == tilde) || (sign == exclamation) then nat_lt number 2 else
     nat_le number (2 ^ 32)
 
 -- at each sign that has a number, one that it may take; the numbers are counted from the given place on

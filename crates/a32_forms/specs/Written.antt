@@ -6,6 +6,7 @@ use Rattle.a32_instr.specs.Block.{registers_of}
 use Rattle.a32_forms.specs.Names.{register_name, shift_name}
 use Rattle.a32_forms.specs.Registers.{list_text}
 use Rattle.a32_forms.specs.Forms.{b, k, n, r, x, H, L, O, X}
+use Rattle.a32_forms.specs.Text.{exclamation, minus, tilde}
 
 -- a mark where its number is 1
 abbrev pub mark_text : ℕ → ℕ → List ℕ
@@ -14,7 +15,7 @@ mark_text code number = if number == 0 then [] else code ∷ []
 -- a sign that has a number
 abbrev pub has_number : ℕ → Bool
 has_number sign =
-    (sign == r) || (sign == n) || (sign == x) || (sign == k) || (sign == b) || (sign == 126) || (sign == 33)
+    (sign == r) || (sign == n) || (sign == x) || (sign == k) || (sign == b) || (sign == tilde) || (sign == exclamation)
 
 -- how a sign shows its number
 unfoldable pub number_text : ℕ → ℕ → List ℕ
@@ -24,8 +25,8 @@ number_text sign number =
     if sign == x then codes "0x" ++ word_text number else
     if sign == k then shift_name number else
     if sign == b then list_text (registers_of number) else
-    if sign == 126 then mark_text 45 number else
-    mark_text 33 number
+    if sign == tilde then mark_text minus number else
+    mark_text exclamation number
 
 -- how a sign without a number is shown
 unfoldable pub sign_text : ℕ → List ℕ

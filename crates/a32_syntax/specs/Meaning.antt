@@ -27,7 +27,7 @@ pub use Rattle.a32_syntax.specs.declared.accesses.Indexed.{Indexed}
 use Rattle.a32_syntax.specs.declared.operations.Operation.{Operation}
 use Rattle.a32_syntax.specs.declared.operations.Operation.TheVariants.{Alu, Movw, Movt, Nop, Yield, Mul, Mla, Mls, Long, Clz, Rev, Extend, Word, Half, Block, Branch, BranchReg, Svc, LoadEx, StoreEx, Clrex, Barrier}
 use Rattle.a32_syntax.specs.declared.operations.Mnemonic.{Mnemonic}
-use Rattle.a32_syntax.specs.Operands.{operands_of}
+use Rattle.a32_syntax.specs.Operands.{operands_of, as_number, as_turned_number, as_register, as_shifted_by_number, as_turned_through_carry}
 
 -- Where an instruction stands, and the addresses of the labels.
 pub record Site : Type 0 where
@@ -88,13 +88,13 @@ by_amount rm shift (Err fault) = Err fault
 -- the second operand by its form, whose numbers begin at a place
 unfoldable pub second_operand : Chosen → ℕ → Result Operand2 AsmKind
 second_operand found at =
-    if found.form == 0 then least_immediate (number_at found at) else
-    if found.form == 1 then number_and_turn (number_at found at) (number_at found (at + 1)) else
-    if found.form == 2 then Ok (operand.ByNum (number_at found at) Lsl 0) else
-    if found.form == 3 then
+    if found.form == as_number then least_immediate (number_at found at) else
+    if found.form == as_turned_number then number_and_turn (number_at found at) (number_at found (at + 1)) else
+    if found.form == as_register then Ok (operand.ByNum (number_at found at) Lsl 0) else
+    if found.form == as_shifted_by_number then
     by_amount (number_at found at) (shift_kind (number_at found (at + 1)))
     (amount_of (shift_kind (number_at found (at + 1))) (number_at found (at + 2))) else
-    if found.form == 4 then Ok (operand.ByNum (number_at found at) Ror 0) else
+    if found.form == as_turned_through_carry then Ok (operand.ByNum (number_at found at) Ror 0) else
     Ok (operand.ByReg (number_at found at) (shift_kind (number_at found (at + 1))) (number_at found (at + 2)))
 
 abbrev pub alu_with : ℕ → AluOp → Bool → ℕ → ℕ → Result Operand2 AsmKind → Result Instr AsmKind

@@ -17,6 +17,25 @@ three_operands = codes "r, r, #n|r, r, #n, #n|r, r, r|r, r, r, k #n|r, r, r, X|r
 abbrev pub two_operands : List ℕ
 two_operands = codes "r, #n|r, #n, #n|r, r|r, r, k #n|r, r, X|r, r, k r"
 
+-- the places of the second operand's forms among them
+abbrev pub as_number : ℕ
+as_number = 0
+
+abbrev pub as_turned_number : ℕ
+as_turned_number = 1
+
+abbrev pub as_register : ℕ
+as_register = 2
+
+abbrev pub as_shifted_by_number : ℕ
+as_shifted_by_number = 3
+
+abbrev pub as_turned_through_carry : ℕ
+as_turned_through_carry = 4
+
+abbrev pub as_shifted_by_register : ℕ
+as_shifted_by_register = 5
+
 -- A load or a store of a word or a byte (DDI 0406C A8.8.63, A8.8.64, A8.8.66, A8.8.68 to A8.8.70, A8.8.204, A8.8.205,
 -- A8.8.207, A8.8.208): the base alone; the base moved by a number, by a register, by one that is shifted by a number or
 -- turned through the carry, and written back where `!` stands; and the same behind the base.

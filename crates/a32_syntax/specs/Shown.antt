@@ -24,7 +24,7 @@ use Rattle.a32_syntax.specs.declared.operations.Operation.{Operation}
 use Rattle.a32_syntax.specs.declared.operations.Operation.TheVariants.{Alu, Movw, Movt, Nop, Yield, Mul, Mla, Mls, Long, Clz, Rev, Extend, Word, Half, Block, Branch, BranchReg, Svc, LoadEx, StoreEx, Clrex, Barrier}
 use Rattle.a32_syntax.specs.declared.operations.Mnemonic.{Mnemonic}
 use Rattle.a32_syntax.specs.Mnemonics.{mnemonic, mnemonic_text}
-use Rattle.a32_syntax.specs.Operands.{operands_of}
+use Rattle.a32_syntax.specs.Operands.{operands_of, as_number, as_turned_number, as_register, as_shifted_by_number, as_turned_through_carry, as_shifted_by_register}
 use Rattle.a32_syntax.specs.Meaning.{least_turn}
 
 -- What is shown of an instruction: a mnemonic, the place of a form among those of its operation, and the form's numbers.
@@ -72,10 +72,12 @@ abbrev pub is_least : ℕ → ℕ → Bool
 is_least turn imm8 = is_turn turn (least_turn (immediate_number turn imm8))
 
 unfoldable pub operand_form : Operand2 → ℕ
-operand_form (operand.Imm turn imm8) = if is_least turn imm8 then 0 else 1
+operand_form (operand.Imm turn imm8) = if is_least turn imm8 then as_number else as_turned_number
 operand_form (operand.ByNum rm kind amount) =
-    if is_unshifted kind amount then 2 else if is_through_carry kind amount then 4 else 3
-operand_form (operand.ByReg rm kind rs) = 5
+    if is_unshifted kind amount then as_register else
+    if is_through_carry kind amount then as_turned_through_carry else
+    as_shifted_by_number
+operand_form (operand.ByReg rm kind rs) = as_shifted_by_register
 
 unfoldable pub operand_numbers : Operand2 → List ℕ
 operand_numbers (operand.Imm turn imm8) = if is_least turn imm8 then immediate_number turn imm8 ∷ [] else imm8 ∷ 2 * turn ∷ []
