@@ -1,5 +1,5 @@
 -- Rows that no word fits together, by a test of their fixed bits that computes.
-use Rattle.std.proofs.Common.{◌≡◌, ℕ, ◌-◌, ◌/◌, ◌%◌, ◌^◌, ◌<◌, ◌==◌, nat_lt, ◌&&◌, ◌||◌, Bool, true, false, IsTrue, List, [], ◌∷◌, All, AllPairs, ⊎_elim, arith, refl, ◌∙◌, subst}
+use Rattle.std.proofs.Common.{◌≡◌, ℕ, ◌/◌, ◌%◌, ◌^◌, ◌<◌, ◌==◌, nat_lt, ◌&&◌, ◌||◌, Bool, true, false, IsTrue, List, [], ◌∷◌, All, AllPairs, ⊎_elim, arith, refl, ◌∙◌, subst}
 use Rattle.std.specs.List.{list_any, list_all}
 use Rattle.std.proofs.lemmas.Bool.{and_parts, or_cases, eqb-true, ltb-true, both_ways}
 use Rattle.std.proofs.lemmas.List.Elements.{All-cons, All-nil}

@@ -6,7 +6,6 @@ use Rattle.llsc_base.specs.declared.access.Size.TheVariants.{B1, B2, B4}
 use Rattle.llsc_base.specs.declared.access.Size.{Size}
 use Rattle.llsc_base.specs.declared.access.Place.{Place}
 use Rattle.llsc_base.specs.declared.access.Bar.{Bar}
-use Rattle.llsc_base.specs.declared.access.Bar.TheVariants as bar
 use Rattle.llsc_base.specs.Images.{Program, bar_of}
 use Rattle.a32_instr.specs.declared.instructions.Offset.{Offset}
 use Rattle.a32_instr.specs.declared.instructions.Offset.TheVariants.{Imm, Shifted}
