@@ -1,3 +1,4 @@
+//! The program of a text.
 ghost use Rattle.std.specs.Prelude.{◌≡◌, ◌⊎◌, Ok, Err, IfOk, IfErr};
 ghost use Rattle.a32_syntax.specs.Kinds.{kind_name};
 ghost use Rattle.elf32.specs.Units.{IsWithin};

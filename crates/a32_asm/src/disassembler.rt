@@ -1,3 +1,4 @@
+//! The text of a word.
 ghost use Rattle.std.specs.Prelude.{◌≡◌, ◌%◌, ℕ, List, Option, false, Ok};
 ghost use Rattle.a32_asm.specs.declared.layout.Spot.{Spot};
 ghost use Rattle.a32_asm.specs.Statements.{code_word, line_piece};

@@ -1,3 +1,5 @@
+//! What a statement is, by how it begins.
+
 /// What a statement is, by how it begins.
 #[derive(Clone, Copy)]
 pub enum Head {

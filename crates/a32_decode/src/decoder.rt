@@ -1,3 +1,4 @@
+//! The instruction of a word, by the groups of encodings.
 ghost use Rattle.std.specs.Prelude.{◌≡◌, ◌<◌, ◌∷◌, []};
 ghost use Rattle.llsc_base.specs.Bits.{bits_of};
 ghost use Rattle.a32_instr.specs.Table.{extend, rev, word_reg, meaning, table};

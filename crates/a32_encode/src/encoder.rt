@@ -1,3 +1,4 @@
+//! The word of an instruction.
 ghost use Rattle.std.specs.Prelude.{◌≡◌, ◌<◌, ◌^◌, ℕ, Some, None};
 ghost use Rattle.std.specs.Result.{IfOk};
 ghost use Rattle.a32_instr.specs.Table.{table, meaning};

@@ -1,3 +1,4 @@
+//! What arithmetic gives: a value with its carry and overflow, or with flags.
 use crate::conditions::Flags;
 
 /// A sum of 32 bits: its value, whether the unsigned sum is at least 2 to the 32, and whether the

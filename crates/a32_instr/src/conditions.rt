@@ -1,3 +1,4 @@
+//! The condition flags, and the condition codes.
 ghost use Rattle.std.specs.Prelude.{◌≡◌, ◌<◌};
 
 use std::marker::Model;

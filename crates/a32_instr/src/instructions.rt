@@ -1,3 +1,4 @@
+//! The instructions, by the fields of their words.
 ghost use Rattle.std.specs.Prelude.{◌≡◌};
 ghost use Rattle.a32_instr.specs.Effect.{condition_of};
 ghost use Rattle.a32_instr.specs.Fields.{is_compare, is_move};

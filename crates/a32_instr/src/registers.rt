@@ -1,3 +1,4 @@
+//! The core registers.
 ghost use Rattle.std.specs.Prelude.{◌≡◌, ◌<◌};
 
 use std::marker::Model;

@@ -1,3 +1,4 @@
+//! How far a thread has come in its instruction, and what holds it.
 use llsc_base::{Ask, CallAsk, Stop};
 
 /// The point that a thread has reached in its instruction.

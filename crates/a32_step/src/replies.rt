@@ -1,3 +1,4 @@
+//! The replies that an instruction has had.
 ghost use Rattle.std.specs.Prelude.{◌≡◌, ◌<◌, ◌≤◌, [], ◌∷◌, ◌++◌, length, slice_get, slice_index};
 
 use std::marker::Model;

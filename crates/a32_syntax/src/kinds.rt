@@ -1,3 +1,4 @@
+//! What may be wrong with a line.
 ghost use Rattle.std.specs.Prelude.{◌≡◌};
 ghost use Rattle.a32_syntax.specs.Kinds.{kind_name};
 

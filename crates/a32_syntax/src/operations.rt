@@ -1,3 +1,4 @@
+//! What a mnemonic names.
 use a32_instr::{AluOp, BarrierKind, Cond, HalfKind, LongKind};
 use llsc_base::Size;
 

@@ -1,4 +1,4 @@
-//! A program as an assembler makes it: its code, its data, and its space.
+//! A program: its code, its data and the space behind them.
 ghost use Rattle.std.specs.Prelude.{◌≡◌};
 
 use std::marker::Model;

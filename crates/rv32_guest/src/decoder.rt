@@ -1,4 +1,4 @@
-//! The instruction that a word is.
+//! The instruction of a word, by its opcode.
 ghost use Rattle.std.specs.Prelude.{◌≡◌};
 ghost use Rattle.rv32_guest.specs.Table.{meaning, table};
 

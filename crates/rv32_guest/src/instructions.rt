@@ -1,4 +1,4 @@
-//! The instructions of the set.
+//! The instructions, by the fields of their words.
 
 /// An instruction of RV32I without EBREAK, or of Zalrsc (The RISC-V Instruction Set Manual, Volume I, chapters "RV32I Base
 /// Integer Instruction Set" and "A Extension"). `rd`, `rs1` and `rs2` are registers by their numbers, from 0 to 31.

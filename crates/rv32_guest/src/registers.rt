@@ -1,4 +1,4 @@
-//! The registers and the PC.
+//! The registers of a core, and its PC.
 ghost use Rattle.std.specs.Prelude.{◌≡◌, ◌%◌, [], ◌∷◌};
 ghost use Rattle.rv32_guest.specs.State.{register, with_register, next_pc};
 
