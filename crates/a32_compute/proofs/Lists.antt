@@ -3,7 +3,7 @@ use Rattle.std.proofs.Common.{◌≡◌, ℕ, zero, suc, ◌+◌, ◌-◌, ◌/�
 use Rattle.std.proofs.lemmas.Bool.{eqb-true}
 use Rattle.std.proofs.lemmas.Nat.{ones-le}
 use lib.Count.{ones, ones_step}
-use Rattle.a32_instr.specs.Block.{is_listed, registers_of, count_of, below, loaded, value_of}
+use Rattle.a32_instr.specs.Block.{is_listed, registers_of, count_of, below, loaded, listed_value}
 use Rattle.a32_compute.specs.Lists.{highest, AreLeft}
 
 -- all of them
@@ -223,6 +223,6 @@ unfolding loaded
 loaded_all list r words regs past = ap (λ (rs : List ℕ). loaded rs list words regs) (at_end list r past)
 
 pub loaded_next : (list r : ℕ) (words regs : List ℕ) → r < 16 → is_listed list r ≡ true
-    → loaded (highest list (16 - r)) list words regs ≡ loaded (highest list (16 - (r + 1))) list words (slice_set regs r (value_of list words r))
+    → loaded (highest list (16 - r)) list words regs ≡ loaded (highest list (16 - (r + 1))) list words (slice_set regs r (listed_value list words r))
 unfolding loaded
 loaded_next list r words regs low e = ap (λ (rs : List ℕ). loaded rs list words regs) (at_listed list r low e)

@@ -48,22 +48,22 @@ block_back wback up rn bytes state =
     record state { regs = base_regs wback rn (moved (register state rn) up bytes) state.regs }
 
 -- where the word of a register of a list is: above the lowest by the words of those below
-abbrev pub word_of : ℕ → ℕ → ℕ → Place
-word_of lowest list r = word_place (lowest + 4 * below list r)
+abbrev pub listed_place : ℕ → ℕ → ℕ → Place
+listed_place lowest list r = word_place (lowest + 4 * below list r)
 
 -- the access of one of the registers
 abbrev pub block_ask : Bool → ℕ → ℕ → State → ℕ → Ask
-block_ask true lowest list state r = Load (word_of lowest list r)
-block_ask false lowest list state r = Store (word_of lowest list r) (register state r)
+block_ask true lowest list state r = Load (listed_place lowest list r)
+block_ask false lowest list state r = Store (listed_place lowest list r) (register state r)
 
 -- the value of a register of a list, by the words of the block from the lowest up
-abbrev pub value_of : ℕ → List ℕ → ℕ → ℕ
-value_of list words r = low32 (slice_index words (below list r))
+abbrev pub listed_value : ℕ → List ℕ → ℕ → ℕ
+listed_value list words r = low32 (slice_index words (below list r))
 
 -- r0 to r14 where each of these registers of a list has its value (the PC is none of r0 to r14)
 unfoldable pub loaded : List ℕ → ℕ → List ℕ → List ℕ → List ℕ
 loaded [] list words regs = regs
-loaded (r ∷ registers) list words regs = loaded registers list words (slice_set regs r (value_of list words r))
+loaded (r ∷ registers) list words regs = loaded registers list words (slice_set regs r (listed_value list words r))
 
 abbrev pub with_block : ℕ → List ℕ → State → State
 with_block list words state = record state { regs = loaded (registers_of list) list words state.regs }
@@ -72,7 +72,7 @@ with_block list words state = record state { regs = loaded (registers_of list) l
 abbrev pub block_loaded : ℕ → List ℕ → State → Effect
 block_loaded list words back =
     if is_listed list 15
-    then jumps (with_block list words back) (value_of list words 15)
+    then jumps (with_block list words back) (listed_value list words 15)
     else completes (advanced (with_block list words back))
 
 abbrev pub block_done : Bool → ℕ → List ℕ → State → Effect

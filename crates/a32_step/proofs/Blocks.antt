@@ -6,7 +6,7 @@ use Rattle.llsc_base.specs.declared.access.Bar.{Bar}
 use Rattle.llsc_base.specs.declared.access.BarredWord.{BarredWord}
 use Rattle.a32_instr.specs.State.{State, Effect, register, advanced, jumps}
 use Rattle.llsc_base.specs.Effects.{asks, completes}
-use Rattle.a32_instr.specs.Block.{is_listed, registers_of, count_of, block_ask, block_loaded, block_done, block_next, block_at, unless_barred, value_of, with_block, word_of}
+use Rattle.a32_instr.specs.Block.{is_listed, registers_of, count_of, block_ask, block_loaded, block_done, block_next, block_at, unless_barred, listed_value, with_block, listed_place}
 use Rattle.a32_compute.proofs.Lists.{below_is, registers_most}
 use Rattle.a32_step.proofs.Effects.{IsSound, Stands, barred_own, chosen, jumps_stands}
 
@@ -34,8 +34,8 @@ none_barred program store addr (suc count) (suc i) none less =
 module _ (words : Type 0) (program : Program) (replies : List ℕ) where
   loaded_stands : (list : ℕ) (back : State) → Stands words program replies (block_loaded list replies back)
   loaded_stands list back =
-      chosen words program replies (is_listed list 15) (jumps (with_block list replies back) (value_of list replies 15)) (completes (advanced (with_block list replies back)))
-      (jumps_stands words program replies (with_block list replies back) (value_of list replies 15)) tt
+      chosen words program replies (is_listed list 15) (jumps (with_block list replies back) (listed_value list replies 15)) (completes (advanced (with_block list replies back)))
+      (jumps_stands words program replies (with_block list replies back) (listed_value list replies 15)) tt
 
   done_stands : (load : Bool) (list : ℕ) (back : State) → Stands words program replies (block_done load list replies back)
   done_stands load list back =
@@ -43,7 +43,7 @@ module _ (words : Type 0) (program : Program) (replies : List ℕ) where
 
   -- the word of the register that comes next isn't barred
   next_word : (store : Bool) (lowest list : ℕ) → first_barred program store lowest (count_of list) ≡ None → length replies < count_of list
-      → bar_of program (word_of lowest list (slice_index (registers_of list) (length replies))) store ≡ None
+      → bar_of program (listed_place lowest list (slice_index (registers_of list) (length replies))) store ≡ None
   next_word store lowest list none less =
       subst (λ n. bar_of program (word_place (lowest + 4 * n)) store ≡ None) (sym (below_is list (length replies) less))
       (none_barred program store lowest (count_of list) (length replies) none less)
