@@ -12,6 +12,7 @@ mod conditions;
 mod instructions;
 pub mod laws;
 mod registers;
+pub mod worked;
 
 pub use arithmetic::{Computed, Shifted, Sum};
 pub use conditions::{Cond, Flags};

@@ -1,2 +1,0 @@
--- What only proofs and inner contracts need.
-pub mod Classes
