@@ -1,4 +1,3 @@
 pub mod Word
 pub mod Encoding
 pub mod Faults
-pub mod inner

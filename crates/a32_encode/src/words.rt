@@ -1,8 +1,6 @@
 //! The one word that can be an instruction's.
-ghost use Rattle.std.specs.Prelude.{◌≡◌, IsTrue};
-ghost use Rattle.a32_instr.specs.inner.Classes.{is_data, is_multiply};
+ghost use Rattle.std.specs.Prelude.{◌≡◌};
 ghost use Rattle.a32_encode.specs.Word.{word_of};
-ghost use Rattle.a32_encode.specs.inner.Word.{is_transfer};
 
 use crate::fields::{
     barrier_kind, bit, condition, distance, exclusive_size, half_kind, half_offset,
@@ -218,9 +216,23 @@ fn barrier(kind: BarrierKind, option: u8) -> u64
     0xf57f_f040 + barrier_kind(kind) * 0x10 + u64::from(option)
 }
 
-/// Data processing, MOVW and MOVT, CLZ, REV and the extends (DDI 0406C A5.2, A5.4).
-fn data_word(i: Instr) -> u64
-    requires { IsTrue (is_data i) }
+/// NOP (DDI 0406C A8.8.119).
+fn no_operation(cond: Cond) -> u64
+    ensures { result ≡ word_of (Instr.Nop cond) }
+{
+    condition(cond) + 0x320_f000
+}
+
+/// YIELD (DDI 0406C A8.8.426).
+fn give_way(cond: Cond) -> u64
+    ensures { result ≡ word_of (Instr.Yield cond) }
+{
+    condition(cond) + 0x320_f001
+}
+
+/// The sum of an instruction's fixed bits and its fields, each at its place (DDI 0406C A5.1 to A5.7). It is
+/// no word of the instruction's where a field is too large, and where the fields are no instruction.
+pub fn candidate(i: Instr) -> u64
     ensures { result ≡ word_of i }
 {
     match i {
@@ -234,26 +246,8 @@ fn data_word(i: Instr) -> u64
         } => data_processing(cond, op, s, rd, rn, operand),
         Instr::Movw { cond, rd, imm } => move_wide(cond, rd, imm),
         Instr::Movt { cond, rd, imm } => move_top(cond, rd, imm),
-        Instr::Clz { cond, rd, rm } => leading_zeros(cond, rd, rm),
-        Instr::Extend {
-            cond,
-            unsigned,
-            half,
-            rd,
-            rm,
-            turn,
-        } => extended(cond, unsigned, half, rd, rm, turn),
-        Instr::Rev { cond, rd, rm } => reversed(cond, rd, rm),
-        _ => unreachable!(),
-    }
-}
-
-/// Multiplications (DDI 0406C A5.2.5).
-fn multiply_word(i: Instr) -> u64
-    requires { IsTrue (is_multiply i) }
-    ensures { result ≡ word_of i }
-{
-    match i {
+        Instr::Nop { cond } => no_operation(cond),
+        Instr::Yield { cond } => give_way(cond),
         Instr::Mul {
             cond,
             s,
@@ -285,16 +279,16 @@ fn multiply_word(i: Instr) -> u64
             rn,
             rm,
         } => long_product(cond, kind, s, lo, hi, rn, rm),
-        _ => unreachable!(),
-    }
-}
-
-/// Loads and stores that aren't exclusive (DDI 0406C A5.2.8, A5.3, A5.5).
-fn access_word(i: Instr) -> u64
-    requires { IsTrue (is_transfer i) }
-    ensures { result ≡ word_of i }
-{
-    match i {
+        Instr::Clz { cond, rd, rm } => leading_zeros(cond, rd, rm),
+        Instr::Extend {
+            cond,
+            unsigned,
+            half,
+            rd,
+            rm,
+            turn,
+        } => extended(cond, unsigned, half, rd, rm, turn),
+        Instr::Rev { cond, rd, rm } => reversed(cond, rd, rm),
         Instr::Word {
             cond,
             load,
@@ -321,27 +315,6 @@ fn access_word(i: Instr) -> u64
             rn,
             list,
         } => block(cond, load, before, up, wback, rn, list),
-        _ => unreachable!(),
-    }
-}
-
-/// The sum of an instruction's fixed bits and its fields, each at its place (DDI 0406C A5.1 to A5.7). It is
-/// no word of the instruction's where a field is too large, and where the fields are no instruction.
-pub fn candidate(i: Instr) -> u64
-    ensures { result ≡ word_of i }
-{
-    match i {
-        Instr::Alu { .. }
-        | Instr::Movw { .. }
-        | Instr::Movt { .. }
-        | Instr::Clz { .. }
-        | Instr::Extend { .. }
-        | Instr::Rev { .. } => data_word(i),
-        Instr::Mul { .. } | Instr::Mla { .. } | Instr::Mls { .. } | Instr::Long { .. } =>
-            multiply_word(i),
-        Instr::Word { .. } | Instr::Half { .. } | Instr::Block { .. } => access_word(i),
-        Instr::Nop { cond } => condition(cond) + 0x320_f000,
-        Instr::Yield { cond } => condition(cond) + 0x320_f001,
         Instr::Branch { cond, link, words } => branch(cond, link, words),
         Instr::BranchReg { cond, link, rm } => branch_to_register(cond, link, rm),
         Instr::Svc { cond, imm } => supervisor_call(cond, imm),

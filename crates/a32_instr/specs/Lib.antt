@@ -12,4 +12,3 @@ pub mod Block
 pub mod Branch
 pub mod Exclusive
 pub mod Effect
-pub mod inner

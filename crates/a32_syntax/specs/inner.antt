@@ -1,3 +1,2 @@
 -- What only proofs and inner contracts need.
 pub mod Bounds
-pub mod Classes

@@ -1,9 +1,7 @@
 //! What is shown of an instruction: its mnemonic, and one of the forms of its operands with numbers.
-ghost use Rattle.std.specs.Prelude.{◌≡◌, ◌<◌, ◌≤◌, ◌^◌, ◌+◌, ◌+ℤ◌, ◌*ℤ◌, pos, IsTrue, false, length, ◌∷◌, []};
+ghost use Rattle.std.specs.Prelude.{◌≡◌, ◌<◌, ◌≤◌, ◌^◌, ◌+◌, ◌+ℤ◌, ◌*ℤ◌, pos, false, length, ◌∷◌, []};
 ghost use Rattle.a32_instr.specs.Branch.{target_of};
-ghost use Rattle.a32_instr.specs.inner.Classes.{is_data, is_multiply};
 ghost use Rattle.a32_instr.specs.DataProcessing.{one_if};
-ghost use Rattle.a32_syntax.specs.inner.Classes.{is_single_transfer, is_exclusive_or_barrier};
 ghost use Rattle.a32_syntax.specs.Shown.{access_numbers, half_form, load_exclusive_numbers, showing, showing_of, store_exclusive_numbers, word_form};
 
 use crate::operations::{Mnemonic, Operation};
@@ -281,10 +279,9 @@ fn half_access(
     in_form(Operation::Half(kind), false, cond, form, numbers)
 }
 
-/// Data processing, MOVW and MOVT, CLZ, REV and the extends (DDI 0406C A5.2, A5.4).
+/// What is shown of an instruction at an address.
 #[tactic(auto, unfolding(crate::specs::Shown::showing_of))]
-fn data(instruction: Instr, here: u32) -> Showing
-    requires { IsTrue (is_data instruction) }
+pub fn showing_of(instruction: Instr, here: u32) -> Showing
     ensures { result ≡ showing_of instruction here }
 {
     match instruction {
@@ -298,27 +295,8 @@ fn data(instruction: Instr, here: u32) -> Showing
         } => alu(cond, op, s, rd, rn, operand, here),
         Instr::Movw { cond, rd, imm } => wide_move(Operation::Movw, cond, rd, imm),
         Instr::Movt { cond, rd, imm } => wide_move(Operation::Movt, cond, rd, imm),
-        Instr::Clz { cond, rd, rm } => of_two(Operation::Clz, cond, rd, rm),
-        Instr::Rev { cond, rd, rm } => of_two(Operation::Rev, cond, rd, rm),
-        Instr::Extend {
-            cond,
-            unsigned,
-            half,
-            rd,
-            rm,
-            turn,
-        } => extend(cond, unsigned, half, rd, rm, turn, here),
-        _ => unreachable!(),
-    }
-}
-
-/// Multiplications (DDI 0406C A5.2.5).
-#[tactic(auto, unfolding(crate::specs::Shown::showing_of))]
-fn multiplication(instruction: Instr, here: u32) -> Showing
-    requires { IsTrue (is_multiply instruction) }
-    ensures { result ≡ showing_of instruction here }
-{
-    match instruction {
+        Instr::Nop { cond } => alone(Operation::Nop, cond),
+        Instr::Yield { cond } => alone(Operation::Yield, cond),
         Instr::Mul {
             cond,
             s,
@@ -350,17 +328,16 @@ fn multiplication(instruction: Instr, here: u32) -> Showing
             rn,
             rm,
         } => of_four(Operation::Long(kind), s, cond, lo, hi, rn, rm),
-        _ => unreachable!(),
-    }
-}
-
-/// Loads and stores of one register that aren't exclusive (DDI 0406C A5.2.8, A5.3).
-#[tactic(auto, unfolding(crate::specs::Shown::showing_of))]
-fn access(instruction: Instr, here: u32) -> Showing
-    requires { IsTrue (is_single_transfer instruction) }
-    ensures { result ≡ showing_of instruction here }
-{
-    match instruction {
+        Instr::Clz { cond, rd, rm } => of_two(Operation::Clz, cond, rd, rm),
+        Instr::Rev { cond, rd, rm } => of_two(Operation::Rev, cond, rd, rm),
+        Instr::Extend {
+            cond,
+            unsigned,
+            half,
+            rd,
+            rm,
+            turn,
+        } => extend(cond, unsigned, half, rd, rm, turn, here),
         Instr::Word {
             cond,
             load,
@@ -378,52 +355,6 @@ fn access(instruction: Instr, here: u32) -> Showing
             rt,
             offset,
         } => half_access(kind, cond, index, rn, rt, &offset),
-        _ => unreachable!(),
-    }
-}
-
-/// Exclusives, CLREX and the barriers (DDI 0406C A5.2.10, A5.7.1).
-#[tactic(auto, unfolding(crate::specs::Shown::showing_of))]
-fn synchronization(instruction: Instr, here: u32) -> Showing
-    requires { IsTrue (is_exclusive_or_barrier instruction) }
-    ensures { result ≡ showing_of instruction here }
-{
-    match instruction {
-        Instr::LoadEx { cond, size, rn, rt } => load_exclusive(cond, size, rn, rt),
-        Instr::StoreEx {
-            cond,
-            size,
-            rn,
-            rd,
-            rt,
-        } => store_exclusive(cond, size, rn, rd, rt),
-        Instr::Clrex => alone(Operation::Clrex, Cond::ALWAYS),
-        Instr::Barrier { kind, option } => {
-            of_number(Operation::Barrier(kind), Cond::ALWAYS, u64::from(option))
-        }
-        _ => unreachable!(),
-    }
-}
-
-/// What is shown of an instruction at an address.
-#[tactic(auto, unfolding(crate::specs::Shown::showing_of))]
-pub fn showing_of(instruction: Instr, here: u32) -> Showing
-    ensures { result ≡ showing_of instruction here }
-{
-    match instruction {
-        Instr::Alu { .. }
-        | Instr::Movw { .. }
-        | Instr::Movt { .. }
-        | Instr::Clz { .. }
-        | Instr::Rev { .. }
-        | Instr::Extend { .. } => data(instruction, here),
-        Instr::Mul { .. } | Instr::Mla { .. } | Instr::Mls { .. } | Instr::Long { .. } =>
-            multiplication(instruction, here),
-        Instr::Word { .. } | Instr::Half { .. } => access(instruction, here),
-        Instr::LoadEx { .. } | Instr::StoreEx { .. } | Instr::Clrex | Instr::Barrier { .. } =>
-            synchronization(instruction, here),
-        Instr::Nop { cond } => alone(Operation::Nop, cond),
-        Instr::Yield { cond } => alone(Operation::Yield, cond),
         Instr::Block {
             cond,
             load,
@@ -433,12 +364,30 @@ pub fn showing_of(instruction: Instr, here: u32) -> Showing
             rn,
             list,
         } => block(Operation::Block { load, before, up }, cond, wback, rn, list),
-        Instr::Branch { cond, link, words } => {
-            of_number(Operation::Branch { link }, cond, target(here, words))
-        }
-        Instr::BranchReg { cond, link, rm } => {
-            of_number(Operation::BranchReg { link }, cond, register(rm))
-        }
+        Instr::Branch { cond, link, words } => of_number(
+            Operation::Branch { link },
+            cond,
+            target(here, words),
+        ),
+        Instr::BranchReg { cond, link, rm } => of_number(
+            Operation::BranchReg { link },
+            cond,
+            register(rm),
+        ),
         Instr::Svc { cond, imm } => of_number(Operation::Svc, cond, u64::from(imm)),
+        Instr::LoadEx { cond, size, rn, rt } => load_exclusive(cond, size, rn, rt),
+        Instr::StoreEx {
+            cond,
+            size,
+            rn,
+            rd,
+            rt,
+        } => store_exclusive(cond, size, rn, rd, rt),
+        Instr::Clrex => alone(Operation::Clrex, Cond::ALWAYS),
+        Instr::Barrier { kind, option } => of_number(
+            Operation::Barrier(kind),
+            Cond::ALWAYS,
+            u64::from(option),
+        ),
     }
 }
