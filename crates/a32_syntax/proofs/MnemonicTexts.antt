@@ -10,7 +10,7 @@ use Rattle.a32_instr.specs.declared.instructions.BarrierKind.TheVariants.{Dsb}
 use Rattle.llsc_base.specs.declared.access.Size.TheVariants.{B1}
 use Rattle.a32_forms.specs.Names.{place_from}
 use Rattle.a32_syntax.specs.declared.operations.Operation.{Operation}
-use Rattle.a32_syntax.specs.declared.operations.Operation.TheVariants.{Alu, Movw, Movt, Nop, Yield, Mul, Mla, Mls, Long, Clz, Rev, Extend, Word, Half, Block, Branch, BranchReg, Svc, LoadEx, StoreEx, Clrex, Barrier}
+use Rattle.a32_syntax.specs.declared.operations.Operation.TheVariants.{Alu, Mul, Mla, Long, Extend, Word, Half, Block, Branch, BranchReg, LoadEx, StoreEx, Clrex, Barrier}
 use Rattle.a32_syntax.specs.declared.operations.Mnemonic.{Mnemonic}
 use Rattle.a32_syntax.specs.Mnemonics.{mnemonic, mnemonic_text, mnemonic_of, is_mnemonic, may_set_flags, may_have_condition, read_among, as_operation, with_flags}
 
@@ -91,26 +91,7 @@ conditional_read operation true cond f h less =
 no_flags : (operation : Operation) → may_have_condition operation ≡ false → may_set_flags operation ≡ false
 no_flags Clrex h = refl
 no_flags (Barrier kind) h = refl
-no_flags (Alu op) h = absurd (both_ways true h refl)
-no_flags Movw h = absurd (both_ways true h refl)
-no_flags Movt h = absurd (both_ways true h refl)
-no_flags Nop h = absurd (both_ways true h refl)
-no_flags Yield h = absurd (both_ways true h refl)
-no_flags Mul h = absurd (both_ways true h refl)
-no_flags Mla h = absurd (both_ways true h refl)
-no_flags Mls h = absurd (both_ways true h refl)
-no_flags (Long kind) h = absurd (both_ways true h refl)
-no_flags Clz h = absurd (both_ways true h refl)
-no_flags Rev h = absurd (both_ways true h refl)
-no_flags (Extend unsigned half) h = absurd (both_ways true h refl)
-no_flags (Word load byte) h = absurd (both_ways true h refl)
-no_flags (Half kind) h = absurd (both_ways true h refl)
-no_flags (Block load before up) h = absurd (both_ways true h refl)
-no_flags (Branch link) h = absurd (both_ways true h refl)
-no_flags (BranchReg link) h = absurd (both_ways true h refl)
-no_flags Svc h = absurd (both_ways true h refl)
-no_flags (LoadEx size) h = absurd (both_ways true h refl)
-no_flags (StoreEx size) h = absurd (both_ways true h refl)
+no_flags operation h = absurd (both_ways true h refl)
 
 unconditional_read : (operation : Operation) (set_flags : Bool) (cond : ℕ) → IsTrue (may_set_flags operation || not set_flags)
     → may_have_condition operation ≡ false → cond ≡ 14 → IsReadAgain (mnemonic operation set_flags cond)
