@@ -1,5 +1,5 @@
 -- Registers stand at the signs of registers.
-use Rattle.std.proofs.Common.{◌≡◌, ℕ, zero, suc, ◌+◌, ◌<◌, ◌≤◌, ◌==◌, ◌^◌, ◌&&◌, ◌||◌, not, nat_le, Bool, true, false, if◌then◌else◌, IsTrue, List, [], ◌∷◌, length, slice_index_or, arith, refl, subst}
+use Rattle.std.proofs.Common.{◌≡◌, ℕ, zero, suc, ◌+◌, ◌<◌, ◌≤◌, ◌==◌, ◌^◌, ◌&&◌, ◌||◌, not, nat_le, Bool, true, false, if◌then◌else◌, IsTrue, List, [], ◌∷◌, length, slice_index_or, codes, arith, refl, subst}
 use Rattle.std.specs.List.{filter}
 use Rattle.std.proofs.lemmas.Bool.{both_ways, and_parts, eqb-true, and_from, ltb-true, le-leb}
 use Rattle.a32_forms.specs.Forms.{b, r, Chosen, form_in, forms_in, number_at}
@@ -7,8 +7,7 @@ use Rattle.a32_forms.specs.Within.{are_within_from, is_within}
 use Rattle.a32_forms.specs.Written.{has_number}
 use Rattle.a32_syntax.specs.inner.Bounds.{IsWithin, IsRegister}
 use Rattle.llsc_base.specs.declared.access.Size.TheVariants.{B4, B8}
-use Rattle.a32_syntax.specs.declared.operations.Operation.{Operation}
-use Rattle.a32_syntax.specs.declared.operations.Operation.TheVariants.{Movw, Movt, Mul, Mla, Clz, Extend, BranchReg}
+use Rattle.a32_syntax.specs.declared.operations.Operation.TheVariants.{Movw, Movt, Extend, BranchReg}
 use Rattle.a32_syntax.specs.Operands.{block_operands, half_operands, load_exclusive_operands, operands_of, store_exclusive_operands, three_operands, two_operands, word_operands}
 
 -- the signs of a form that have numbers
@@ -166,55 +165,66 @@ pub ruleset block_registers = (block_rn, block_list)
 
 -- The others.
 
-abbrev RegisterAt : Operation → ℕ → Type 0
-RegisterAt operation at = (found : Chosen) → IsWithin (operands_of operation) found → IsRegister found at
+abbrev RegisterAt : List ℕ → ℕ → Type 0
+RegisterAt text at = (found : Chosen) → IsWithin text found → IsRegister found at
 
-pub movw_rd : RegisterAt Movw 0
+pub movw_rd : RegisterAt (operands_of Movw) 0
 movw_rd found = register_at (operands_of Movw) 0 found refl
 
-pub movt_rd : RegisterAt Movt 0
+pub movt_rd : RegisterAt (operands_of Movt) 0
 movt_rd found = register_at (operands_of Movt) 0 found refl
 
 pub ruleset move_registers = (movw_rd, movt_rd)
 
-pub mul_0 : RegisterAt Mul 0
-mul_0 found = register_at (operands_of Mul) 0 found refl
+-- Operands that are registers alone, whatever operation has them.
 
-pub mul_1 : RegisterAt Mul 1
-mul_1 found = register_at (operands_of Mul) 1 found refl
+abbrev two_registers : List ℕ
+two_registers = codes "r, r"
 
-pub mul_2 : RegisterAt Mul 2
-mul_2 found = register_at (operands_of Mul) 2 found refl
+abbrev three_registers : List ℕ
+three_registers = codes "r, r, r"
 
-pub mla_0 : RegisterAt Mla 0
-mla_0 found = register_at (operands_of Mla) 0 found refl
+abbrev four_registers : List ℕ
+four_registers = codes "r, r, r, r"
 
-pub mla_1 : RegisterAt Mla 1
-mla_1 found = register_at (operands_of Mla) 1 found refl
+pub two_registers_0 : RegisterAt two_registers 0
+two_registers_0 found = register_at two_registers 0 found refl
 
-pub mla_2 : RegisterAt Mla 2
-mla_2 found = register_at (operands_of Mla) 2 found refl
+pub two_registers_1 : RegisterAt two_registers 1
+two_registers_1 found = register_at two_registers 1 found refl
 
-pub mla_3 : RegisterAt Mla 3
-mla_3 found = register_at (operands_of Mla) 3 found refl
+pub three_registers_0 : RegisterAt three_registers 0
+three_registers_0 found = register_at three_registers 0 found refl
 
-pub ruleset product_registers = (mul_0, mul_1, mul_2, mla_0, mla_1, mla_2, mla_3)
+pub three_registers_1 : RegisterAt three_registers 1
+three_registers_1 found = register_at three_registers 1 found refl
 
-pub clz_0 : RegisterAt Clz 0
-clz_0 found = register_at (operands_of Clz) 0 found refl
+pub three_registers_2 : RegisterAt three_registers 2
+three_registers_2 found = register_at three_registers 2 found refl
 
-pub clz_1 : RegisterAt Clz 1
-clz_1 found = register_at (operands_of Clz) 1 found refl
+pub four_registers_0 : RegisterAt four_registers 0
+four_registers_0 found = register_at four_registers 0 found refl
 
-pub extend_0 : RegisterAt (Extend true true) 0
+pub four_registers_1 : RegisterAt four_registers 1
+four_registers_1 found = register_at four_registers 1 found refl
+
+pub four_registers_2 : RegisterAt four_registers 2
+four_registers_2 found = register_at four_registers 2 found refl
+
+pub four_registers_3 : RegisterAt four_registers 3
+four_registers_3 found = register_at four_registers 3 found refl
+
+pub ruleset product_registers = (three_registers_0, three_registers_1, three_registers_2, four_registers_0, four_registers_1, four_registers_2, four_registers_3)
+
+pub extend_0 : RegisterAt (operands_of (Extend true true)) 0
 extend_0 found = register_at (operands_of (Extend true true)) 0 found refl
 
-pub extend_1 : RegisterAt (Extend true true) 1
+pub extend_1 : RegisterAt (operands_of (Extend true true)) 1
 extend_1 found = register_at (operands_of (Extend true true)) 1 found refl
 
-pub ruleset part_registers = (clz_0, clz_1, extend_0, extend_1)
+pub ruleset part_registers = (two_registers_0, two_registers_1, extend_0, extend_1)
 
-pub branch_rm : RegisterAt (BranchReg true) 0
+pub branch_rm : RegisterAt (operands_of (BranchReg true)) 0
 branch_rm found = register_at (operands_of (BranchReg true)) 0 found refl
 
 pub load_0 : (found : Chosen) → IsWithin (load_exclusive_operands B4) found → IsRegister found 0
