@@ -6,6 +6,8 @@ pub mod Formed
 pub mod Meant
 pub mod Fits
 pub mod Texts
+pub mod ShownForms
+pub mod EachInstruction
 pub mod ShownAgain
 pub mod WorkedDecimals
 pub mod ShownCodes

@@ -25,7 +25,7 @@ use Rattle.a32_instr.specs.Branch.{target_of}
 use Rattle.a32_forms.specs.Forms.{Chosen, number_at}
 use Rattle.a32_syntax.specs.Meaning.{Site, means, second_operand, least_immediate, number_and_turn, amount_of, turned_back, least_turn, word_indexed, half_indexed, branch_to, words_between, branch_by, alu_with, is_added}
 use Rattle.a32_syntax.specs.Shown.{showing_of, operand_form, operand_numbers, word_form, half_form, access_numbers, shift_number, immediate_number, is_least, is_turn, is_base_alone, offset_numbers, exclamation_of, minus_of}
-use Rattle.a32_syntax.specs.Formed.{IsFormed, DistanceFits, OperandFits, OperationFits, WordOffsetFits, HalfOffsetFits}
+use Rattle.a32_syntax.specs.Formed.{DistanceFits, OperandFits, OperationFits, WordOffsetFits, HalfOffsetFits}
 
 -- a form and its numbers, as if they were read
 abbrev pub found : ℕ → List ℕ → Chosen
@@ -94,11 +94,11 @@ whole_asr : amount_of Asr 32 ≡ Ok 0
 unfolding amount_of
 whole_asr = refl
 
-movw_back : (cond rd imm : ℕ) (site : Site) → imm < 2 ^ 16 → MeansBack (instr.Movw cond rd imm) site
+pub movw_back : (cond rd imm : ℕ) (site : Site) → imm < 2 ^ 16 → MeansBack (instr.Movw cond rd imm) site
 unfolding means showing_of
 movw_back cond rd imm site h = grind arith
 
-extend_back : (cond : ℕ) (unsigned half : Bool) (rd rm turn : ℕ) (site : Site) → turn < 4 → MeansBack (instr.Extend cond unsigned half rd rm turn) site
+pub extend_back : (cond : ℕ) (unsigned half : Bool) (rd rm turn : ℕ) (site : Site) → turn < 4 → MeansBack (instr.Extend cond unsigned half rd rm turn) site
 unfolding means showing_of
 extend_back cond unsigned half rd rm zero site h = refl
 extend_back cond unsigned half rd rm (suc zero) site h = refl
@@ -124,7 +124,7 @@ target_behind : (here words : ℕ) → here < 2 ^ 32 → words < 2 ^ 23 → targ
 unfolding target_of
 target_behind here words small h = grind (arith, ints)
 
-branch_back : (cond : ℕ) (link : Bool) (words : ℤ) (site : Site) → site.here % 4 ≡ 0 → site.here < 2 ^ 32 → DistanceFits words → MeansBack (instr.Branch cond link words) site
+pub branch_back : (cond : ℕ) (link : Bool) (words : ℤ) (site : Site) → site.here % 4 ≡ 0 → site.here < 2 ^ 32 → DistanceFits words → MeansBack (instr.Branch cond link words) site
 unfolding means showing_of target_of
 branch_back cond link (pos words) site whole small h =
     branch_to_is cond link site.here ((site.here + 8 + 4 * words) % 2 ^ 32) words (omega arith) (omega arith) (omega arith) ∙ ahead cond link words h
@@ -185,7 +185,7 @@ operation_back : (cond : ℕ) (op : AluOp) (s : Bool) (rd rn : ℕ) (operand : O
     → alu_with cond op (s && true) rd rn (second_operand (found (operand_form operand) (rd ∷ rn ∷ operand_numbers operand)) 2) ≡ Ok (instr.Alu cond op s rd rn operand)
 operation_back cond op s rd rn operand fits = rw (operand_back2 operand rd rn fits, and-true s) refl
 
-alu_back : (cond : ℕ) (op : AluOp) (s : Bool) (rd rn : ℕ) (operand : Operand2) (site : Site) → OperationFits op s rd rn → OperandFits operand
+pub alu_back : (cond : ℕ) (op : AluOp) (s : Bool) (rd rn : ℕ) (operand : Operand2) (site : Site) → OperationFits op s rd rn → OperandFits operand
     → MeansBack (instr.Alu cond op s rd rn operand) site
 unfolding means showing_of
 alu_back cond And s rd rn operand site form fits = operation_back cond And s rd rn operand fits
@@ -300,13 +300,13 @@ unfolding access_numbers
 base_front form index offset rt rn =
     front_of (is_base_alone index offset) rt rn 1 (offset_numbers offset ++ exclamation_of index) (omega arith)
 
-word_back : (cond : ℕ) (load byte : Bool) (index : Index) (rn rt : ℕ) (offset : Offset) (site : Site) → WordOffsetFits offset
+pub word_back : (cond : ℕ) (load byte : Bool) (index : Index) (rn rt : ℕ) (offset : Offset) (site : Site) → WordOffsetFits offset
     → MeansBack (instr.Word cond load byte index rn rt offset) site
 unfolding means showing_of
 word_back cond load byte index rn rt offset site fits =
     rw (word_indexed_back index offset rt rn fits, register_front (word_form index offset) index offset rt rn, base_front (word_form index offset) index offset rt rn) refl
 
-half_back : (cond : ℕ) (kind : HalfKind) (index : Index) (rn rt : ℕ) (offset : Offset) (site : Site) → HalfOffsetFits offset
+pub half_back : (cond : ℕ) (kind : HalfKind) (index : Index) (rn rt : ℕ) (offset : Offset) (site : Site) → HalfOffsetFits offset
     → MeansBack (instr.Half cond kind index rn rt offset) site
 unfolding means showing_of
 half_back cond kind index rn rt offset site fits =
@@ -314,59 +314,33 @@ half_back cond kind index rn rt offset site fits =
 
 -- The others.
 
-block_back : (cond : ℕ) (load before up wback : Bool) (rn list : ℕ) (site : Site) → MeansBack (instr.Block cond load before up wback rn list) site
+pub block_back : (cond : ℕ) (load before up wback : Bool) (rn list : ℕ) (site : Site) → MeansBack (instr.Block cond load before up wback rn list) site
 unfolding means showing_of
 block_back cond load before up true rn list site = refl
 block_back cond load before up false rn list site = refl
 
-load_exclusive_back : (cond : ℕ) (size : Size) (rn rt : ℕ) (site : Site) → MeansBack (instr.LoadEx cond size rn rt) site
+pub load_exclusive_back : (cond : ℕ) (size : Size) (rn rt : ℕ) (site : Site) → MeansBack (instr.LoadEx cond size rn rt) site
 unfolding means showing_of
 load_exclusive_back cond B1 rn rt site = refl
 load_exclusive_back cond B2 rn rt site = refl
 load_exclusive_back cond B4 rn rt site = refl
 load_exclusive_back cond B8 rn rt site = rw (eq-eqb (rt + 1) (rt + 1) refl) refl
 
-store_exclusive_back : (cond : ℕ) (size : Size) (rn rd rt : ℕ) (site : Site) → MeansBack (instr.StoreEx cond size rn rd rt) site
+pub store_exclusive_back : (cond : ℕ) (size : Size) (rn rd rt : ℕ) (site : Site) → MeansBack (instr.StoreEx cond size rn rd rt) site
 unfolding means showing_of
 store_exclusive_back cond B1 rn rd rt site = refl
 store_exclusive_back cond B2 rn rd rt site = refl
 store_exclusive_back cond B4 rn rd rt site = refl
 store_exclusive_back cond B8 rn rd rt site = rw (eq-eqb (rt + 1) (rt + 1) refl) refl
 
-movt_back : (cond rd imm : ℕ) (site : Site) → imm < 2 ^ 16 → MeansBack (instr.Movt cond rd imm) site
+pub movt_back : (cond rd imm : ℕ) (site : Site) → imm < 2 ^ 16 → MeansBack (instr.Movt cond rd imm) site
 unfolding means showing_of
 movt_back cond rd imm site h = grind arith
 
-svc_back : (cond imm : ℕ) (site : Site) → imm < 2 ^ 24 → MeansBack (instr.Svc cond imm) site
+pub svc_back : (cond imm : ℕ) (site : Site) → imm < 2 ^ 24 → MeansBack (instr.Svc cond imm) site
 unfolding means showing_of
 svc_back cond imm site h = grind arith
 
-barrier_back : (kind : BarrierKind) (option : ℕ) (site : Site) → option < 16 → MeansBack (instr.Barrier kind option) site
+pub barrier_back : (kind : BarrierKind) (option : ℕ) (site : Site) → option < 16 → MeansBack (instr.Barrier kind option) site
 unfolding means showing_of
 barrier_back kind option site h = grind arith
-
--- every formed instruction
-pub means_back : (i : Instr) (site : Site) → site.here % 4 ≡ 0 → site.here < 2 ^ 32 → IsFormed i → MeansBack i site
-unfolding IsFormed means showing_of
-means_back (instr.Alu cond op s rd rn operand) site whole small formed = alu_back cond op s rd rn operand site formed.2 formed.3
-means_back (instr.Movw cond rd imm) site whole small formed = movw_back cond rd imm site formed.2
-means_back (instr.Movt cond rd imm) site whole small formed = movt_back cond rd imm site formed.2
-means_back (instr.Nop cond) site whole small formed = refl
-means_back (instr.Yield cond) site whole small formed = refl
-means_back (instr.Mul cond s rd rn rm) site whole small formed = refl
-means_back (instr.Mla cond s rd rn rm ra) site whole small formed = refl
-means_back (instr.Mls cond rd rn rm ra) site whole small formed = refl
-means_back (instr.Long cond kind s lo hi rn rm) site whole small formed = refl
-means_back (instr.Clz cond rd rm) site whole small formed = refl
-means_back (instr.Rev cond rd rm) site whole small formed = refl
-means_back (instr.Extend cond unsigned half rd rm turn) site whole small formed = extend_back cond unsigned half rd rm turn site formed.2
-means_back (instr.Word cond load byte index rn rt offset) site whole small formed = word_back cond load byte index rn rt offset site formed.2
-means_back (instr.Half cond kind index rn rt offset) site whole small formed = half_back cond kind index rn rt offset site formed.2
-means_back (instr.Block cond load before up wback rn list) site whole small formed = block_back cond load before up wback rn list site
-means_back (instr.Branch cond link words) site whole small formed = branch_back cond link words site whole small formed.1
-means_back (instr.BranchReg cond link rm) site whole small formed = refl
-means_back (instr.Svc cond imm) site whole small formed = svc_back cond imm site formed.1
-means_back (instr.LoadEx cond size rn rt) site whole small formed = load_exclusive_back cond size rn rt site
-means_back (instr.StoreEx cond size rn rd rt) site whole small formed = store_exclusive_back cond size rn rd rt site
-means_back instr.Clrex site whole small formed = refl
-means_back (instr.Barrier kind option) site whole small formed = barrier_back kind option site formed

@@ -26,7 +26,7 @@ use Rattle.a32_syntax.specs.Operands.{operands_of}
 use Rattle.a32_syntax.specs.Shown.{showing_of, operands_text, instruction_text, is_shown_code}
 use Rattle.a32_syntax.specs.Formed.{IsFormed}
 use Rattle.a32_syntax.proofs.Texts.{passes_at, mnemonic_wordy}
-use Rattle.a32_syntax.proofs.Fits.{fits_its_form}
+use Rattle.a32_syntax.proofs.EachInstruction.{fits_its_form}
 
 -- each byte of a text may be shown
 abbrev pub AreShown : List ℕ → Type 0

@@ -93,7 +93,7 @@ fn write_operands(line: &mut Line, form: &[u8], numbers: &[u64])
 }
 
 /// Adds an instruction at an address at the end of a line, as it is shown: at most 83 bytes.
-#[tactic(auto, using(crate::proofs::Fits::fits_its_form, crate::proofs::Texts::form_short))]
+#[tactic(auto, using(crate::proofs::EachInstruction::fits_its_form, crate::proofs::Texts::form_short))]
 pub fn write_instruction(instruction: &Instr, here: u32, line: &mut Line)
     requires formed { IsFormed instruction.now }
     requires room { length line.old + 83 ≤ 96 }
