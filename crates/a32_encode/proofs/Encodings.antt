@@ -1,21 +1,20 @@
 -- An instruction's encoding is the word that means it, and there is none where no word does.
 use Rattle.std.proofs.Common.{◌≡◌, ℕ, ◌^◌, ◌<◌, ◌&&◌, Bool, true, false, nat_lt, if◌then◌else◌, Option, Some, None, Result, Ok, Err, refl, sym, ap, ltb-true, lt-ltb}
-use Rattle.std.proofs.lemmas.Slice.Eq.{bytes_eq-Decides}
 use Rattle.a32_instr.specs.Table.{meaning, table}
 use Rattle.a32_instr.specs.declared.instructions.Instr.{Instr}
 use Rattle.llsc_base.specs.declared.decoding.DecodeFault.{DecodeFault}
 use Rattle.a32_encode.specs.Word.{word_of}
-use Rattle.a32_encode.specs.Encoding.{key_of, is_that, encoding_of}
+use Rattle.a32_encode.specs.Encoding.{is_that, encoding_of}
 use Rattle.a32_encode.proofs.Rows.{only_word}
-use Rattle.a32_encode.proofs.Keys.{one_key}
+use Rattle.a32_encode.proofs.Same.{equal_is_same, same_is_equal}
 
 -- a meaning that is told to be an instruction is that instruction
 that_is : (i : Instr) (meant : Result Instr DecodeFault) → is_that i meant ≡ true → meant ≡ Ok i
-that_is i (Ok j) e = ap Ok (one_key j i ((bytes_eq-Decides (key_of j) (key_of i)).0 e))
+that_is i (Ok j) e = ap Ok (equal_is_same i j e)
 that_is i (Err fault) e = cc
 
 is_that-self : (i : Instr) → is_that i (Ok i) ≡ true
-is_that-self i = (bytes_eq-Decides (key_of i) (key_of i)).1 refl
+is_that-self i = same_is_equal i i refl
 
 -- the encoding by the two tests of a word
 chosen : (small meant : Bool) (sum w : ℕ) → (if small && meant then Some sum else None) ≡ Some w → (small ≡ true) × (meant ≡ true) × (sum ≡ w)

@@ -1,5 +1,5 @@
 //! Laws of an instruction's encoding. The first two, proved for every instruction, say together what `encoding_of` is,
-//! whatever sums and keys compute it: the word that means the instruction, and none where no word does.
+//! whatever sums compute it: the word that means the instruction, and none where no word does.
 ghost use Rattle.std.specs.Prelude.{◌≡◌, ◌<◌, ◌^◌, ℕ, Some, None, true, false, pos, negsuc};
 ghost use Rattle.a32_instr.specs.Table.{table, meaning};
 ghost use Rattle.a32_encode.specs.Encoding.{encoding_of};
@@ -18,7 +18,7 @@ pub fn meanings_have_their_encodings()
 
 /// Worked encodings, of `adds r0, r0, #1`, `ldr r1, [r1, #4]`, a `bne` of four words back, and `clrex`. An `adds` of a
 /// byte that is turned by 32 bits, `ldr r1, [r1], #4`, and a branch of 2 to the 23 words have none.
-#[tactic(auto, unfolding(crate::specs::Encoding::encoding_of, crate::specs::Encoding::key_of, a32_instr::specs::Table::meaning, a32_instr::specs::Fields::alu_op, a32_instr::specs::Fields::alu_fits, a32_instr::specs::Fields::alu_unpredictable, a32_instr::specs::Fields::index_fits, a32_instr::specs::Fields::index_of, a32_instr::specs::Fields::word_unpredictable, a32_instr::specs::Fields::signed24))]
+#[tactic(auto, unfolding(crate::specs::Encoding::encoding_of, a32_instr::specs::Table::meaning, a32_instr::specs::Fields::alu_op, a32_instr::specs::Fields::alu_fits, a32_instr::specs::Fields::alu_unpredictable, a32_instr::specs::Fields::index_fits, a32_instr::specs::Fields::index_of, a32_instr::specs::Fields::word_unpredictable, a32_instr::specs::Fields::signed24))]
 pub fn worked_encodings()
     ensures adds { encoding_of (Instr.Alu 14 AluOp.Add true 0 0 (Operand2.Imm 0 1)) ≡ Some 0xE2900001 }
     ensures loads { encoding_of (Instr.Word 14 true false Index.Plain 1 1 (Offset.Imm true 4)) ≡ Some 0xE5911004 }
