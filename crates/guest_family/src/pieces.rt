@@ -1,7 +1,7 @@
 //! A piece of the run of a thread of A32 instructions.
 ghost use Rattle.std.specs.Prelude.{◌≡◌, ◌≤◌, ℕ, length};
 ghost use Rattle.llsc_base.specs.Limits.{most_budget};
-ghost use Rattle.history.specs.Started.{MayAct};
+ghost use Rattle.shared_memory.specs.Calls.{MayUse};
 ghost use Rattle.shared_memory.specs.Seen.{IsSingle};
 ghost use Rattle.guest_core.specs.Machine.{between};
 ghost use Rattle.a32_step.specs.Machine.{a32};
@@ -28,7 +28,7 @@ pub fn go_on<M: SharedMemory, R: Wait>(
     starts: bool,
 ) -> Paused<M::Pass, Cpu>
     requires memory { M.home part.pass ≡ M.id mem.now }
-    requires single { (t : ℕ) × IsSingle t (M.numbers part.pass) × (MayAct (M.origin mem.now).first t (M.seen part.pass)) }
+    requires single { MayUse (M.origin mem.now) (M.numbers part.pass) (M.seen part.pass) }
     requires whole { length code.old.program.bytes ≡ (M.origin mem.now).size.mem }
     requires between { part.cpu ≡ between part.cpu.state }
     requires few { CountFew (counts_by part) part.steps part.out }

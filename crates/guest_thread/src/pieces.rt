@@ -1,7 +1,7 @@
 //! A thread that runs piece by piece on a memory that threads share.
 ghost use Rattle.std.specs.Prelude.{◌≡◌, ◌<◌, ◌≤◌, ℕ, None, length};
 ghost use Rattle.llsc_base.specs.Limits.{most_budget};
-ghost use Rattle.history.specs.Started.{MayAct};
+ghost use Rattle.shared_memory.specs.Calls.{MayUse};
 ghost use Rattle.shared_memory.specs.Seen.{IsSingle};
 ghost use Rattle.llsc_base.specs.declared.outside.CallAsk.{CallAsk};
 ghost use Rattle.llsc_base.specs.declared.outside.Stop.{Stop};
@@ -121,7 +121,7 @@ pub fn go_on<M: SharedMemory, C: Core, R: Wait>(
     starts: bool,
 ) -> Paused<M::Pass, C>
     requires memory { M.home part.pass ≡ M.id mem.now }
-    requires single { (t : ℕ) × IsSingle t (M.numbers part.pass) × (MayAct (M.origin mem.now).first t (M.seen part.pass)) }
+    requires single { MayUse (M.origin mem.now) (M.numbers part.pass) (M.seen part.pass) }
     requires whole { length code.old.program.bytes ≡ (M.origin mem.now).size.mem }
     requires between { C.machine part.cpu ≡ between (C.machine part.cpu).state }
     requires few { CountFew (counts_by part) part.steps part.out }

@@ -2,7 +2,7 @@
 ghost use Rattle.std.specs.Prelude.{◌≡◌, ◌≤◌, ℕ, [], length, true};
 ghost use Rattle.llsc_base.specs.Limits.{most_budget};
 ghost use Rattle.history.specs.Parts.{accesses_of, entries_of};
-ghost use Rattle.history.specs.Started.{MayAct};
+ghost use Rattle.shared_memory.specs.Calls.{MayUse};
 ghost use Rattle.shared_memory.specs.Seen.{IsFront, IsSingle};
 ghost use Rattle.guest_core.specs.Machine.{between};
 ghost use Rattle.guest_calls.specs.Bound.{most_accesses_in};
@@ -34,7 +34,7 @@ pub fn run_rv_thread<M: SharedMemory, R: Wait>(
     budget: u64,
 ) -> Finished<M::Pass>
     requires memory { M.home pass ≡ M.id mem.now }
-    requires single { (t : ℕ) × IsSingle t (M.numbers pass) × (MayAct (M.origin mem.now).first t (M.seen pass)) }
+    requires single { MayUse (M.origin mem.now) (M.numbers pass) (M.seen pass) }
     requires none { (t : ℕ) → IsSingle t (M.numbers pass) → entries_of t (M.seen pass) ≡ [] }
     requires whole { length code.program.bytes ≡ (M.origin mem.now).size.mem }
     requires between { cpu ≡ between cpu.state }
