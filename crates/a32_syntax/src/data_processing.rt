@@ -20,6 +20,17 @@ fn by_amount(rm: Reg, kind: ShiftKind, bits: u64) -> Result<Operand2, AsmKind>
     Ok(Operand2::ByNum { rm, kind, amount })
 }
 
+// The places of the second operand's forms among those of its operation.
+const AS_NUMBER: usize = 0;
+
+const AS_TURNED_NUMBER: usize = 1;
+
+const AS_REGISTER: usize = 2;
+
+const AS_SHIFTED_BY_NUMBER: usize = 3;
+
+const AS_TURNED_THROUGH_CARRY: usize = 4;
+
 /// The second operand by its form, whose numbers begin at a place.
 #[tactic(auto, unfolding(crate::specs::Meaning::second_operand))]
 fn second_operand(found: &Chosen, at: usize) -> Result<Operand2, AsmKind>
@@ -29,19 +40,19 @@ fn second_operand(found: &Chosen, at: usize) -> Result<Operand2, AsmKind>
     ensures { result ≡ second_operand found.now at }
 {
     match found.form() {
-        0 => least_immediate(found.number(at)),
-        1 => number_and_turn(found.number(at), found.number(at + 1)),
-        2 => Ok(Operand2::ByNum {
+        AS_NUMBER => least_immediate(found.number(at)),
+        AS_TURNED_NUMBER => number_and_turn(found.number(at), found.number(at + 1)),
+        AS_REGISTER => Ok(Operand2::ByNum {
             rm: register(found, at),
             kind: ShiftKind::Lsl,
             amount: 0,
         }),
-        3 => by_amount(
+        AS_SHIFTED_BY_NUMBER => by_amount(
             register(found, at),
             shift_kind(found.number(at + 1)),
             found.number(at + 2),
         ),
-        4 => Ok(Operand2::ByNum {
+        AS_TURNED_THROUGH_CARRY => Ok(Operand2::ByNum {
             rm: register(found, at),
             kind: ShiftKind::Ror,
             amount: 0,
