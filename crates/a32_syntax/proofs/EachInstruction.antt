@@ -1,5 +1,5 @@
--- What is shown of each formed instruction: a mnemonic that there is, in a form that stands, with numbers that fit it; and it means
--- the instruction.
+-- What is shown of each formed instruction: a mnemonic that there is, in a form that stands, with numbers that fit it; and it
+-- means the instruction.
 use Rattle.std.proofs.Common.{◌≡◌, ℕ, ◌^◌, ◌<◌, ◌%◌, ◌==◌, ◌||◌, IsTrue, None, arith, refl}
 use Rattle.std.specs.Cmp.Derive.{both_true}
 use Rattle.std.proofs.lemmas.Bool.{lt-ltb}
@@ -80,7 +80,12 @@ is_shown (instr.Branch cond link words) site formed = (
   both_true (number_fits (target_of site.here words) (target_small site.here words)) refl,
   λ whole small. branch_back cond link words site whole small formed.1,
 )
-is_shown (instr.BranchReg cond link rm) site formed = (below_15 cond formed.0, refl, both_true (register_fits rm formed.1) refl, λ whole small. refl)
+is_shown (instr.BranchReg cond link rm) site formed = (
+  below_15 cond formed.0,
+  refl,
+  both_true (register_fits rm formed.1) refl,
+  λ whole small. refl,
+)
 is_shown (instr.Svc cond imm) site formed = (
   below_15 cond formed.0,
   refl,
