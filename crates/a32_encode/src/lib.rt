@@ -7,8 +7,8 @@
 //!
 //! `encoding_of` in `specs/Encoding.antt` is the same as a function, for definitions that need an
 //! instruction's word. The laws in [`laws`] say by the table what it is, and they are all that is
-//! promised of it: the sums in `specs/Word.antt` and the keys beside it only compute it, and are no part
-//! of what is promised.
+//! promised of it: the sums in `specs/Word.antt`, and the comparison of what they mean with the
+//! instruction, only compute it, and are no part of what is promised.
 #![tactic(auto)]
 
 mod encoder;
