@@ -9,11 +9,11 @@ use Rattle.history.specs.Monitor.{at_rest_by, monitor_after}
 use Rattle.history.specs.Parts.{accesses_of, entries_of}
 use Rattle.history.specs.declared.entry.Entry.{Entry}
 use Rattle.history.specs.declared.entry.Entry.TheVariants.{Read, Write, Fail}
-use Rattle.history.proofs.Additions.{AreAdditions as Turned, AreBelow, AreCounted, Words, additions-times, has_failed, has_stored, holds_writes, is_at, no_turn, own_first, times}
+use Rattle.history.proofs.Additions.{AreAdditions, AreBelow, AreCounted, Words, additions-times, has_failed, has_stored, holds_writes, is_at, no_turn, own_first, times}
 use Rattle.history.proofs.SumsBelow.{sum_below, sum_below-same}
 use Rattle.history.proofs.WritesByThread.{writes_by_threads, writes_of}
 use Rattle.shared_memory.specs.Origin.{Origin, IsLegalFrom}
-use Rattle.by_hand.specs.inner.Counting.{AreAdditions, BothAdd, IsOfTwo, one_more, none, stored as one_stored, failed as one_failed}
+use Rattle.by_hand.specs.inner.Counting.{HasAdded, HaveBothAdded, IsOfTwo, next_value, none, stored, failed}
 
 abbrev pub word : Place
 word = record { addr = 8192; size = B8 }
@@ -28,7 +28,7 @@ one_word = record { word = λ index. word; count = 1; apart = only_itself }
 -- ---- additions from the first one on
 
 abbrev Turns : ℕ → List ℕ → List Entry → Type 0
-Turns t named entries = Turned t (λ index. word) named entries
+Turns t named entries = AreAdditions t (λ index. word) named entries
 
 additions-append : (t : ℕ) (before after : List ℕ) (xs ys : List Entry) → Turns t before xs → Turns t after ys → Turns t (before ++ after) (xs ++ ys)
 additions-append t _ after _ ys no_turn more = more
@@ -38,13 +38,13 @@ additions-append t _ after _ ys (has_failed index value cause named xs turns) mo
     has_failed index value cause (named ++ after) (xs ++ ys) (additions-append t named after xs ys turns more)
 
 -- a thread that has added so many times, in the order of its accesses
-turns_of : (t times : ℕ) (accesses : List Entry) → AreAdditions t word times accesses → Turns t (replicate times 0) accesses
+turns_of : (t times : ℕ) (accesses : List Entry) → HasAdded t word times accesses → Turns t (replicate times 0) accesses
 turns_of t _ _ none = no_turn
-turns_of t _ _ (one_stored times value before additions) =
-    subst (λ (named : List ℕ). Turns t named (before ++ Read t word value true ∷ Write t word (one_more value) true ∷ [])) (sym (replicate_next times 0))
+turns_of t _ _ (stored times value before additions) =
+    subst (λ (named : List ℕ). Turns t named (before ++ Read t word value true ∷ Write t word (next_value value) true ∷ [])) (sym (replicate_next times 0))
     (additions-append t (replicate times 0) (0 ∷ []) before _ (turns_of t times before additions) (has_stored 0 value [] [] no_turn))
-turns_of t _ _ (one_failed times value before cause additions) =
-    subst (λ (named : List ℕ). Turns t named (before ++ Read t word value true ∷ Fail t word (one_more value) cause ∷ [])) (append-nil (replicate times 0))
+turns_of t _ _ (failed times value before cause additions) =
+    subst (λ (named : List ℕ). Turns t named (before ++ Read t word value true ∷ Fail t word (next_value value) cause ∷ [])) (append-nil (replicate times 0))
     (additions-append t (replicate times 0) [] before _ (turns_of t times before additions) (has_failed 0 value cause [] [] no_turn))
 
 zeros_hold : value_at (replicate 65536 0) word ≡ 0
@@ -60,7 +60,7 @@ below-replicate zero = tt
 below-replicate (suc n) = (omega arith, below-replicate n)
 
 -- two threads that have each added 1 a thousand times leave 2000
-pub both_leave : (origin : Origin) (history : List Entry) → IsOfTwo origin → BothAdd word 1000 history → IsLegalFrom origin history
+pub both_leave : (origin : Origin) (history : List Entry) → IsOfTwo origin → HaveBothAdded word 1000 history → IsLegalFrom origin history
     → value_at (monitor_after (at_rest_by origin.size.granule origin.bytes origin.size.threads) (accesses_of history)).memory word ≡ 2000
 both_leave origin history two add legal =
     holds_writes one_word origin.size.granule origin.bytes origin.size.threads (λ t. replicate 1000 0) (accesses_of history) counted 0 (omega arith) ∙ sum

@@ -1,6 +1,6 @@
 //! A port by hand: a guest of A32 instructions whose loads read a clock, in the place of memory.
 //!
-//! Who has memory, or a device, of his own gives a thread its replies by [`Port`]: which replies may come is the port's to say
+//! A program with memory or a device of its own gives a thread its replies by [`Port`]: which replies may come is the port's to say
 //! (`replies`), here [`Clock`]'s by `IsTicked` (`specs/inner/Clock`). The loop of the thread is [`Guest::run`], as for every memory,
 //! and its contract says what follows of that: the guest's run is one of these instructions, and what it was replied are the
 //! clock's numbers in order.
@@ -12,7 +12,7 @@ ghost use Rattle.by_hand.specs.inner.Clock.{EndsOverClock};
 use a32_step::Cpu;
 use guest_core::{Code, Port};
 use guest_thread::Guest;
-use llsc_base::{Ask, FlatFault, Image, MachineSize, Stop};
+use llsc_base::{Ask, FlatFault, Image, MachineSize, STATUS_FAILED, Stop};
 use std::alloc::Global;
 
 /// How many steps a guest may make.
@@ -54,7 +54,7 @@ impl Port for Clock {
     fn reply(&mut self, ask: Ask) -> Option<u64> {
         Some(match ask {
             Ask::Load(_) | Ask::LoadEx(_) => self.read(),
-            Ask::StoreEx(_, _) => 1,
+            Ask::StoreEx(_, _) => STATUS_FAILED,
             Ask::Store(_, _) | Ask::Clear => 0,
         })
     }

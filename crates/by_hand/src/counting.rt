@@ -7,18 +7,18 @@
 //!
 //! What the memory promises: all accesses stand in one history, legal by Arm's memory and monitors, of which a pass has seen a
 //! front. What a call adds to that is the thread's own operation, once, and entries of other threads. So the contracts say what
-//! each thread has done by what its pass has seen: [`add_one`] adds one more addition to the thread's accesses (`AreAdditions`,
+//! each thread has done by what its pass has seen: [`add_one`] adds one more addition to the thread's accesses (`HasAdded`,
 //! `specs/inner/Counting`), [`add_all`] makes them [`ROUNDS`], and both threads' stand in the history with which memory is closed. A
 //! store-exclusive that succeeds finds in memory what the load-exclusive before it read, whatever came in between: a law of every
-//! legal history. So no addition is lost, and that [`count`] gives 2000 is proved (`proofs/Sums`, by `Additions` of `history`), for every order in which the two
-//! threads' accesses may come. Nobody promises that a loop of exclusive accesses ends, so that it is one by `rt.forever()`, which a
-//! bound `Wait` allows.
+//! legal history. So no addition is lost, and that [`count`] gives 2000 is proved (`proofs/Sums`, by `Additions` of `history`), for
+//! every order in which the two threads' accesses may come. Nobody promises that a loop of exclusive accesses ends, so that it is
+//! one by `rt.forever()`, which a bound `Wait` allows.
 ghost use Rattle.std.specs.Prelude.{◌≡◌, ◌+◌, ◌<◌, ℕ, List, [], IfOk, nat_lt};
 ghost use Rattle.history.specs.declared.entry.Entry.{Entry};
 ghost use Rattle.shared_memory.specs.Origin.{Origin};
 ghost use Rattle.shared_memory.specs.Seen.{IsOneOf, IsSingle};
 ghost use Rattle.version_memory.specs.Memory.{memory_id, memory_origin, pass_home, pass_numbers, pass_seen};
-ghost use Rattle.by_hand.specs.inner.Counting.{AreAdditions, BothAdd, IsOfTwo, own_accesses};
+ghost use Rattle.by_hand.specs.inner.Counting.{HasAdded, HaveBothAdded, IsOfTwo, Leaves, accesses_by};
 ghost use denote.Param.Send.{IsSync};
 
 use llsc_base::{Image, MachineSize, Place, Size};
@@ -68,7 +68,7 @@ fn add_one<M: SharedMemory, R: Wait>(rt: &R, memory: &M, pass: &mut M::Pass)
     ensures memory { M.home pass.new ≡ M.home pass.old }
     ensures numbers { M.numbers pass.new ≡ M.numbers pass.old }
     ensures added { (t times : ℕ) → IsSingle t (M.numbers pass.old)
-        → AreAdditions t WORD times (own_accesses t (M.seen pass.old)) → AreAdditions t WORD (times + 1) (own_accesses t (M.seen pass.new)) }
+        → HasAdded t WORD times (accesses_by t (M.seen pass.old)) → HasAdded t WORD (times + 1) (accesses_by t (M.seen pass.new)) }
 {
     for _ in rt.forever() {
         let value = memory.load_ex(rt, pass, WORD);
@@ -87,7 +87,7 @@ fn add_all<M: SharedMemory, R: Wait>(rt: &R, memory: &M, mut pass: M::Pass) -> M
     ensures memory { M.home result ≡ M.home pass }
     ensures numbers { M.numbers result ≡ M.numbers pass }
     ensures added { (t : ℕ) → IsSingle t (M.numbers pass) → M.seen pass ≡ []
-        → AreAdditions t WORD ROUNDS (own_accesses t (M.seen result)) }
+        → HasAdded t WORD ROUNDS (accesses_by t (M.seen result)) }
 {
     for round in 0..ROUNDS {
         add_one(rt, memory, &mut pass);
@@ -108,7 +108,7 @@ fn add_beside<M: SharedMemory, R: Threads + Wait + Sync>(
     requires origin { IsOfTwo (M.origin memory.now) }
     ensures memory { M.home result ≡ M.id memory.now }
     ensures both { (t : ℕ) → t < 2 → IsOneOf t (M.numbers result) }
-    ensures added { BothAdd WORD ROUNDS (M.seen result) }
+    ensures added { HaveBothAdded WORD ROUNDS (M.seen result) }
 {
     let other = memory.split(&mut pass, 1);
     let (mut pass, other) = join(
@@ -117,26 +117,28 @@ fn add_beside<M: SharedMemory, R: Threads + Wait + Sync>(
             requires { IsSync R.row × (M.home pass ≡ M.id memory.now) × IsSingle 0 (M.numbers pass) × (M.seen pass ≡ [])
                 × IsOfTwo (M.origin memory.now) }
             ensures { (M.home result ≡ M.id memory.entry.now) × IsSingle 0 (M.numbers result)
-                × AreAdditions 0 WORD ROUNDS (own_accesses 0 (M.seen result)) }
+                × HasAdded 0 WORD ROUNDS (accesses_by 0 (M.seen result)) }
         { add_all(rt, memory, pass) },
         move || -> M::Pass
             requires { (M.home other ≡ M.id memory.now) × IsSingle 1 (M.numbers other) × (M.seen other ≡ [])
                 × IsOfTwo (M.origin memory.now) }
             ensures { (M.home result ≡ M.id memory.entry.now) × IsSingle 1 (M.numbers result)
-                × AreAdditions 1 WORD ROUNDS (own_accesses 1 (M.seen result)) }
+                × HasAdded 1 WORD ROUNDS (accesses_by 1 (M.seen result)) }
         { add_all(rt, memory, other) },
     );
     memory.join(&mut pass, other);
     pass
 }
 
-/// The word, once both threads have added and memory is closed: 2000.
+/// The word, once both threads have added and memory is closed: 2000, which is what the history of their accesses leaves there.
 ///
 /// # Errors
 ///
 /// [`AllocError`] is want of memory.
 pub fn count<R: Threads + Wait + Sync>(rt: &R, alloc: Global) -> Result<u64, AllocError>
-    ensures { IfOk result (λ word. word ≡ 2000) }
+    ensures sum { IfOk result (λ word. word ≡ 2000) }
+    ensures left { IfOk result (λ word. (origin : Origin) × (history : List Entry) × IsOfTwo origin
+        × HaveBothAdded WORD ROUNDS history × Leaves origin history 1024 word) }
 {
     let (memory, pass) = zeros(alloc)?;
     let pass = add_beside(rt, &memory, pass);

@@ -13,7 +13,7 @@ use Rattle.guest_thread.specs.Ports.{EndsBy}
 use Rattle.guest_thread.specs.Start.{thread_start}
 use Rattle.by_hand.specs.declared.clock.Clock.{Clock}
 
--- the reply to an access, by how often the clock was read
+-- the reply to an access, by how often the clock was read; a store-exclusive fails (DDI 0406C A8.8.212)
 abbrev pub told : ℕ → Ask → ℕ
 told reads (Load place) = reads % 256
 told reads (LoadEx place) = reads % 256
@@ -32,7 +32,7 @@ pub record IsTicked (old : Clock) (ask : Ask) (reply : Option ℕ) (new : Clock)
   pub told_is : reply ≡ Some (told old.reads ask)
   pub goes_on : new.reads ≡ read_by old.reads ask
 
--- a program's one thread has ended over a clock that nobody had read
+-- a program's one thread has ended, within 1000 steps, over a clock that nobody had read
 pub record EndsOverClock (program : Program) (size : Numbers) (stop : Stop) : Type 0 where
   pub pairs : List Pair
   pub first : Clock

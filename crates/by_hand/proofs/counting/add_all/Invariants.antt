@@ -1,7 +1,7 @@
 use Rattle.std.proofs.Common.{◌≡◌, ℕ, []}
 use Rattle.shared_memory.specs.Seen.{IsSingle}
 use Rattle.llsc_base.specs.declared.access.Size.TheVariants.{B8}
-use Rattle.by_hand.specs.inner.Counting.{AreAdditions, own_accesses}
+use Rattle.by_hand.specs.inner.Counting.{HasAdded, accesses_by}
 use Rattle.by_hand.proofs.counting.add_all.Given as goal
 
 abbrev pub invariant-loop-round : goal.invariant-loop-round
@@ -9,5 +9,5 @@ invariant-loop-round g l = record {
   home : g.M.SharedMemory.home l.pass ≡ g.M.SharedMemory.home l.fn.pass;
   numbers : g.M.SharedMemory.numbers l.pass ≡ g.M.SharedMemory.numbers l.fn.pass;
   added : (t : ℕ) → IsSingle t (g.M.SharedMemory.numbers l.fn.pass) → g.M.SharedMemory.seen l.fn.pass ≡ []
-      → AreAdditions t (record { addr = 8192; size = B8 }) l.round (own_accesses t (g.M.SharedMemory.seen l.pass));
+      → HasAdded t (record { addr = 8192; size = B8 }) l.round (accesses_by t (g.M.SharedMemory.seen l.pass));
 }
