@@ -338,6 +338,7 @@ impl Execution {
 
 impl Execution {
     /// What the instruction does, its condition passed. The source is asked for the accesses to which it has had no reply.
+    #[rattlefmt::skip] // a row for each instruction
     #[inline(always)]
     pub fn act<S: Source>(&mut self, instr: &Instr, image: &Image, source: &mut S) -> Progress
         requires fresh { IsFalse S.RESUMES → self.old.replies ≡ [] }
@@ -348,95 +349,31 @@ impl Execution {
         ensures counted { S.counted source.new ≤ S.counted source.old + 16 }
     {
         match *instr {
-            Instr::Alu {
-                op,
-                s,
-                rd,
-                rn,
-                operand,
-                ..
-            } => self.alu(op, s, rd, rn, operand),
+            Instr::Alu { op, s, rd, rn, operand, .. } => self.alu(op, s, rd, rn, operand),
             Instr::Movw { rd, imm, .. } => self.move_wide(rd, imm),
             Instr::Movt { rd, imm, .. } => self.move_top(rd, imm),
             Instr::Nop { .. } => self.advance(),
             Instr::Yield { .. } => self.advance(),
             Instr::Barrier { .. } => self.advance(),
             Instr::Mul { s, rd, rn, rm, .. } => self.multiply(s, rd, rn, rm),
-            Instr::Mla {
-                s,
-                rd,
-                rn,
-                rm,
-                ra,
-                ..
-            } => self.multiply_and_add(s, rd, rn, rm, ra),
+            Instr::Mla { s, rd, rn, rm, ra, .. } => self.multiply_and_add(s, rd, rn, rm, ra),
             Instr::Mls { rd, rn, rm, ra, .. } => self.multiply_and_subtract(rd, rn, rm, ra),
-            Instr::Long {
-                kind,
-                s,
-                lo,
-                hi,
-                rn,
-                rm,
-                ..
-            } => self.multiply_long(kind, s, lo, hi, rn, rm),
+            Instr::Long { kind, s, lo, hi, rn, rm, .. } => self.multiply_long(kind, s, lo, hi, rn, rm),
             Instr::Clz { rd, rm, .. } => self.count_zeros(rd, rm),
-            Instr::Extend {
-                unsigned,
-                half,
-                rd,
-                rm,
-                turn,
-                ..
-            } => self.extend(unsigned, half, rd, rm, turn),
+            Instr::Extend { unsigned, half, rd, rm, turn, .. } => self.extend(unsigned, half, rd, rm, turn),
             Instr::Rev { rd, rm, .. } => self.reverse(rd, rm),
-            Instr::Word {
-                load,
-                byte,
-                index,
-                rn,
-                rt,
-                ref offset,
-                ..
-            } => self.access_word(image, load, byte, index, rn, rt, offset, source),
-            Instr::Half {
-                kind,
-                index,
-                rn,
-                rt,
-                ref offset,
-                ..
-            } => self.access_half(image, kind, index, rn, rt, offset, source),
-            Instr::Block {
-                load,
-                before,
-                up,
-                wback,
-                rn,
-                list,
-                ..
-            } => {
-                let transfer = Transfer {
-                    load,
-                    before,
-                    up,
-                    wback,
-                    rn,
-                    list,
-                };
+            Instr::Word { load, byte, index, rn, rt, ref offset, .. } =>
+                self.access_word(image, load, byte, index, rn, rt, offset, source),
+            Instr::Half { kind, index, rn, rt, ref offset, .. } => self.access_half(image, kind, index, rn, rt, offset, source),
+            Instr::Block { load, before, up, wback, rn, list, .. } => {
+                let transfer = Transfer { load, before, up, wback, rn, list };
                 self.access_block(image, transfer, source)
             }
             Instr::Branch { link, words, .. } => self.branch(link, words),
             Instr::BranchReg { link, rm, .. } => self.branch_by_register(link, rm),
             Instr::Svc { imm, .. } => self.call(imm),
             Instr::LoadEx { size, rn, rt, .. } => self.load_exclusive(image, size, rn, rt, source),
-            Instr::StoreEx {
-                size,
-                rn,
-                rd,
-                rt,
-                ..
-            } => self.store_exclusive(image, size, rn, rd, rt, source),
+            Instr::StoreEx { size, rn, rd, rt, .. } => self.store_exclusive(image, size, rn, rd, rt, source),
             Instr::Clrex => self.clear_exclusive(image, source),
         }
     }

@@ -280,114 +280,35 @@ fn half_access(
 }
 
 /// What is shown of an instruction at an address.
+#[rattlefmt::skip] // a row for each instruction
 #[tactic(auto, unfolding(crate::specs::Shown::showing_of))]
 pub fn showing_of(instruction: Instr, here: u32) -> Showing
     ensures { result ≡ showing_of instruction here }
 {
     match instruction {
-        Instr::Alu {
-            cond,
-            op,
-            s,
-            rd,
-            rn,
-            operand,
-        } => alu(cond, op, s, rd, rn, operand, here),
+        Instr::Alu { cond, op, s, rd, rn, operand } => alu(cond, op, s, rd, rn, operand, here),
         Instr::Movw { cond, rd, imm } => wide_move(Operation::Movw, cond, rd, imm),
         Instr::Movt { cond, rd, imm } => wide_move(Operation::Movt, cond, rd, imm),
         Instr::Nop { cond } => alone(Operation::Nop, cond),
         Instr::Yield { cond } => alone(Operation::Yield, cond),
-        Instr::Mul {
-            cond,
-            s,
-            rd,
-            rn,
-            rm,
-        } => of_three(Operation::Mul, s, cond, rd, rn, rm),
-        Instr::Mla {
-            cond,
-            s,
-            rd,
-            rn,
-            rm,
-            ra,
-        } => of_four(Operation::Mla, s, cond, rd, rn, rm, ra),
-        Instr::Mls {
-            cond,
-            rd,
-            rn,
-            rm,
-            ra,
-        } => of_four(Operation::Mls, false, cond, rd, rn, rm, ra),
-        Instr::Long {
-            cond,
-            kind,
-            s,
-            lo,
-            hi,
-            rn,
-            rm,
-        } => of_four(Operation::Long(kind), s, cond, lo, hi, rn, rm),
+        Instr::Mul { cond, s, rd, rn, rm } => of_three(Operation::Mul, s, cond, rd, rn, rm),
+        Instr::Mla { cond, s, rd, rn, rm, ra } => of_four(Operation::Mla, s, cond, rd, rn, rm, ra),
+        Instr::Mls { cond, rd, rn, rm, ra } => of_four(Operation::Mls, false, cond, rd, rn, rm, ra),
+        Instr::Long { cond, kind, s, lo, hi, rn, rm } => of_four(Operation::Long(kind), s, cond, lo, hi, rn, rm),
         Instr::Clz { cond, rd, rm } => of_two(Operation::Clz, cond, rd, rm),
         Instr::Rev { cond, rd, rm } => of_two(Operation::Rev, cond, rd, rm),
-        Instr::Extend {
-            cond,
-            unsigned,
-            half,
-            rd,
-            rm,
-            turn,
-        } => extend(cond, unsigned, half, rd, rm, turn, here),
-        Instr::Word {
-            cond,
-            load,
-            byte,
-            index,
-            rn,
-            rt,
-            offset,
-        } => word_access(Operation::Word { load, byte }, cond, index, rn, rt, &offset),
-        Instr::Half {
-            cond,
-            kind,
-            index,
-            rn,
-            rt,
-            offset,
-        } => half_access(kind, cond, index, rn, rt, &offset),
-        Instr::Block {
-            cond,
-            load,
-            before,
-            up,
-            wback,
-            rn,
-            list,
-        } => block(Operation::Block { load, before, up }, cond, wback, rn, list),
-        Instr::Branch { cond, link, words } => of_number(
-            Operation::Branch { link },
-            cond,
-            target(here, words),
-        ),
-        Instr::BranchReg { cond, link, rm } => of_number(
-            Operation::BranchReg { link },
-            cond,
-            register(rm),
-        ),
+        Instr::Extend { cond, unsigned, half, rd, rm, turn } => extend(cond, unsigned, half, rd, rm, turn, here),
+        Instr::Word { cond, load, byte, index, rn, rt, offset } =>
+            word_access(Operation::Word { load, byte }, cond, index, rn, rt, &offset),
+        Instr::Half { cond, kind, index, rn, rt, offset } => half_access(kind, cond, index, rn, rt, &offset),
+        Instr::Block { cond, load, before, up, wback, rn, list } =>
+            block(Operation::Block { load, before, up }, cond, wback, rn, list),
+        Instr::Branch { cond, link, words } => of_number(Operation::Branch { link }, cond, target(here, words)),
+        Instr::BranchReg { cond, link, rm } => of_number(Operation::BranchReg { link }, cond, register(rm)),
         Instr::Svc { cond, imm } => of_number(Operation::Svc, cond, u64::from(imm)),
         Instr::LoadEx { cond, size, rn, rt } => load_exclusive(cond, size, rn, rt),
-        Instr::StoreEx {
-            cond,
-            size,
-            rn,
-            rd,
-            rt,
-        } => store_exclusive(cond, size, rn, rd, rt),
+        Instr::StoreEx { cond, size, rn, rd, rt } => store_exclusive(cond, size, rn, rd, rt),
         Instr::Clrex => alone(Operation::Clrex, Cond::ALWAYS),
-        Instr::Barrier { kind, option } => of_number(
-            Operation::Barrier(kind),
-            Cond::ALWAYS,
-            u64::from(option),
-        ),
+        Instr::Barrier { kind, option } => of_number(Operation::Barrier(kind), Cond::ALWAYS, u64::from(option)),
     }
 }
