@@ -3,7 +3,8 @@
 
    The threads of a guest share one memory of bytes. Each loads and stores 1, 2, 4 or 8 of them, plainly or exclusively, and all
    that they do stands in one order. A store-exclusive succeeds only where no other thread has stored to its row since its
-   load-exclusive, also where a store left the very bytes that were there; bytes that are changed and changed back deceive nobody.
+   load-exclusive. A store counts even if it left the very bytes that were there: bytes that are changed and changed back deceive
+   nobody.
    The functions are those of `libllsc_c.a`, which is proved up to these calls. `docs/EMBEDDING.md` says what that means.
 
        llsc_thread t[4] = {0};   // in C++: = {}
