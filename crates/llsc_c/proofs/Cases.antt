@@ -1,5 +1,5 @@
 -- What holds in each case of an answer, a flag or a choice.
-use Rattle.std.proofs.Common.{◌≡◌, ◌≢◌, ℕ, Bool, true, false, not, if◌then◌else◌, List, Option, Some, None, refl}
+use Rattle.std.proofs.Common.{◌≡◌, ◌≢◌, ℕ, Bool, true, false, not, if◌then◌else◌, List, Some, None, refl}
 use Rattle.std.specs.Bool.{OnFalse, OnTrue}
 use mir.Val.{bool_byte}
 use Rattle.history.specs.declared.entry.Entry.{Entry}
