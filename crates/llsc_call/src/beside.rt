@@ -27,8 +27,8 @@ pub struct ClosedRun<S> {
     pub story: S,
 }
 
-/// Runs an image's threads, of a core's instructions, which start no others, on a memory that counts the writes of a class, and on which a store-exclusive
-/// loses to nothing but writes, with the pass of all of them, and closes it.
+/// Runs an image's threads, of a core's instructions, which start no others, on a memory that counts the writes of a class, and on
+/// which a store-exclusive loses to nothing but writes, with the pass of all of them, and closes it.
 fn run_over<M: SharedMemory, C: Core, R: Threads + Wait + Sync>(
     rt: &R,
     alloc: Global,
@@ -57,8 +57,8 @@ fn run_over<M: SharedMemory, C: Core, R: Threads + Wait + Sync>(
     Ok(ClosedRun { ends, rows, story })
 }
 
-/// Runs an image's threads, of a core's instructions, beside each other on a machine, each up to its stop. All memory that this takes is taken before the
-/// first of them begins.
+/// Runs an image's threads, of a core's instructions, beside each other on a machine, each up to its stop. All memory that this
+/// takes is taken before the first of them begins.
 ///
 /// # Errors
 ///

@@ -79,9 +79,9 @@ pub fn loads_count_every_round()
         × (text ≡ load_summary seed threads rounds))) }
 {}
 
-/// In the one history of a run or of a load each store-exclusive that succeeded was undisturbed: the last load-exclusive of its
-/// thread read the same row, and nobody has written in that row since, whatever the value. And each that failed has its cause. By
-/// RISC-V instructions these are SC.W and LR.W.
+/// In the one history of a run, of a load or of a recorded run each store-exclusive that succeeded was undisturbed: the last
+/// load-exclusive of its thread read the same row, and nobody has written in that row since, whatever the value. And each that failed
+/// has its cause. By RISC-V instructions these are SC.W and LR.W.
 pub fn store_exclusives_are_exact()
     ensures of_all { (program : Program) (size : Numbers) (budget : ℕ) (history : List Entry) (ends : List GuestEnd) →
         IsOutcome a32 program size budget history ends → AreStoresExact size program.bytes history }

@@ -1,4 +1,4 @@
-//! Runs A32 guests: reads words and files, and writes a report and a status.
+//! Runs guests of A32 or of RISC-V instructions: reads words and files, and writes a text and a status.
 //!
 //! The program is the one call [`llsc`] (`llsc_call`) on the words that it was started with, over the operating system's files
 //! and its standard output (`RealHost` of `llsc_host`).
