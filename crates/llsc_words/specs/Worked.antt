@@ -1,8 +1,11 @@
 -- Words written as one text, what they ask for, and which options commands take.
-use Rattle.std.specs.Prelude.{ℕ, ◌-◌, ◌==◌, List, [], ◌∷◌, ◌++◌, length, take, Option, Some, None, is_some, if◌then◌else◌, codes}
+use Rattle.std.specs.Prelude.{ℕ, ◌-◌, ◌==◌, List, [], ◌∷◌, ◌++◌, length, map, take, Option, Some, None, is_some, if◌then◌else◌, codes}
 use Rattle.std.specs.List.{flat_map}
+use Rattle.clap.specs.Words.{App, Text}
 use Rattle.llsc_base.specs.Sizes.{size_fault}
 use Rattle.llsc_base.specs.declared.sizes.SizeFault.{SizeFault}
+use Rattle.llsc_words.specs.declared.names.CommandName.{CommandName}
+use Rattle.llsc_words.specs.declared.names.CommandName.TheVariants as name
 use Rattle.llsc_words.specs.Request.{Request, request_of}
 use Rattle.llsc_words.specs.Request.Request.{Run}
 
@@ -32,6 +35,22 @@ fault_in text = fault_of_run (asked_in text)
 abbrev pub commands : List (List ℕ)
 commands =
     codes "solo p" ∷ codes "run p" ∷ codes "pool p" ∷ codes "record p" ∷ codes "asm p" ∷ codes "dis p" ∷ codes "trace p" ∷ codes "check p r" ∷ codes "load 7" ∷ []
+
+-- the one name of a command
+abbrev pub name_of : CommandName → List ℕ
+name_of name.Solo = codes "solo"
+name_of name.Run = codes "run"
+name_of name.Pool = codes "pool"
+name_of name.Record = codes "record"
+name_of name.Asm = codes "asm"
+name_of name.Dis = codes "dis"
+name_of name.Trace = codes "trace"
+name_of name.Check = codes "check"
+name_of name.Load = codes "load"
+
+-- all that a command takes, by name: what stands by itself, flags and options
+abbrev pub names_in : App → List Text
+names_in app = map (λ rule. rule.id) app.top.rules
 
 -- the names of all options
 abbrev pub option_names : List (List ℕ)

@@ -1,8 +1,8 @@
 //! The words of the program's command line, read with `clap`.
 //!
 //! The first word is a command; what stands behind it is read as `specs/Commands.antt` says which options and files each command
-//! takes. `specs/Request.antt` says what words ask for; [`worked`], [`worked_numbers`], [`worked_options`] and [`worked_refusals`]
-//! have small cases, by the words of `specs/Worked.antt`.
+//! takes. `specs/Request.antt` says what words ask for; [`worked`], [`worked_names`], [`worked_numbers`], [`worked_options`] and
+//! [`worked_refusals`] have small cases, by the words of `specs/Worked.antt`.
 #![tactic(auto)]
 
 mod arguments;
@@ -17,6 +17,7 @@ mod requests;
 mod sets;
 mod words;
 pub mod worked;
+pub mod worked_names;
 pub mod worked_numbers;
 pub mod worked_options;
 pub mod worked_refusals;

@@ -48,6 +48,10 @@ pub fn budgets()
     ensures pool_least { is_some (asked_in (codes "pool p --budget 1")) ≡ true }
     ensures pool_greatest { is_some (asked_in (codes "pool p --budget 1000000000000")) ≡ true }
     ensures pool_above { asked_in (codes "pool p --budget 1000000000001") ≡ None }
+    ensures record_below { asked_in (codes "record p --budget 0") ≡ None }
+    ensures record_least { is_some (asked_in (codes "record p --budget 1")) ≡ true }
+    ensures record_greatest { is_some (asked_in (codes "record p --budget 1000000000000")) ≡ true }
+    ensures record_above { asked_in (codes "record p --budget 1000000000001") ≡ None }
     ensures trace_below { asked_in (codes "trace p --budget 0") ≡ None }
     ensures trace_least { asked_in (codes "trace p --budget 1") ≡ Some (Trace (codes "p") Format.Elf 2 1048576 0 0 1) }
     ensures trace_greatest { asked_in (codes "trace p --budget 1000000000000") ≡ Some (Trace (codes "p") Format.Elf 2 1048576 0 0 1000000000000) }
