@@ -62,7 +62,7 @@ enum {
     LLSC_APART = 9,        /* the second threads don't come next behind the first */
     LLSC_NOT_ALL = 10,     /* threads of the memory are missing */
     LLSC_LENGTH = 11,      /* the bytes are not as many as the memory has */
-    LLSC_BUSY = 12,        /* another thread is storing in the class of the row: try again */
+    LLSC_BUSY = 12,        /* another thread is storing in the class of the row, or came first: try again */
     LLSC_SPENT = 13,       /* the class of the row has had as many writes as it takes, and takes no more */
     LLSC_NO_MEMORY = 14,   /* `malloc` had none */
     LLSC_THREAD_HERE = 15, /* there is a thread here already, where one is to be put */
@@ -120,7 +120,7 @@ uint32_t llsc_split(llsc_thread *__restrict t, llsc_thread *__restrict last);
 LLSC_PRIVATE_ANSWERS
 uint32_t llsc_load(llsc_thread *__restrict t, uint64_t addr, uint32_t width, uint64_t *__restrict value);
 
-/* Stores a value there, unless another thread is storing in the row's class: `llsc_store`, below, then tries again.
+/* Stores a value there, unless another thread is storing in the row's class, or comes first: `llsc_store`, below, then tries again.
 
    Answers LLSC_VALUE behind those of a load, and then LLSC_BUSY or LLSC_SPENT. */
 LLSC_PRIVATE_ANSWERS
@@ -290,7 +290,8 @@ static inline uint32_t llsc_store8(llsc_thread *t, uint64_t addr, uint64_t value
 /* Makes a memory, and puts each of its threads into a struct of its own: thread i into `t[i]`, of so many as `threads` says. The
    other words are those of `llsc_open`. What was done is undone where a step is refused, and `t` is as it was.
 
-   Answers as `llsc_open` does, of LLSC_THREAD_HERE in any of them. */
+   Answers as `llsc_open` does, of LLSC_THREAD_HERE in any of them; but where one behind `t[0]` has a thread and `malloc` has no
+   memory, it may be LLSC_NO_MEMORY. */
 LLSC_PRIVATE_ANSWERS
 static inline uint32_t llsc_open_all(llsc_thread *t, size_t threads, const uint8_t *bytes, size_t len, uint64_t classes,
                                      uint64_t limit, uint64_t granule) {
@@ -312,8 +313,8 @@ static inline uint32_t llsc_open_all(llsc_thread *t, size_t threads, const uint8
 
 /* Joins the threads of `llsc_open_all`, all of which are done with their accesses, and closes their memory.
 
-   Answers as `llsc_close` does, or LLSC_APART, where they aren't those of one memory in order. Where it is refused, threads that
-   were joined before stay in `t[0]`; it may be called again. */
+   Answers as `llsc_close` does, or LLSC_APART, where their numbers don't come one behind another. That they are of one memory is
+   what the caller owes. Where it is refused, threads that were joined before stay in `t[0]`; it may be called again. */
 LLSC_PRIVATE_ANSWERS
 static inline uint32_t llsc_close_all(llsc_thread *t, size_t threads, uint8_t *bytes, size_t len) {
     if (threads == 0)
