@@ -5,6 +5,14 @@ ghost use Rattle.guest_gen.specs.Counters.{counter_at, counter_unit, counters};
 ghost use Rattle.guest_gen.specs.Namings.{namings_of};
 ghost use Rattle.std.specs.List.{range_with_len, sum_by};
 
+use crate::counter_guest::{COUNTER_COUNT, FIRST_COUNTER};
+
+/// The numbers by which others find the counters: how many there are, and where the first stands.
+pub fn counters_are_where_they_are_told()
+    ensures count { COUNTER_COUNT ≡ counters }
+    ensures first { FIRST_COUNTER ≡ counter_at 0 }
+{}
+
 /// The counter guest has 25 words, and its counters are its data: the first stands where the data begins, and the program ends
 /// behind the last.
 pub fn counters_are_the_data()
