@@ -8,16 +8,19 @@
 //!
 //! Widths, addresses, values and whether a handle may be split are tested at run time: a call that is refused says by a [`Misuse`]
 //! what was wrong, and has changed nothing. `specs/Faults` says when each comes, `specs/Accesses` what has come of an access that
-//! was made, `specs/Handles` what a handle holds, and `specs/Left` what is left at the end.
+//! was made, `specs/Handles` what a handle holds, and `specs/Left` what is left at the end. The [`laws`] say it of one access in the
+//! history's entries.
 #![tactic(auto)]
 
 mod accesses;
 mod closing;
 mod handles;
+pub mod laws;
 mod misuse;
 mod opening;
 mod parts;
 mod places;
+pub mod worked;
 
 pub use handles::Handle;
 pub use misuse::Misuse;
