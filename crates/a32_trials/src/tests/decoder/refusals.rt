@@ -87,6 +87,14 @@ const UNKNOWN: &[u32] = &[
     // sxtab; sxtb with bit 8 set; sxtb16 and uxtb16; rev16, revsh and rbit; rev with bit 8 or bit 19 clear
     0xe6a20071, 0xe6af0171, 0xe68f0071, 0xe6cf0071, 0xe6bf0fb1, 0xe6ff0fb1, 0xe6ff0f31, 0xe6bf0e31,
     0xe6b70f31,
+    // sxtb with one of bits 27, 24, 23, 19 to 16, 9 and 7 to 5 the other way
+    0xeeaf0071, 0xe7af0071, 0xe62f0071, 0xe6a70071, 0xe6ab0071, 0xe6ad0071, 0xe6ae0071, 0xe6af0271,
+    0xe6af00f1, 0xe6af0031, 0xe6af0051,
+    // rev with one of bits 27, 24, 23, 21, 20, 18 to 16, 11 to 9, 6 and 5 the other way
+    0xeebf0f31, 0xe7bf0f31, 0xe63f0f31, 0xe69f0f31, 0xe6af0f31, 0xe6bb0f31, 0xe6bd0f31, 0xe6be0f31,
+    0xe6bf0731, 0xe6bf0b31, 0xe6bf0d31, 0xe6bf0f71, 0xe6bf0f11,
+    // mls, clz and ldrh with bit 27 set, and bx with bit 7 set
+    0xe8603291, 0xe96f0f11, 0xe9d100b0, 0xe12fff91,
     // ssat, sel, ubfx, bfc, sdiv and udf
     0xe6a10011, 0xe6810fb2, 0xe7e00050, 0xe7c0001f, 0xe710f211, 0xe7f000f0,
     // ldrt, strt, ldrbt and strbt r0, [r1], #4; ldrt and strbt with r2; ldrt r1, [r1], #4; ldrbt pc, [r1], #4
@@ -104,8 +112,8 @@ const UNKNOWN: &[u32] = &[
     0xed910000, 0xec410100, 0xee000000, 0xee010f10,
     // ldrex with bit 8 or bit 0 clear, strex with bit 8 clear
     0xe1910e9f, 0xe1910f9e, 0xe1810e92,
-    // a barrier of no kind; clrex with bit 0 clear; dmb with bit 16 clear
-    0xf57ff07f, 0xf57ff070, 0xf57ff01e, 0xf57ef05f,
+    // a barrier of no kind; clrex with bit 0 clear; dmb with bit 16 clear; clrex and dsb with bit 27 set, clrex with bit 25 set
+    0xf57ff07f, 0xf57ff070, 0xf57ff01e, 0xf57ef05f, 0xfd7ff01f, 0xfd7ff04f, 0xf77ff01f,
     // a condition field of 15 in each class of encodings
     0xf0812003, 0xf3a00000, 0xf5d1f000, 0xf7d1f002, 0xf8910004, 0xfa000000, 0xfe000000, 0xf1d100b2,
     0xf1910f9f, 0xffffffff,
