@@ -3,6 +3,7 @@ mod carried;
 mod computing;
 mod crews;
 mod decoder;
+mod fixed_bits;
 mod guests;
 mod memory;
 mod programs;
