@@ -1,5 +1,5 @@
 -- Runs of the worked programs from a thread's start.
-use Rattle.std.proofs.Common.{◌≡◌, ℕ, ◌%◌, [], ◌∷◌, refl, lit<}
+use Rattle.std.proofs.Common.{◌≡◌, ℕ, ◌%◌, Bool, false, [], ◌∷◌, refl, lit<}
 use Rattle.llsc_base.specs.Memory.{number_of}
 use Rattle.llsc_base.specs.Sizes.{Numbers}
 use Rattle.a32_instr.specs.Condition.{passes}
@@ -12,7 +12,7 @@ use Rattle.llsc_base.specs.declared.outside.CallAsk.{CallAsk}
 use Rattle.llsc_base.specs.declared.outside.Stop.TheVariants.{Exit, Budget, TagLimit}
 use Rattle.a32_step.specs.Machine.{Machine, after_next, next_effect, a32}
 use Rattle.guest_core.specs.Machine.{given}
-use Rattle.guest_calls.specs.Run.{begins, accesses, steps_on, leaves, spends, by_limit, asks_access, Asks, EndsOn, Ends, Reaches}
+use Rattle.guest_calls.specs.Run.{begins, accesses, steps_on, leaves, spends, by_limit, asks_access, first_point, Asks, EndsOn, Ends, EndsFrom, ReachesBy}
 use Rattle.guest_thread.specs.Start.{thread_start}
 use Rattle.guest_thread.specs.Worked.{word}
 use Rattle.a32_runs.specs.Leaving.{leaving, loading, storing}
@@ -29,14 +29,19 @@ call_made : (size : Numbers) (first t : ℕ) → next_effect leaving (moved size
 unfolding meaning passes number_of alu_op alu_fits alu_unpredictable turned
 call_made size first t = refl
 
-call_reached : (size : Numbers) (first t : ℕ) → Reaches a32 leaving 2 (thread_start a32 leaving size first t) [] (moved size first t) 1 []
+call_reached : (stocked : Bool) (size : Numbers) (first t : ℕ)
+    → ReachesBy a32 stocked leaving 2 (first_point (thread_start a32 leaving size first t)) [] (moved size first t) 1 []
 unfolding meaning passes number_of alu_op alu_fits alu_unpredictable turned
-call_reached size first t = steps_on [] (thread_start a32 leaving size first t) 0 [] (moved size first t).state begins (lit< tt) refl
+call_reached stocked size first t = steps_on [] (thread_start a32 leaving size first t) 0 [] (moved size first t).state begins (lit< tt) refl
 
--- a thread leaves with its number
+-- a thread leaves with its number, with a stock or without
+pub left_by : (stocked : Bool) (size : Numbers) (first t : ℕ)
+    → EndsFrom a32 stocked leaving 2 (first_point (thread_start a32 leaving size first t)) [] (Exit (t % 256)) 2 []
+left_by stocked size first t =
+    leaves [] (moved size first t) 1 [] (exit_call first t) (t % 256) (call_reached stocked size first t) (lit< tt) (call_made size first t) refl
+
 pub left : (size : Numbers) (first t : ℕ) → Ends a32 leaving 2 (thread_start a32 leaving size first t) [] (Exit (t % 256)) 2 []
-left size first t =
-    leaves [] (moved size first t) 1 [] (exit_call first t) (t % 256) (call_reached size first t) (lit< tt) (call_made size first t) refl
+left size first t = left_by false size first t
 
 -- a thread asks for its load
 load_next : (size : Numbers) (first t : ℕ) → next_effect loading (thread_start a32 loading size first t) ≡ asks (Load word)

@@ -2,6 +2,8 @@ pub mod SmallRuns
 pub mod Staying
 pub mod LeavingRuns
 pub mod SmallEnds
+pub mod StartingRuns
+pub mod SmallFamilies
 pub mod LoopingRuns
 pub mod TracedRuns
 pub mod SmallTraces

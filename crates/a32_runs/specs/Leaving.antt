@@ -22,3 +22,8 @@ loading = program_of_words 4 (8 ∷ 0 ∷ 146 ∷ 229 ∷ [])
 -- str r0, [r2, #8]: the thread stores its number
 abbrev pub storing : Program
 storing = program_of_words 4 (8 ∷ 0 ∷ 130 ∷ 229 ∷ [])
+
+-- movw r7, #1; movt r7, #15; svc #0: the call that starts a thread, at the address and with the argument that the thread's first
+-- registers have
+abbrev pub starting : Program
+starting = program_of_words 12 (1 ∷ 112 ∷ 0 ∷ 227 ∷ 15 ∷ 112 ∷ 64 ∷ 227 ∷ 0 ∷ 0 ∷ 0 ∷ 239 ∷ [])

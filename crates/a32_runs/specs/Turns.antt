@@ -1,13 +1,11 @@
 -- Small programs of the worked traces, the machines that run them, and what they do.
-use Rattle.std.specs.Prelude.{ℕ, true, false, List, [], ◌∷◌, replicate}
+use Rattle.std.specs.Prelude.{ℕ, true, false, List, [], ◌∷◌}
 use Rattle.llsc_base.specs.Images.{Program}
 use Rattle.llsc_base.specs.Sizes.{Numbers, numbers}
-use Rattle.llsc_base.specs.declared.access.Place.{Place}
-use Rattle.llsc_base.specs.declared.access.Size.TheVariants.{B4}
-use Rattle.history.specs.Monitor.{Monitor, at_rest_by, monitor_after}
+use Rattle.llsc_base.specs.declared.access.Size.{Size}
 use Rattle.history.specs.declared.entry.Access.{Access}
+use Rattle.history.specs.declared.entry.Deed.{Deed}
 use Rattle.history.specs.declared.entry.Deed.TheVariants as deed
-use Rattle.history.specs.declared.entry.Entry.{Entry}
 use Rattle.llsc_base.specs.declared.outside.Stop.{Stop}
 use Rattle.guest_thread.specs.declared.ends.GuestEnd.{GuestEnd}
 use Rattle.run_record.specs.declared.records.RunRecord.{RunRecord}
@@ -40,6 +38,10 @@ small_machine threads = numbers 65536 threads 1 1
 -- a thread's load of this value from there
 abbrev pub load_by : ℕ → ℕ → Access
 load_by t value = record { thread = t; deed = deed.Load; place = first_word; value = value }
+
+-- an access of thread 0 to so many bytes from an address up
+abbrev pub access_at : Deed → (addr : ℕ) → Size → (value : ℕ) → Access
+access_at deed addr size value = record { thread = 0; deed = deed; place = record { addr = addr; size = size }; value = value }
 
 -- the end of a thread that wrote nothing: its number, its stop, its steps and its loads
 abbrev pub silent_end : ℕ → Stop → ℕ → ℕ → GuestEnd

@@ -2,8 +2,11 @@
 ghost use Rattle.std.specs.Prelude.{◌≡◌, ◌∷◌, []};
 ghost use Rattle.guest_machine.specs.Traces.{IsLegalTrace, IsTraceRecord};
 ghost use Rattle.guest_machine.specs.Turns.{IsTooLong, IsTrace, Takes};
-ghost use Rattle.a32_runs.specs.Turns.{leaving, load_by, loading, looping, small_machine, small_record};
+ghost use Rattle.a32_runs.specs.Turns.{access_at, leaving, load_by, loading, looping, small_machine, small_record};
 ghost use Rattle.a32_step.specs.Machine.{a32};
+
+use history::Deed;
+use llsc_base::Size;
 
 /// Each turn draws a number; the thread that it names makes an access, which memory answers, or stops.
 pub fn turns_taken()
@@ -46,4 +49,19 @@ pub fn legal_traces()
     ensures loads { IsLegalTrace loading (small_machine 2) (load_by 1 0xE5942000 ∷ load_by 0 0xE5942000 ∷ []) }
     ensures another_value { ¬ IsLegalTrace loading (small_machine 2) (load_by 1 0 ∷ []) }
     ensures no_thread { ¬ IsLegalTrace loading (small_machine 1) (load_by 1 0xE5942000 ∷ []) }
+{}
+
+/// It allows none past the end of the eight bytes of memory, at no multiple of its size, or with a value that its size doesn't hold, be it
+/// a store-exclusive that failed.
+pub fn accesses_that_no_trace_has()
+    ensures last_byte { IsLegalTrace leaving (small_machine 1) (access_at Deed.StoreFail 7 Size.B1 255 ∷ []) }
+    ensures load_outside { ¬ IsLegalTrace leaving (small_machine 1) (access_at Deed.Load 8 Size.B4 0 ∷ []) }
+    ensures load_unaligned { ¬ IsLegalTrace leaving (small_machine 1) (access_at Deed.Load 5 Size.B2 0 ∷ []) }
+    ensures load_exclusive_outside { ¬ IsLegalTrace leaving (small_machine 1) (access_at Deed.LoadEx 8 Size.B1 0 ∷ []) }
+    ensures store_outside { ¬ IsLegalTrace leaving (small_machine 1) (access_at Deed.Store 8 Size.B1 0 ∷ []) }
+    ensures store_unaligned { ¬ IsLegalTrace leaving (small_machine 1) (access_at Deed.Store 2 Size.B4 0 ∷ []) }
+    ensures store_too_great { ¬ IsLegalTrace leaving (small_machine 1) (access_at Deed.Store 4 Size.B1 256 ∷ []) }
+    ensures failed_outside { ¬ IsLegalTrace leaving (small_machine 1) (access_at Deed.StoreFail 8 Size.B1 0 ∷ []) }
+    ensures failed_unaligned { ¬ IsLegalTrace leaving (small_machine 1) (access_at Deed.StoreFail 2 Size.B4 0 ∷ []) }
+    ensures failed_too_great { ¬ IsLegalTrace leaving (small_machine 1) (access_at Deed.StoreFail 4 Size.B1 256 ∷ []) }
 {}
