@@ -1,6 +1,8 @@
-//! Worked texts of a report, computed by the definitions.
-ghost use Rattle.std.specs.Prelude.{◌≡◌, codes};
-ghost use Rattle.llsc_report.specs.Report.{stop_text};
+//! Worked texts of a report and of a summary, computed by the definitions.
+ghost use Rattle.std.specs.Prelude.{◌≡◌, ◌∷◌, [], codes};
+ghost use Rattle.guest_thread.specs.Worked.{end_of};
+ghost use Rattle.llsc_report.specs.Report.{head_line, last_line, stop_text};
+ghost use Rattle.llsc_report.specs.Summary.{load_line};
 
 use llsc_base::Stop;
 
@@ -17,4 +19,14 @@ pub fn texts_of_stops()
     ensures thumb { stop_text 42 (Stop.Thumb 65532) ≡ codes "thumb 0000fffc" }
     ensures budget { stop_text 42 Stop.Budget ≡ codes "budget 42" }
     ensures tag_limit { stop_text 42 (Stop.TagLimit 305419896) ≡ codes "taglimit 12345678" }
+{}
+
+/// The budget, the steps, the counts of all threads together and a seed are shown whole, also where 32 bits don't hold them.
+pub fn texts_of_great_numbers()
+    ensures stop { stop_text 1000000000000 Stop.Budget ≡ codes "budget 1000000000000" }
+    ensures thread { head_line 1000000000000 (end_of 15 Stop.Budget 1000000000000 0 0 0)
+        ≡ codes "thread 15 stop budget 1000000000000 steps 1000000000000 out 0\n" }
+    ensures counts { last_line (end_of 0 (Stop.Exit 0) 9 4294967295 4294967296 0 ∷ end_of 1 (Stop.Exit 0) 9 1 4294967296 4294967297 ∷ [])
+        ≡ codes "reads 4294967296 writes 8589934592 fails 4294967297\n" }
+    ensures load { load_line 18446744073709551615 16 50000 ≡ codes "load seed 18446744073709551615 threads 16 rounds 50000\n" }
 {}
