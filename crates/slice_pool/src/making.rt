@@ -1,5 +1,6 @@
 //! How a pool is made.
 ghost use Rattle.std.specs.Prelude.{◌≡◌, ◌<◌, ◌≤◌, ◌+◌, ℕ, [], All, IfOk, nat_lt, vec_len};
+ghost use Rattle.crossbeam_queue.specs.Passes.{ruled_capacity};
 ghost use Rattle.history.specs.Parts.{entries_of};
 ghost use Rattle.shared_memory.specs.Seen.{IsSingle};
 ghost use Rattle.slice_pool.specs.AtWork.{IsFree};
@@ -116,6 +117,8 @@ pub fn pool_crew<'i, M: SharedMemory>(
     requires none { (t : ℕ) → entries_of t (M.seen first) ≡ [] }
     requires workers { (1 ≤ workers) × (workers ≤ 4) }
     ensures ready { IfOk result (IsReadyPool M.home M.numbers M.seen (M.id mem.now) (M.origin mem.now) image.now) }
+    ensures workers { IfOk result (λ pool. vec_len pool.desks ≡ workers) }
+    ensures places { IfOk result (λ pool. (M.origin mem.now).size.threads ≤ ruled_capacity pool.line) }
 {
     let size = mem.size();
     let count = size.threads();

@@ -30,4 +30,6 @@ returns g c =
         no_ends = (c.in_ok-ends.ensures.items, c.in_ok-ends.ensures.len, c.in_ok-turns.ensures.items, c.in_ok-turns.ensures.len);
         ends_room = (omega (arith, number, ends), omega (arith, number, turns));
       };
+      workers = desks;
+      places = let capacity = c.in_ok-line.ensures.0 in omega (arith, number, capacity);
     }
