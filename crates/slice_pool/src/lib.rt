@@ -6,7 +6,8 @@
 //! with the guest itself. A worker ends where the queue is empty, and when all have, the caller runs what still waits. The rule of
 //! the queue (`specs/inner/Rule`) is that the numbers of the guests that wait in it and of those that the seats hold are all
 //! numbers of the machine, each once: so no guest is lost or doubled. In `specs/inner`, `Over` says what a guest is that has
-//! ended, `AtWork` what a worker has between two guests, and `Ends` how all have ended, in order of number.
+//! ended, `AtWork` what a worker has between two guests, and `Ends` how all have ended, in order of number. [`worked`] has cases of
+//! how many slices steps take.
 #![tactic(auto)]
 
 mod crews;
@@ -16,6 +17,7 @@ mod pool;
 mod queue;
 mod turns;
 mod views;
+pub mod worked;
 mod working;
 
 pub use ends::Pooled;
