@@ -2,12 +2,6 @@
 use Rattle.std.specs.Prelude.{ℕ, ◌+◌, true, false, List, [], ◌∷◌, ◌++◌, length, replicate}
 use Rattle.llsc_base.specs.Images.{Program}
 use Rattle.llsc_base.specs.Sizes.{Numbers, numbers}
-use Rattle.llsc_base.specs.declared.access.Place.{Place}
-use Rattle.llsc_base.specs.declared.access.Size.TheVariants.{B1, B4}
-use Rattle.history.specs.Monitor.{Monitor, at_rest_by, monitor_after}
-use Rattle.history.specs.declared.entry.Access.{Access}
-use Rattle.history.specs.declared.entry.Deed.{Deed}
-use Rattle.history.specs.declared.entry.Entry.{Entry}
 
 -- a program of these code bytes at address 8, which may be run and aren't written; the eight bytes below them are 0
 abbrev pub small_program : List ℕ → Program
