@@ -94,8 +94,8 @@ pub fn machines_are_sound()
         next_of rv32 program machine ≡ stops why → IsStop why }
 {}
 
-/// No run of a thread ends for want of a tag, which is for memory to answer, nor as threads of other instructions do: at Thumb code or
-/// at a word whose effect is left open.
+/// No run of a thread ends for want of a write in a class, which is for memory to answer, nor as threads of other instructions do: at
+/// Thumb code or at a word whose effect is left open.
 pub fn runs_end_by_their_own_stops()
     ensures { (program : Program) (budget : ℕ) (start : Machine) (pairs : List Pair) (stop : Stop) (steps : ℕ) (output : List ℕ) → GoesOn start.phase →
         Ends rv32 program budget start pairs stop steps output → IsStop stop }

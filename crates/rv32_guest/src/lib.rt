@@ -1,5 +1,11 @@
 //! Guests of RISC-V: the instructions of RV32I without EBREAK, and of Zalrsc (The RISC-V Instruction Set Manual, Volume I:
-//! Unprivileged Architecture). What is to be believed stands in `specs/`: the table of instruction words (`Table`).
+//! Unprivileged Architecture).
+//!
+//! What is to be believed stands in `specs/`: the table of instruction words (`Table`), with the immediates by their pieces
+//! (`Immediates`), what each instruction does (`Effect`, by `Computing` and `Accesses`), guest calls by their numbers (`Calls`),
+//! and the set of all of them (`Machine`). [`rv_decode`] is the table, and an [`RvCpu`] a core of that set. Its threads run on a
+//! memory that they share by [`prepare_rv`] and [`run_rv_all`], which are `guest_thread`'s. [`laws`] has laws of the table, of the
+//! set and of runs.
 #![tactic(auto)]
 
 mod arithmetic;
