@@ -101,6 +101,13 @@ pub fn runs_end_by_their_own_stops()
         Ends rv32 program budget start pairs stop steps output → IsStop stop }
 {}
 
+/// These three are no stops of such threads.
+pub fn stops_that_are_no_threads_own()
+    ensures thumb { (addr : ℕ) → ¬ IsStop (Stop.Thumb addr) }
+    ensures unpredictable { (addr : ℕ) → ¬ IsStop (Stop.Unpredictable addr) }
+    ensures limit { (addr : ℕ) → ¬ IsStop (Stop.TagLimit addr) }
+{}
+
 /// A history has one outcome at most.
 pub fn histories_have_one_outcome()
     ensures { (program : Program) (size : Numbers) (budget : ℕ) (history : List Entry) (ends others : List GuestEnd) →
