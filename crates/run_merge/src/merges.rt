@@ -64,13 +64,15 @@ fn total_of(run: &LoggedRun) -> Option<u64>
 ///
 /// # Errors
 ///
-/// [`MergeFault::TooLong`] exactly where the run has more than 1,000,000 accesses. [`MergeFault::Memory`] is want of memory.
+/// [`MergeFault::TooLong`] exactly where the run has more than 1,000,000 accesses. [`MergeFault::Memory`] is want of memory, of a run
+/// that isn't too long.
 pub fn merge(alloc: Global, run: &LoggedRun) -> Result<Vec<Access>, MergeFault>
     ensures merge { IfOk result (λ merged. IsMerge run.now.size (pass_seen run.now.pass) merged.items) }
     ensures form { IfOk result (λ merged. merged.items ≡ map access_of (history_of merged.items)) }
     ensures count { IfOk result (λ merged. length merged.items ≡ length (accesses_of (pass_seen run.now.pass))) }
     ensures few { OnOk result (length (accesses_of (pass_seen run.now.pass)) ≤ most_accesses) }
     ensures long { IfErr result (λ fault. fault ≡ MergeFault.TooLong → most_accesses < length (accesses_of (pass_seen run.now.pass))) }
+    ensures wanting { IfErr result (λ fault. fault ≡ MergeFault.Memory → length (accesses_of (pass_seen run.now.pass)) ≤ most_accesses) }
 {
     let Some(total) = total_of(run) else {
         return Err(MergeFault::TooLong);
