@@ -10,7 +10,7 @@ use guest_core::Ready;
 pub struct Conditional {
     pub cond: Cond,
     pub instr: Instr,
-    /// Nothing. With its address of four bytes an instruction so has 32, and its slot is found by a shift.
+    /// Nothing. With its address of four bytes an instruction so has 32, so that its slot is found by a mask and a scaled address.
     fill: [u32; 2],
 }
 

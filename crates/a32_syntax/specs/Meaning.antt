@@ -27,7 +27,7 @@ pub use Rattle.a32_syntax.specs.declared.accesses.Indexed.{Indexed}
 use Rattle.a32_syntax.specs.declared.operations.Operation.{Operation}
 use Rattle.a32_syntax.specs.declared.operations.Operation.TheVariants.{Alu, Movw, Movt, Nop, Yield, Mul, Mla, Mls, Long, Clz, Rev, Extend, Word, Half, Block, Branch, BranchReg, Svc, LoadEx, StoreEx, Clrex, Barrier}
 use Rattle.a32_syntax.specs.declared.operations.Mnemonic.{Mnemonic}
-use Rattle.a32_syntax.specs.Operands.{operands_of, as_number, as_turned_number, as_register, as_shifted_by_number, as_turned_through_carry}
+use Rattle.a32_syntax.specs.Operands.{operands_of, as_number, as_turned_number, as_register, as_shifted_by_number, as_turned_through_carry, at_base_alone, moved_by_number, moved_by_register, moved_by_shifted, moved_by_turned, behind_by_number, behind_by_register, behind_by_shifted, half_behind_by_number}
 
 -- Where an instruction stands, and the addresses of the labels.
 pub record Site : Type 0 where
@@ -186,22 +186,22 @@ shifted_offset found =
 
 unfoldable pub word_indexed : Chosen → Indexed
 word_indexed found =
-    if found.form == 0 then at_base else
-    if found.form == 1 then indexed (plain_or_pre (number_at found 4)) (offset_number 4095 (number_at found 2) (number_at found 3)) else
-    if found.form == 2 then indexed (plain_or_pre (number_at found 4)) (Ok (offset.Shifted (is_added (number_at found 2)) (number_at found 3) Lsl 0)) else
-    if found.form == 3 then indexed (plain_or_pre (number_at found 6)) (shifted_offset found) else
-    if found.form == 4 then indexed (plain_or_pre (number_at found 4)) (Ok (offset.Shifted (is_added (number_at found 2)) (number_at found 3) Ror 0)) else
-    if found.form == 5 then indexed Post (offset_number 4095 (number_at found 2) (number_at found 3)) else
-    if found.form == 6 then indexed Post (Ok (offset.Shifted (is_added (number_at found 2)) (number_at found 3) Lsl 0)) else
-    if found.form == 7 then indexed Post (shifted_offset found) else
+    if found.form == at_base_alone then at_base else
+    if found.form == moved_by_number then indexed (plain_or_pre (number_at found 4)) (offset_number 4095 (number_at found 2) (number_at found 3)) else
+    if found.form == moved_by_register then indexed (plain_or_pre (number_at found 4)) (Ok (offset.Shifted (is_added (number_at found 2)) (number_at found 3) Lsl 0)) else
+    if found.form == moved_by_shifted then indexed (plain_or_pre (number_at found 6)) (shifted_offset found) else
+    if found.form == moved_by_turned then indexed (plain_or_pre (number_at found 4)) (Ok (offset.Shifted (is_added (number_at found 2)) (number_at found 3) Ror 0)) else
+    if found.form == behind_by_number then indexed Post (offset_number 4095 (number_at found 2) (number_at found 3)) else
+    if found.form == behind_by_register then indexed Post (Ok (offset.Shifted (is_added (number_at found 2)) (number_at found 3) Lsl 0)) else
+    if found.form == behind_by_shifted then indexed Post (shifted_offset found) else
     indexed Post (Ok (offset.Shifted (is_added (number_at found 2)) (number_at found 3) Ror 0))
 
 unfoldable pub half_indexed : Chosen → Indexed
 half_indexed found =
-    if found.form == 0 then at_base else
-    if found.form == 1 then indexed (plain_or_pre (number_at found 4)) (offset_number 255 (number_at found 2) (number_at found 3)) else
-    if found.form == 2 then indexed (plain_or_pre (number_at found 4)) (Ok (offset.Shifted (is_added (number_at found 2)) (number_at found 3) Lsl 0)) else
-    if found.form == 3 then indexed Post (offset_number 255 (number_at found 2) (number_at found 3)) else
+    if found.form == at_base_alone then at_base else
+    if found.form == moved_by_number then indexed (plain_or_pre (number_at found 4)) (offset_number 255 (number_at found 2) (number_at found 3)) else
+    if found.form == moved_by_register then indexed (plain_or_pre (number_at found 4)) (Ok (offset.Shifted (is_added (number_at found 2)) (number_at found 3) Lsl 0)) else
+    if found.form == half_behind_by_number then indexed Post (offset_number 255 (number_at found 2) (number_at found 3)) else
     indexed Post (Ok (offset.Shifted (is_added (number_at found 2)) (number_at found 3) Lsl 0))
 
 abbrev pub word_with : ℕ → Bool → Bool → ℕ → ℕ → Index → Result Offset AsmKind → Result Instr AsmKind

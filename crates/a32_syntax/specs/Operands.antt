@@ -49,6 +49,42 @@ word_operands =
 abbrev pub half_operands : List ℕ
 half_operands = codes "r, [r]|r, [r, #~n]!|r, [r, ~r]!|r, [r], #~n|r, [r], ~r"
 
+-- the places of the forms of an address among them: the base alone, and each kind of offset before the base and behind it
+abbrev pub at_base_alone : ℕ
+at_base_alone = 0
+
+abbrev pub moved_by_number : ℕ
+moved_by_number = 1
+
+abbrev pub moved_by_register : ℕ
+moved_by_register = 2
+
+abbrev pub moved_by_shifted : ℕ
+moved_by_shifted = 3
+
+abbrev pub moved_by_turned : ℕ
+moved_by_turned = 4
+
+abbrev pub behind_by_number : ℕ
+behind_by_number = 5
+
+abbrev pub behind_by_register : ℕ
+behind_by_register = 6
+
+abbrev pub behind_by_shifted : ℕ
+behind_by_shifted = 7
+
+-- and of a halfword or a signed byte those behind it
+abbrev pub half_behind_by_number : ℕ
+half_behind_by_number = 3
+
+-- how many places lie between an offset before the base and the same behind it
+abbrev pub word_places_on : ℕ
+word_places_on = 4
+
+abbrev pub half_places_on : ℕ
+half_places_on = 2
+
 -- of registers in a block: the base, `!` where it is written back, and the registers (DDI 0406C A8.8.58 to A8.8.61,
 -- A8.8.199 to A8.8.202)
 abbrev pub block_operands : List ℕ

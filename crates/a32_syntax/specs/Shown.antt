@@ -24,7 +24,7 @@ use Rattle.a32_syntax.specs.declared.operations.Operation.{Operation}
 use Rattle.a32_syntax.specs.declared.operations.Operation.TheVariants.{Alu, Movw, Movt, Nop, Yield, Mul, Mla, Mls, Long, Clz, Rev, Extend, Word, Half, Block, Branch, BranchReg, Svc, LoadEx, StoreEx, Clrex, Barrier}
 use Rattle.a32_syntax.specs.declared.operations.Mnemonic.{Mnemonic}
 use Rattle.a32_syntax.specs.Mnemonics.{mnemonic, mnemonic_text}
-use Rattle.a32_syntax.specs.Operands.{operands_of, as_number, as_turned_number, as_register, as_shifted_by_number, as_turned_through_carry, as_shifted_by_register}
+use Rattle.a32_syntax.specs.Operands.{operands_of, as_number, as_turned_number, as_register, as_shifted_by_number, as_turned_through_carry, as_shifted_by_register, at_base_alone, moved_by_number, moved_by_register, moved_by_shifted, moved_by_turned, word_places_on, half_places_on}
 use Rattle.a32_syntax.specs.Meaning.{least_turn}
 
 -- What is shown of an instruction: a mnemonic, the place of a form among those of its operation, and the form's numbers.
@@ -111,9 +111,9 @@ is_base_alone _ _ = false
 
 -- the place of an offset's form among those of one index
 abbrev pub offset_form : Offset → ℕ
-offset_form (offset.Imm add imm) = 1
+offset_form (offset.Imm add imm) = moved_by_number
 offset_form (offset.Shifted add rm kind amount) =
-    if is_unshifted kind amount then 2 else if is_through_carry kind amount then 4 else 3
+    if is_unshifted kind amount then moved_by_register else if is_through_carry kind amount then moved_by_turned else moved_by_shifted
 
 abbrev pub offset_numbers : Offset → List ℕ
 offset_numbers (offset.Imm add imm) = minus_of add ∷ imm ∷ []
@@ -124,11 +124,11 @@ offset_numbers (offset.Shifted add rm kind amount) =
 
 unfoldable pub word_form : Index → Offset → ℕ
 word_form index offset =
-    if is_base_alone index offset then 0 else if is_post index then offset_form offset + 4 else offset_form offset
+    if is_base_alone index offset then at_base_alone else if is_post index then offset_form offset + word_places_on else offset_form offset
 
 unfoldable pub half_form : Index → Offset → ℕ
 half_form index offset =
-    if is_base_alone index offset then 0 else if is_post index then offset_form offset + 2 else offset_form offset
+    if is_base_alone index offset then at_base_alone else if is_post index then offset_form offset + half_places_on else offset_form offset
 
 unfoldable pub access_numbers : Index → Offset → ℕ → ℕ → List ℕ
 access_numbers index offset rt rn =

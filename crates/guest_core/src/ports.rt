@@ -16,7 +16,7 @@ use llsc_base::Ask;
 ///     fn reply(&mut self, ask: Ask) -> Option<u64> {
 ///         Some(match ask {
 ///             Ask::Load(_) | Ask::LoadEx(_) => self.read(),
-///             Ask::StoreEx(_, _) => 1,
+///             Ask::StoreEx(_, _) => STATUS_FAILED,
 ///             Ask::Store(_, _) | Ask::Clear => 0,
 ///         })
 ///     }

@@ -1,5 +1,5 @@
 -- What a call does with the handle that a struct of C's holds. This project's own.
-use Rattle.std.specs.Prelude.{◌≡◌, ◌⊎◌, ◌+◌, ℕ, true, List, [], Option, Some}
+use Rattle.std.specs.Prelude.{◌≡◌, ◌⊎◌, ◌+◌, ℕ, true, false, List, [], Option, Some}
 use Rattle.std.specs.Arc.{arc_value}
 use Rattle.llsc_base.specs.Sizes.{Numbers}
 use Rattle.history.specs.Operation.{load_missed, load_watched}
@@ -53,7 +53,7 @@ pub record IsSplit (old new last : Option Handle) : Type 0 where
   pub fresh : (other.fresh ≡ true) × (to.fresh ≡ true)
 
 -- a handle has taken in another's threads: it has seen the longer of what both had, of which each is a front, and which says of
--- each one's threads all that it had seen of them
+-- each one's threads all that it had seen of them; it may not be split any more
 pub record IsJoined (old next new : Option Handle) : Type 0 where
   pub mine : Handle
   pub yours : Handle
@@ -67,6 +67,7 @@ pub record IsJoined (old next new : Option Handle) : Type 0 where
   pub fronts : IsFront (handle_seen mine) (handle_seen both) × IsFront (handle_seen yours) (handle_seen both)
   pub says_mine : SaysAllOfThreads both mine
   pub says_yours : SaysAllOfThreads both yours
+  pub used : both.fresh ≡ false
 
 -- a memory was closed: what all of its threads have seen is its whole history, which leaves these bytes
 pub record IsClosed (old : Option Handle) (bytes : List ℕ) : Type 0 where

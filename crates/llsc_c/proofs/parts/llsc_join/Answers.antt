@@ -19,4 +19,5 @@ returns-clause-joined c z = record {
   fronts = c.join.ensures.fronts;
   says_mine = c.join.ensures.mine;
   says_yours = c.join.ensures.yours;
+  used = c.join.ensures.used;
 }
