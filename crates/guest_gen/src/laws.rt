@@ -1,5 +1,5 @@
 //! The laws of the guests, each a function of no effect whose contract is the law.
-ghost use Rattle.std.specs.Prelude.{◌≡◌, ◌*◌, ℕ, length};
+ghost use Rattle.std.specs.Prelude.{◌≡◌, ◌*◌, ◌∷◌, [], ℕ, drop, length};
 ghost use Rattle.elf32.specs.Units.{data_of, end_of};
 ghost use Rattle.guest_gen.specs.Counters.{counter_at, counter_unit, counters};
 ghost use Rattle.guest_gen.specs.Namings.{namings_of};
@@ -13,12 +13,24 @@ pub fn counters_are_where_they_are_told()
     ensures first { FIRST_COUNTER ≡ counter_at 0 }
 {}
 
+/// There are sixteen counters, from 0x2000 on, of eight bytes each.
+pub fn counters_in_numbers()
+    ensures count { COUNTER_COUNT ≡ 16 }
+    ensures first { FIRST_COUNTER ≡ 8192 }
+    ensures second { counter_at 1 ≡ 8200 }
+{}
+
 /// The counter guest has 25 words, and its counters are its data: the first stands where the data begins, and the program ends
 /// behind the last.
 pub fn counters_are_the_data()
     ensures words { (seed rounds : ℕ) → length (counter_unit seed rounds).words ≡ 25 }
     ensures first { (seed rounds : ℕ) → data_of (counter_unit seed rounds) ≡ counter_at 0 }
     ensures end { (seed rounds : ℕ) → end_of (counter_unit seed rounds) ≡ counter_at counters }
+{}
+
+/// The code of the counter guest ends with `mov r0, #0`, `mov r7, #1` and `svc #0`, by which a thread leaves with code 0.
+pub fn threads_that_leave()
+    ensures { (seed rounds : ℕ) → drop 22 (counter_unit seed rounds).words ≡ 0xE3A00000 ∷ 0xE3A07001 ∷ 0xEF000000 ∷ [] }
 {}
 
 /// The counters are named once in each round of each thread.

@@ -1,2 +1,3 @@
 mod Cases
+mod Same
 pub mod Values

@@ -17,6 +17,7 @@
 mod answers;
 mod exclusive;
 mod held;
+pub mod laws;
 mod opening;
 mod parts;
 mod plain;

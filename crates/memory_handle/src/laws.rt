@@ -12,7 +12,7 @@ ghost use Rattle.version_memory.specs.Exact.{HasFailedAt, IsContended};
 ghost use Rattle.version_memory.specs.Stands.{HasRoom, Stands};
 ghost use Rattle.memory_handle.specs.Accesses.{Adds, HasFailedEx, HasFoundSpent, HasMetWrite, HasStored, HasStoredEx, Makes};
 ghost use Rattle.memory_handle.specs.Handles.{AreAlike, handle_origin, handle_seen};
-ghost use Rattle.memory_handle.specs.Left.{IsLeft};
+ghost use Rattle.memory_handle.specs.Left.{IsLeft, bytes_left};
 ghost use Rattle.memory_handle.specs.declared.handles.Handle.{Handle};
 
 use history::{Cause, Entry};
@@ -59,9 +59,11 @@ pub fn store_exclusives_have_their_reasons()
         HasFailedAt (handle_origin old).size old.first word value (handle_seen old) (handle_seen new) }
 {}
 
-/// Handles that are alike are of one memory and have the same threads, and a memory that is left is over by what the handle has seen.
+/// Handles that are alike are of one memory and have the same threads, and a memory that is left is over by what the handle has seen,
+/// and left with just the bytes that this leaves.
 pub fn handles_before_and_after()
     ensures alike { (old new : Handle) → AreAlike old new →
         (handle_origin new ≡ handle_origin old) × (new.first ≡ old.first) × (new.upto ≡ old.upto) × (new.fresh ≡ old.fresh) }
     ensures left { (handle : Handle) (bytes : List ℕ) → IsLeft handle bytes → IsOver (handle_origin handle) (handle_seen handle) }
+    ensures left_bytes { (handle : Handle) (bytes : List ℕ) → IsLeft handle bytes → bytes ≡ bytes_left (handle_origin handle) (handle_seen handle) }
 {}

@@ -1,11 +1,12 @@
-//! Worked cases of which place a call names, of what stands against one, of the numbers that a handle has, and of when a store meets a
-//! write. There is one class, into which the next row falls, too.
-ghost use Rattle.std.specs.Prelude.{◌≡◌, ◌∷◌, [], false, None, Some};
-ghost use Rattle.history.specs.Worked.{next_row, word};
-ghost use Rattle.shared_memory.specs.Worked.{alone, below, limited_machine};
+//! Worked cases of which place a call names, of what stands against one, of the numbers that a handle has, of when a store meets a
+//! write, and of the bytes that a memory is left with. There is one class, into which the next row falls, too.
+ghost use Rattle.std.specs.Prelude.{◌≡◌, ◌++◌, ◌∷◌, [], false, true, None, Some, replicate};
+ghost use Rattle.history.specs.Worked.{next_row, small_machine, word};
+ghost use Rattle.shared_memory.specs.Worked.{alone, below, limited_machine, made};
 ghost use Rattle.version_memory.specs.Exact.{IsContended};
 ghost use Rattle.memory_handle.specs.Accesses.{IsPlaceOf};
 ghost use Rattle.memory_handle.specs.Faults.{first_of, place_fault, value_fault};
+ghost use Rattle.memory_handle.specs.Left.{bytes_left};
 ghost use Rattle.memory_handle.specs.Numbers.{AreFrom};
 
 use crate::misuse::Misuse;
@@ -50,4 +51,12 @@ pub fn stores_that_meet_a_write()
     ensures in_flight { IsContended (limited_machine 1 2) word (Entry.Begin 1 next_row ∷ []) (Entry.Begin 1 next_row ∷ []) }
     ensures begun_since { IsContended (limited_machine 1 2) word [] (Entry.Begin 1 word ∷ Entry.Write 1 word 5 false ∷ Entry.End 1 word ∷ []) }
     ensures none { ¬ IsContended (limited_machine 1 2) word [] [] }
+{}
+
+/// A memory is left with the bytes of all its cells, the first one's first, and of each the least significant first.
+#[tactic(auto, unfolding(llsc_base::specs::Memory::row_of, llsc_base::specs::Memory::number_of, llsc_base::specs::Memory::bytes_of, row_bytes::specs::Cell::bytes_of_cells))]
+pub fn bytes_that_are_left()
+    ensures first { bytes_left (made (record (small_machine 1) { mem = 32 }) true) [] ≡ replicate 32 0 }
+    ensures stored { bytes_left (made (record (small_machine 1) { mem = 32 }) true) (Entry.Begin 0 word ∷ Entry.Write 0 word 258 false ∷ Entry.End 0 word ∷ [])
+        ≡ replicate 8 0 ++ 2 ∷ 1 ∷ replicate 22 0 }
 {}

@@ -16,6 +16,7 @@ mod merges;
 mod merging;
 mod running;
 mod runs;
+pub mod worked;
 
 pub use crews::{LogCrew, log_crew};
 pub use logs::{Log, Stamped};

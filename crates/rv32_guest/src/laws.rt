@@ -1,5 +1,5 @@
 //! Laws of the instruction table, each proved for every word, and of the machine.
-ghost use Rattle.std.specs.Prelude.{◌≡◌, ◌≢◌, ◌==◌, ◌<◌, ℕ, length, List, AllPairs, IsTrue, pos, negsuc};
+ghost use Rattle.std.specs.Prelude.{◌≡◌, ◌≢◌, ◌==◌, ◌<◌, ◌∷◌, [], ℕ, length, List, AllPairs, IsTrue, pos, negsuc};
 ghost use Rattle.std.specs.List.{list_all};
 ghost use Rattle.llsc_base.specs.Images.{Program};
 ghost use Rattle.llsc_base.specs.Bits.{width_of};
@@ -14,7 +14,7 @@ ghost use Rattle.guest_thread.specs.declared.ends.GuestEnd.{GuestEnd};
 ghost use Rattle.guest_core.specs.Machine.{next_of, GoesOn, GoesOnWith, PassesTests};
 ghost use Rattle.rv32_guest.specs.Machine.{Machine, rv32};
 ghost use Rattle.rv32_guest.specs.Stops.{IsStop};
-ghost use Rattle.rv32_guest.specs.Table.{table, meaning, AreApart, FitsNone, MeansItsRow};
+ghost use Rattle.rv32_guest.specs.Table.{table, ecall, meaning, AreApart, FitsNone, MeansItsRow};
 
 use crate::instructions::RvInstr;
 use llsc_base::DecodeFault;
@@ -36,6 +36,15 @@ pub fn words_have_two_cases()
     ensures fits_none { (word : ℕ) → meaning table word ≡ Err DecodeFault.Undefined → FitsNone table word }
     ensures by_its_row { (word : ℕ) → MeansItsRow table word (meaning table word) }
     ensures predictable { (word : ℕ) → meaning table word ≢ Err DecodeFault.Unpredictable }
+{}
+
+/// A row isn't apart from itself; and a word that fits a row doesn't fit none, is not undefined, and means nothing else than what the row
+/// says.
+pub fn rows_that_are_not_apart()
+    ensures not_apart { ¬ AreApart ecall ecall }
+    ensures fits_one { ¬ FitsNone (ecall ∷ []) 0x00000073 }
+    ensures not_undefined { ¬ MeansItsRow (ecall ∷ []) 0x00000073 (Err DecodeFault.Undefined) }
+    ensures another { ¬ MeansItsRow (ecall ∷ []) 0x00000073 (Ok RvInstr.Fence) }
 {}
 
 /// Worked words of computing and of upper immediates: `lui x6, 2`, `auipc x7, 0xfffff`, `addi x1, x2, -5`,

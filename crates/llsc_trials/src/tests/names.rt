@@ -3,6 +3,7 @@ use super::*;
 use a32_asm::AsmFault;
 use a32_syntax::AsmKind;
 use elf32::ElfFault;
+use guest_gen::GenFault;
 use guest_machine::TraceFault;
 use llsc_base::{DecodeFault, FlatFault};
 use llsc_files::programs::ProgramFault;
@@ -27,6 +28,7 @@ fn names_want_of_memory(rt: HostRuntime) {
         RecordFault::Memory.name(),
         ReadFault::Memory.name(),
         TraceFault::Memory.name(),
+        GenFault::Memory.name(),
     ] {
         same(&rt, name, "Memory");
     }

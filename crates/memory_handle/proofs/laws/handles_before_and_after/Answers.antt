@@ -7,3 +7,6 @@ returns-clause-alike c = λ old new alike. (ap memory_origin alike.memory, alike
 
 pub returns-clause-left : goal.returns-clause-left
 returns-clause-left c = λ handle bytes left. left.over
+
+pub returns-clause-left_bytes : goal.returns-clause-left_bytes
+returns-clause-left_bytes c = λ handle bytes left. left.bytes_are
