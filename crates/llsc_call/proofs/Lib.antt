@@ -13,5 +13,10 @@ pub mod Said
 pub mod OneAnswer
 pub mod GoodTraces
 pub mod GoodMerges
+pub mod AsWritten
+pub mod KnownThreads
+pub mod RecordLengths
+pub mod CheckedMachines
+pub mod RecordsGood
 pub mod Exclusives
 pub mod TracesAlone

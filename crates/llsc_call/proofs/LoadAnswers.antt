@@ -33,7 +33,7 @@ use Rattle.llsc_call.proofs.Left.{counters_left}
 
 -- ---- what is printed
 
-left-all : (b : Bool) → ◌≡◌ {A = ℕ} (if b then 0 else 1) 0 → b ≡ true
+pub left-all : (b : Bool) → ◌≡◌ {A = ℕ} (if b then 0 else 1) 0 → b ≡ true
 left-all true is = refl
 left-all false is = absurd (omega (arith, is))
 
@@ -53,7 +53,7 @@ left_0 (stop.Thumb addr) is = absurd (let e : false ≡ true = is in let f : ⊥
 left_0 (stop.TagLimit addr) is = absurd (let e : false ≡ true = is in let f : ⊥ = cc in f)
 left_0 stop.Budget is = absurd (let e : false ≡ true = is in let f : ⊥ = cc in f)
 
-have_each : (ends : List GuestEnd) → have_left ends ≡ true → HaveLeft ends
+pub have_each : (ends : List GuestEnd) → have_left ends ≡ true → HaveLeft ends
 have_each [] all t end got = absurd (let f : ⊥ = cc in f)
 have_each (first ∷ ends) all zero end got =
     let same : first ≡ end = cc in

@@ -1,6 +1,7 @@
 //! The laws of what the program answers, each a function of no effect whose contract is the law.
-ghost use Rattle.std.specs.Prelude.{◌≡◌, ◌≢◌, ◌⊎◌, ℕ, false, List, Option, Some, slice_get};
+ghost use Rattle.std.specs.Prelude.{◌≡◌, ◌≢◌, ◌⊎◌, ◌≤◌, ℕ, false, List, Option, Some, codes, slice_get};
 ghost use Rattle.llsc_base.specs.Images.{Program};
+ghost use Rattle.llsc_base.specs.Limits.{most_budget};
 ghost use Rattle.llsc_base.specs.Sizes.{Numbers};
 ghost use Rattle.history.specs.Accesses.{history_of};
 ghost use Rattle.history.specs.Legal.{IsLegal};
@@ -19,6 +20,7 @@ ghost use Rattle.guest_machine.specs.Turns.{IsTrace};
 ghost use Rattle.run_checker.specs.Verdict.{Judges};
 ghost use Rattle.run_merge.specs.Merge.{IsMerge};
 ghost use Rattle.llsc_call.specs.Answer.{Answers, prints_any_merge};
+ghost use Rattle.llsc_call.specs.Check.{AnswersCheck};
 ghost use Rattle.llsc_call.specs.Exclusives.{AreStoresExact};
 ghost use Rattle.llsc_call.specs.Load.{AnswersLoad, CountsEveryRound, load_program, load_size, load_text};
 ghost use Rattle.llsc_files.specs.Programs.{image_of};
@@ -115,6 +117,14 @@ pub fn merges_are_good()
         IsLegal size program.bytes history → AreEndsOn a32 program size budget history ends →
         ((t addr : ℕ) (end : GuestEnd) → slice_get ends t ≡ Some end → end.stop ≢ Stop.TagLimit addr) →
         IsMerge size history merged → Judges a32 program size budget merged Verdict.Good }
+{}
+
+/// What `record` prints with status 0, where every thread has left with code 0, `check` finds good by the same file, format and memory,
+/// whatever classes and writes the machine had.
+pub fn records_are_good()
+    ensures { (format : Format) (size : Numbers) (budget : ℕ) (file : List ℕ) (story : Option (List Entry)) (text : List ℕ) →
+        1 ≤ budget → budget ≤ most_budget →
+        AnswersRecord format size budget file story 0 text → AnswersCheck format size.mem file text 0 (codes "good\n") }
 {}
 
 /// The record of a trace is good.

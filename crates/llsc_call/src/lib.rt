@@ -19,6 +19,7 @@ mod outcome;
 mod say;
 mod steady_call;
 pub mod worked_limits;
+pub mod worked_versions;
 
 pub use crate::call::llsc;
 pub use crate::ended::Ended;
