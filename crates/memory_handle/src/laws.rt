@@ -1,7 +1,7 @@
 //! Laws of what has come of the calls on handles, each a function of no effect whose contract is the law.
 //!
 //! They are about an access of four bytes at address 8, which stands for any other.
-ghost use Rattle.std.specs.Prelude.{◌≡◌, ◌++◌, ◌∷◌, [], true, false, ℕ, List};
+ghost use Rattle.std.specs.Prelude.{◌≡◌, ◌⊎◌, ◌++◌, ◌∷◌, [], true, false, ℕ, List, None};
 ghost use Rattle.history.specs.Operation.{load, load_missed, load_watched};
 ghost use Rattle.history.specs.Parts.{entries_of};
 ghost use Rattle.history.specs.Worked.{word};
@@ -11,10 +11,12 @@ ghost use Rattle.version_rule.specs.Left.{IsOver};
 ghost use Rattle.version_memory.specs.Exact.{HasFailedAt, IsContended};
 ghost use Rattle.version_memory.specs.Stands.{HasRoom, Stands};
 ghost use Rattle.memory_handle.specs.Accesses.{Adds, HasFailedEx, HasFoundSpent, HasMetWrite, HasStored, HasStoredEx, Makes};
+ghost use Rattle.memory_handle.specs.Faults.{IsRefused, store_fault};
 ghost use Rattle.memory_handle.specs.Handles.{AreAlike, handle_origin, handle_seen};
 ghost use Rattle.memory_handle.specs.Left.{IsLeft, bytes_left};
 ghost use Rattle.memory_handle.specs.declared.handles.Handle.{Handle};
 
+use crate::misuse::Misuse;
 use history::{Cause, Entry};
 
 /// What a handle's thread adds to what it has seen of the history: its own entries there are just these, and the whole is legal.
@@ -49,6 +51,12 @@ pub fn stores_have_their_reasons()
         HasRoom (handle_origin old).size word (Entry.Begin old.first word) (handle_seen old) (handle_seen new) }
     ensures met_a_write { (old new : Handle) → HasMetWrite 8 4 old new → IsContended (handle_origin old).size word (handle_seen old) (handle_seen new) }
     ensures found_spent { (old new : Handle) → HasFoundSpent 8 4 old new → IsAtLimit (handle_origin old).size word (handle_seen new) }
+{}
+
+/// What memory refuses of a store is one against which nothing stands, and it is refused as busy or as spent.
+pub fn stores_that_memory_refuses()
+    ensures sound { (handle : Handle) (misuse : Misuse) → IsRefused handle 8 4 5 misuse → store_fault handle 8 4 5 ≡ None }
+    ensures why { (handle : Handle) (misuse : Misuse) → IsRefused handle 8 4 5 misuse → (misuse ≡ Misuse.Busy) ⊎ (misuse ≡ Misuse.Spent) }
 {}
 
 /// A store-exclusive succeeds where its thread is undisturbed, and fails where it isn't.
