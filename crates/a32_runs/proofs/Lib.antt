@@ -2,6 +2,7 @@ pub mod SmallRuns
 pub mod Staying
 pub mod LeavingRuns
 pub mod SmallEnds
+pub mod SpentClass
 pub mod StartingRuns
 pub mod SmallFamilies
 pub mod LoopingRuns

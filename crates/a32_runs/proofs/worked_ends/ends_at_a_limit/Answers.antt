@@ -1,25 +1,11 @@
-use Rattle.std.proofs.Common.{◌≡◌, ℕ, ◌≤◌, [], refl, subst, lit≤, arith}
-use Rattle.llsc_base.specs.Memory.{class_of, row_of}
-use Rattle.llsc_base.specs.declared.outside.Stop.TheVariants.{Exit, TagLimit}
+use Rattle.std.proofs.Common.{◌≡◌, [], refl, subst, arith}
+use Rattle.llsc_base.specs.declared.outside.Stop.TheVariants.{Exit}
 use Rattle.guest_calls.specs.Run.{by_itself}
 use Rattle.guest_thread.specs.Outcome.{IsSpent}
 use Rattle.guest_thread.specs.Worked.{machine_of, store_of, word}
 use Rattle.a32_runs.proofs.LeavingRuns.{left, store_refused}
+use Rattle.a32_runs.proofs.SpentClass.{not_by_one, same_limit, spent_once}
 use Rattle.a32_runs.proofs.worked_ends.ends_at_a_limit.Goals as goal
-
--- two such stops are one only at one address
-same_limit : (addr other : ℕ) → TagLimit addr ≡ TagLimit other → addr ≡ other
-same_limit addr other same = cc
-
--- the class of the word is spent by one store, where it takes one
-spent_once : IsSpent (machine_of 2 1 1) (store_of 1 word) 8
-unfolding row_of class_of
-spent_once = lit≤ tt
-
--- and not, where it takes two
-not_by_one : IsSpent (machine_of 2 1 2) (store_of 1 word) 8 → ⊥
-unfolding row_of class_of
-not_by_one spent = let wrong : 2 ≤ 1 = spent in absurd (omega (arith, wrong))
 
 pub returns-clause-by_itself : goal.returns-clause-by_itself
 returns-clause-by_itself c = record {

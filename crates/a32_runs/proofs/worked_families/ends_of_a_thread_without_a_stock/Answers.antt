@@ -1,5 +1,4 @@
-use Rattle.std.proofs.Common.{◌≡◌, ℕ, ◌≤◌, [], ◌∷◌, List, refl, subst, lit≤, arith}
-use Rattle.llsc_base.specs.Memory.{class_of, row_of}
+use Rattle.std.proofs.Common.{◌≡◌, [], ◌∷◌, List, refl, subst, arith}
 use Rattle.llsc_base.specs.declared.outside.Stop.TheVariants.{Exit, TagLimit}
 use Rattle.history.specs.Starts.{Started}
 use Rattle.guest_calls.specs.Run.{by_itself}
@@ -10,21 +9,8 @@ use Rattle.guest_thread.proofs.StockRun.{run_stockless, stockless_run}
 use Rattle.a32_step.specs.Machine.{a32}
 use Rattle.a32_runs.specs.Leaving.{leaving, storing}
 use Rattle.a32_runs.proofs.LeavingRuns.{left, store_refused}
+use Rattle.a32_runs.proofs.SpentClass.{not_by_one, same_limit, spent_once}
 use Rattle.a32_runs.proofs.worked_families.ends_of_a_thread_without_a_stock.Goals as goal
-
--- two such stops are one only at one address
-same_limit : (addr other : ℕ) → TagLimit addr ≡ TagLimit other → addr ≡ other
-same_limit addr other same = cc
-
--- the class of the word is spent by one store, where it takes one
-spent_once : IsSpent (machine_of 2 1 1) (store_of 1 word) 8
-unfolding row_of class_of
-spent_once = lit≤ tt
-
--- and not, where it takes two
-not_by_one : IsSpent (machine_of 2 1 2) (store_of 1 word) 8 → ⊥
-unfolding row_of class_of
-not_by_one spent = let wrong : 2 ≤ 1 = spent in absurd (omega (arith, wrong))
 
 pub returns-clause-by_itself : goal.returns-clause-by_itself
 returns-clause-by_itself c = record {

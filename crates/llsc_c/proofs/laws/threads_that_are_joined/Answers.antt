@@ -1,20 +1,17 @@
-use Rattle.std.proofs.Common.{◌≡◌, ◌≤◌, ◌<◌, ℕ, false, Some, None, ap, subst}
+use Rattle.std.proofs.Common.{◌≡◌, ◌≤◌, ◌<◌, ℕ, false, Some, None, ap}
 use Rattle.history.specs.Parts.{entries_of}
 use Rattle.shared_memory.specs.Seen.{IsFront, longer}
 use Rattle.version_memory.specs.Memory.{memory_origin}
 use Rattle.memory_handle.specs.Handles.{handle_origin, handle_seen}
 use Rattle.memory_handle.specs.declared.handles.Handle.{Handle}
 use Rattle.llsc_c.specs.Threads.{IsJoined}
-use Rattle.llsc_c.proofs.Same.{same_handle}
+use Rattle.llsc_c.proofs.Same.{of_held}
 use Rattle.llsc_c.proofs.laws.threads_that_are_joined.Goals as goal
 
 -- what is so of the handles of a join is so of those that the structs hold
 of_these : (about : Handle → Handle → Handle → Type 0) (mine yours both : Handle) → (joined : IsJoined (Some mine) (Some yours) (Some both))
     → about joined.mine joined.yours joined.both → about mine yours both
-of_these about mine yours both joined so =
-    subst (λ h. about mine yours h) (same_handle both joined.both joined.is)
-    (subst (λ h. about mine h joined.both) (same_handle yours joined.yours joined.next_was)
-    (subst (λ h. about h joined.yours joined.both) (same_handle mine joined.mine joined.was) so))
+of_these about mine yours both joined so = of_held about mine yours both joined.mine joined.yours joined.both joined.was joined.next_was joined.is so
 
 pub returns-clause-memory : goal.returns-clause-memory
 returns-clause-memory c = λ mine yours both joined.

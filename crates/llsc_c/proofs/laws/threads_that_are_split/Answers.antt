@@ -1,18 +1,15 @@
-use Rattle.std.proofs.Common.{◌≡◌, ◌+◌, true, Some, ap, subst}
+use Rattle.std.proofs.Common.{◌≡◌, ◌+◌, true, Some, ap}
 use Rattle.version_memory.specs.Memory.{memory_origin}
 use Rattle.memory_handle.specs.Handles.{handle_origin, handle_seen}
 use Rattle.memory_handle.specs.declared.handles.Handle.{Handle}
 use Rattle.llsc_c.specs.Threads.{IsSplit}
-use Rattle.llsc_c.proofs.Same.{same_handle}
+use Rattle.llsc_c.proofs.Same.{of_held}
 use Rattle.llsc_c.proofs.laws.threads_that_are_split.Goals as goal
 
 -- what is so of the handles of a split is so of those that the structs hold
 of_these : (about : Handle → Handle → Handle → Type 0) (old new last : Handle) → (split : IsSplit (Some old) (Some new) (Some last))
     → about split.from split.to split.other → about old new last
-of_these about old new last split so =
-    subst (λ h. about old new h) (same_handle last split.other split.last_is)
-    (subst (λ h. about old h split.other) (same_handle new split.to split.is)
-    (subst (λ h. about h split.to split.other) (same_handle old split.from split.was) so))
+of_these about old new last split so = of_held about old new last split.from split.to split.other split.was split.is split.last_is so
 
 pub returns-clause-memory : goal.returns-clause-memory
 returns-clause-memory c = λ old new last split.
