@@ -49,7 +49,8 @@ word_operands =
 abbrev pub half_operands : List ℕ
 half_operands = codes "r, [r]|r, [r, #~n]!|r, [r, ~r]!|r, [r], #~n|r, [r], ~r"
 
--- the places of the forms of an address among them: the base alone, and each kind of offset before the base and behind it
+-- the places of the forms of an address among them: the base alone, the base moved by each kind of offset, and each kind behind the
+-- base
 abbrev pub at_base_alone : ℕ
 at_base_alone = 0
 
@@ -74,11 +75,11 @@ behind_by_register = 6
 abbrev pub behind_by_shifted : ℕ
 behind_by_shifted = 7
 
--- and of a halfword or a signed byte those behind it
+-- and of a halfword or a signed byte behind it
 abbrev pub half_behind_by_number : ℕ
 half_behind_by_number = 3
 
--- how many places lie between an offset before the base and the same behind it
+-- how many places further on each kind stands behind the base
 abbrev pub word_places_on : ℕ
 word_places_on = 4
 
