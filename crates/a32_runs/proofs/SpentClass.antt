@@ -1,11 +1,11 @@
--- Whether the class of the word has had its writes by one store.
+-- Stops at the limit of a class's writes, and whether the class of the word has had its writes by one store.
 use Rattle.std.proofs.Common.{◌≡◌, ℕ, ◌≤◌, lit≤, arith}
 use Rattle.llsc_base.specs.Memory.{class_of, row_of}
 use Rattle.llsc_base.specs.declared.outside.Stop.TheVariants.{TagLimit}
 use Rattle.guest_thread.specs.Outcome.{IsSpent}
 use Rattle.guest_thread.specs.Worked.{machine_of, store_of, word}
 
--- two such stops are one only at one address
+-- two stops at a limit are one only at one address
 pub same_limit : (addr other : ℕ) → TagLimit addr ≡ TagLimit other → addr ≡ other
 same_limit addr other same = cc
 
