@@ -1,172 +1,189 @@
 //! The commands, each with its options and files.
-ghost use Rattle.std.specs.Prelude.{◌≡◌, IfOk, codes};
-ghost use Rattle.clap.specs.Words.{app_of, with_rule};
-ghost use Rattle.llsc_words.specs.Commands.{app_by, asm_app, beside_app, check_app, dis_app, file, flat, load_app, machine_app, option_rule, plain_app, pool_app, positional_rule, program_app, record_app, run_app, solo_app, trace_app};
+ghost use Rattle.std.specs.Prelude.{◌≡◌, IfOk, false};
+ghost use Rattle.clap.specs.Words.{app_of, rule_of};
+ghost use Rattle.llsc_words.specs.Commands.{app_by};
+ghost use Rattle.llsc_words.specs.inner.Commands.{app_laid, part_rule, with_parts};
 
 use crate::arguments::{flag, option, plain, positional};
 use crate::names::CommandName;
-use clap::Command;
+use clap::{Arg, Command};
 use std::alloc::{AllocError, Global};
 
-/// The command with an option more.
-fn with_option<'a>(
+/// What a command may have behind its name.
+#[derive(Clone, Copy)]
+pub(crate) enum Part {
+    /// A file or a number that stands by itself.
+    Word(&'static str),
+    /// A flag.
+    Flag(&'static str),
+    /// An option with a value.
+    Value(&'static str),
+}
+
+/// A command's name, and all that it may have behind it.
+#[derive(Clone, Copy)]
+pub(crate) struct Layout {
+    pub(crate) name: &'static str,
+    pub(crate) parts: &'static [Part],
+}
+
+/// Runs one thread.
+const SOLO: Layout = Layout {
+    name: "solo",
+    parts: &[
+        Part::Word("FILE"),
+        Part::Flag("flat"),
+        Part::Value("mem"),
+        Part::Value("budget"),
+    ],
+};
+
+/// Makes a file of a text.
+const ASM: Layout = Layout {
+    name: "asm",
+    parts: &[Part::Word("FILE"), Part::Flag("flat")],
+};
+
+/// Shows a file as text.
+const DIS: Layout = Layout {
+    name: "dis",
+    parts: &[Part::Word("FILE"), Part::Flag("flat"), Part::Value("mem")],
+};
+
+/// Runs all threads.
+const RUN: Layout = Layout {
+    name: "run",
+    parts: &[
+        Part::Word("FILE"),
+        Part::Flag("flat"),
+        Part::Value("threads"),
+        Part::Value("mem"),
+        Part::Value("granule"),
+        Part::Value("classes"),
+        Part::Value("limit"),
+        Part::Value("budget"),
+        Part::Value("spare"),
+        Part::Flag("rv"),
+    ],
+};
+
+/// Runs all threads on few workers.
+const POOL: Layout = Layout {
+    name: "pool",
+    parts: &[
+        Part::Word("FILE"),
+        Part::Flag("flat"),
+        Part::Value("threads"),
+        Part::Value("mem"),
+        Part::Value("granule"),
+        Part::Value("classes"),
+        Part::Value("limit"),
+        Part::Value("budget"),
+        Part::Value("workers"),
+        Part::Value("slice"),
+    ],
+};
+
+/// Runs all threads, which record their accesses.
+const RECORD: Layout = Layout {
+    name: "record",
+    parts: &[
+        Part::Word("FILE"),
+        Part::Flag("flat"),
+        Part::Value("threads"),
+        Part::Value("mem"),
+        Part::Value("granule"),
+        Part::Value("classes"),
+        Part::Value("limit"),
+        Part::Value("budget"),
+    ],
+};
+
+/// Records a run of all threads by turns.
+const TRACE: Layout = Layout {
+    name: "trace",
+    parts: &[
+        Part::Word("FILE"),
+        Part::Flag("flat"),
+        Part::Value("threads"),
+        Part::Value("mem"),
+        Part::Value("granule"),
+        Part::Value("seed"),
+        Part::Value("budget"),
+    ],
+};
+
+/// Checks a record.
+const CHECK: Layout = Layout {
+    name: "check",
+    parts: &[
+        Part::Word("FILE"),
+        Part::Word("RECORD"),
+        Part::Flag("flat"),
+        Part::Value("mem"),
+    ],
+};
+
+/// Runs the counter guest of a seed.
+const LOAD: Layout = Layout {
+    name: "load",
+    parts: &[
+        Part::Word("SEED"),
+        Part::Value("threads"),
+        Part::Value("rounds"),
+        Part::Value("budget"),
+    ],
+};
+
+/// The layout of the command of a name.
+#[tactic(auto, unfolding(crate::proofs::Laid::commands_are_laid))]
+fn layout_of(name: CommandName) -> Layout
+    ensures { app_laid result ≡ app_by name }
+{
+    match name {
+        CommandName::Solo => SOLO,
+        CommandName::Run => RUN,
+        CommandName::Pool => POOL,
+        CommandName::Record => RECORD,
+        CommandName::Asm => ASM,
+        CommandName::Dis => DIS,
+        CommandName::Trace => TRACE,
+        CommandName::Check => CHECK,
+        CommandName::Load => LOAD,
+    }
+}
+
+/// A part, as `clap` takes it.
+fn argument<'a>(alloc: Global, part: Part) -> Arg<'a>
+    ensures rule { rule_of result ≡ part_rule part }
+    ensures local { result.global ≡ false }
+{
+    match part {
+        Part::Word(name) => positional(alloc, name),
+        Part::Flag(name) => flag(alloc, name),
+        Part::Value(name) => option(alloc, name),
+    }
+}
+
+/// The command with these parts more.
+fn with_parts<'a>(
     alloc: Global,
     command: Command<'a>,
-    name: &'a str,
+    parts: &[Part],
 ) -> Result<Command<'a>, AllocError>
-    ensures { IfOk result (λ more. app_of more ≡ with_rule (app_of command.entry) (option_rule name.entry.now)) }
+    ensures { IfOk result (λ more. app_of more ≡ with_parts (app_of command.entry) parts.now) }
 {
-    command.arg(option(alloc, name))
-}
-
-/// The command with two options more.
-fn with_two_options<'a>(
-    alloc: Global,
-    command: Command<'a>,
-    first: &'a str,
-    second: &'a str,
-) -> Result<Command<'a>, AllocError>
-    ensures { IfOk result (λ more. app_of more ≡
-        with_rule (with_rule (app_of command.entry) (option_rule first.entry.now)) (option_rule second.entry.now)) }
-{
-    let command = with_option(alloc, command, first)?;
-    with_option(alloc, command, second)
-}
-
-/// The command with three options more.
-fn with_three_options<'a>(
-    alloc: Global,
-    command: Command<'a>,
-    first: &'a str,
-    second: &'a str,
-    third: &'a str,
-) -> Result<Command<'a>, AllocError>
-    ensures { IfOk result (λ more. app_of more ≡
-        with_rule (with_rule (with_rule (app_of command.entry) (option_rule first.entry.now)) (option_rule second.entry.now)) (option_rule third.entry.now)) }
-{
-    let command = with_two_options(alloc, command, first, second)?;
-    with_option(alloc, command, third)
-}
-
-/// A command that has a program's file, and its format.
-fn program<'a>(alloc: Global, name: &'a str) -> Result<Command<'a>, AllocError>
-    ensures { IfOk result (λ command. app_of command ≡ program_app name.entry.now) }
-{
-    plain(alloc, name)
-        .arg(positional(alloc, "FILE"))?
-        .arg(flag(alloc, "flat"))
-}
-
-/// A command that has a program's file and a machine of several threads.
-fn machine<'a>(alloc: Global, name: &'a str) -> Result<Command<'a>, AllocError>
-    ensures { IfOk result (λ command. app_of command ≡ machine_app name.entry.now) }
-{
-    with_three_options(alloc, program(alloc, name)?, "threads", "mem", "granule")
-}
-
-/// A command whose threads run beside each other.
-fn beside<'a>(alloc: Global, name: &'a str) -> Result<Command<'a>, AllocError>
-    ensures { IfOk result (λ command. app_of command ≡ beside_app name.entry.now) }
-{
-    with_three_options(alloc, machine(alloc, name)?, "classes", "limit", "budget")
-}
-
-/// `solo`: runs one thread.
-#[tactic(auto, unfolding(crate::specs::Commands::solo_app))]
-fn solo<'a>(alloc: Global) -> Result<Command<'a>, AllocError>
-    ensures { IfOk result (λ command. app_of command ≡ solo_app) }
-{
-    with_two_options(alloc, program(alloc, "solo")?, "mem", "budget")
-}
-
-/// `asm`: makes a file of a text.
-#[tactic(auto, unfolding(crate::specs::Commands::asm_app))]
-fn asm<'a>(alloc: Global) -> Result<Command<'a>, AllocError>
-    ensures { IfOk result (λ command. app_of command ≡ asm_app) }
-{
-    program(alloc, "asm")
-}
-
-/// `dis`: shows a file as text.
-#[tactic(auto, unfolding(crate::specs::Commands::dis_app))]
-fn dis<'a>(alloc: Global) -> Result<Command<'a>, AllocError>
-    ensures { IfOk result (λ command. app_of command ≡ dis_app) }
-{
-    with_option(alloc, program(alloc, "dis")?, "mem")
-}
-
-/// `run`: runs all threads.
-#[tactic(auto, unfolding(crate::specs::Commands::run_app))]
-fn run<'a>(alloc: Global) -> Result<Command<'a>, AllocError>
-    ensures { IfOk result (λ command. app_of command ≡ run_app) }
-{
-    with_option(alloc, beside(alloc, "run")?, "spare")?.arg(flag(alloc, "rv"))
-}
-
-/// `pool`: runs all threads on few workers.
-#[tactic(auto, unfolding(crate::specs::Commands::pool_app))]
-fn pool<'a>(alloc: Global) -> Result<Command<'a>, AllocError>
-    ensures { IfOk result (λ command. app_of command ≡ pool_app) }
-{
-    with_two_options(alloc, beside(alloc, "pool")?, "workers", "slice")
-}
-
-/// `record`: runs all threads, which record their accesses.
-#[tactic(auto, unfolding(crate::specs::Commands::record_app))]
-fn recorded<'a>(alloc: Global) -> Result<Command<'a>, AllocError>
-    ensures { IfOk result (λ command. app_of command ≡ record_app) }
-{
-    beside(alloc, "record")
-}
-
-/// `trace`: records a run of all threads.
-#[tactic(auto, unfolding(crate::specs::Commands::trace_app))]
-fn trace<'a>(alloc: Global) -> Result<Command<'a>, AllocError>
-    ensures { IfOk result (λ command. app_of command ≡ trace_app) }
-{
-    with_two_options(alloc, machine(alloc, "trace")?, "seed", "budget")
-}
-
-/// A command that has a program's file and a record's.
-fn two_files<'a>(alloc: Global, name: &'a str) -> Result<Command<'a>, AllocError>
-    ensures { IfOk result (λ command. app_of command ≡ with_rule (with_rule (plain_app name.entry.now) file) (positional_rule (codes "RECORD"))) }
-{
-    plain(alloc, name)
-        .arg(positional(alloc, "FILE"))?
-        .arg(positional(alloc, "RECORD"))
-}
-
-/// `check`: checks a record.
-#[tactic(auto, unfolding(crate::specs::Commands::check_app))]
-fn check<'a>(alloc: Global) -> Result<Command<'a>, AllocError>
-    ensures { IfOk result (λ command. app_of command ≡ check_app) }
-{
-    let command = two_files(alloc, "check")?.arg(flag(alloc, "flat"))?;
-    with_option(alloc, command, "mem")
-}
-
-/// `load`: runs the counter guest of a seed.
-#[tactic(auto, unfolding(crate::specs::Commands::load_app))]
-fn load<'a>(alloc: Global) -> Result<Command<'a>, AllocError>
-    ensures { IfOk result (λ command. app_of command ≡ load_app) }
-{
-    let command = plain(alloc, "load").arg(positional(alloc, "SEED"))?;
-    with_three_options(alloc, command, "threads", "rounds", "budget")
+    let [part, others @ ..] = parts else {
+        return Ok(command);
+    };
+    with_parts(alloc, command.arg(argument(alloc, *part))?, others)
 }
 
 /// The command of a name, with its options and files.
 pub fn command_by<'a>(alloc: Global, name: CommandName) -> Result<Command<'a>, AllocError>
     ensures { IfOk result (λ command. app_of command ≡ app_by name) }
 {
-    match name {
-        CommandName::Solo => solo(alloc),
-        CommandName::Run => run(alloc),
-        CommandName::Pool => pool(alloc),
-        CommandName::Record => recorded(alloc),
-        CommandName::Asm => asm(alloc),
-        CommandName::Dis => dis(alloc),
-        CommandName::Trace => trace(alloc),
-        CommandName::Check => check(alloc),
-        CommandName::Load => load(alloc),
-    }
+    let Layout { name, parts } = layout_of(name);
+    let name: &'a str = name;
+    with_parts(alloc, plain(alloc, name), parts)
 }
