@@ -1,9 +1,9 @@
 //! Guest threads at their start, on a memory on which they may start others.
-ghost use Rattle.std.specs.Prelude.{◌≡◌, ◌≤◌, ◌+◌, ◌*◌, ℕ, IfOk, [], nat_lt, vec_len, vec_capacity};
+ghost use Rattle.std.specs.Prelude.{◌≡◌, ◌≤◌, ◌<◌, ◌+◌, ◌*◌, ℕ, IfOk, [], nat_lt, vec_len, vec_capacity};
 ghost use Rattle.std.specs.List.{range_with_len};
 ghost use Rattle.history.specs.Parts.{entries_of};
 ghost use Rattle.shared_memory.specs.Seen.{IsSingle};
-ghost use Rattle.guest_family.specs.Kin.{AreSpares, AreStarters, AreReadyKin, heads_of, spares_of};
+ghost use Rattle.guest_family.specs.Kin.{AreSpares, AreStarters, AreReadyKin, IsStarter, heads_of, spares_of};
 ghost use Rattle.guest_family.specs.inner.Left.{AreLeft};
 
 use a32_step::{Conditional, Cpu};
@@ -92,6 +92,34 @@ fn starter_of<'i, P: Drop>(
     Ok(Starter { job, spares, ends })
 }
 
+/// One of the first threads but thread 0, with as many as are spare, whose numbers the pass gives away.
+fn starter_from<'i, M: StartMemory>(
+    alloc: Global,
+    mem: &M,
+    image: &'i Image,
+    first: &mut M::Pass,
+    heads: u32,
+    spare: u32,
+    t: u32,
+) -> Result<Starter<'i, M::Pass>, AllocError>
+    requires numbers { (heads ≡ (M.origin mem.now).first) × (spare ≡ (M.origin mem.now).spare) × (heads * (1 + spare) ≡ (M.origin mem.now).size.threads) }
+    requires thread { (1 ≤ t) × (t < heads) }
+    requires few { (M.origin mem.now).size.threads ≤ 16 }
+    requires memory { M.home first.old ≡ M.id mem.now }
+    requires left { AreLeft (M.origin mem.now).first (M.origin mem.now).size.threads t (heads + t * spare) (M.numbers first.old) }
+    requires none { (u : ℕ) → entries_of u (M.seen first.old) ≡ [] }
+    ensures starter { IfOk result (IsStarter M.home M.numbers M.seen (M.id mem.now) (M.origin mem.now) image.now) }
+    ensures thread { IfOk result (λ starter. starter.job.thread ≡ t) }
+    ensures left { IfOk result (λ _. AreLeft (M.origin mem.now).first (M.origin mem.now).size.threads (t + 1) (heads + (t + 1) * spare) (M.numbers first.new)) }
+    ensures memory { M.home first.new ≡ M.home first.old }
+    ensures seen { M.seen first.new ≡ M.seen first.old }
+{
+    let pass = mem.split(first, t);
+    let job = job_of(alloc, mem, image, t, pass)?;
+    let spares = spares_from(alloc, mem, image, first, heads + t * spare, spare)?;
+    Ok(starter_of(alloc, job, spares)?)
+}
+
 /// Those of all first threads but thread 0, each with as many as are spare.
 fn other_starters<'i, M: StartMemory>(
     alloc: Global,
@@ -115,10 +143,7 @@ fn other_starters<'i, M: StartMemory>(
 {
     let mut starters = Vec::with_capacity(alloc, heads as usize)?;
     for t in 1..heads {
-        let pass = mem.split(first, t);
-        let job = job_of(alloc, mem, image, t, pass)?;
-        let spares = spares_from(alloc, mem, image, first, heads + t * spare, spare)?;
-        starters.push(starter_of(alloc, job, spares)?)?;
+        starters.push(starter_from(alloc, mem, image, first, heads, spare, t)?)?;
     }
     Ok(starters)
 }
