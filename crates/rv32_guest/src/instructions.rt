@@ -2,7 +2,7 @@
 
 /// An instruction of RV32I without EBREAK, or of Zalrsc (The RISC-V Instruction Set Manual, Volume I, chapters "RV32I Base
 /// Integer Instruction Set" and "A Extension"). `rd`, `rs1` and `rs2` are registers by their numbers, from 0 to 31.
-#[derive(Clone, Copy, Debug, PartialEq, Eq)]
+#[derive(Clone, Copy, Debug)]
 pub enum RvInstr {
     /// LUI: `imm`, whose low twelve bits are 0.
     Lui { rd: u8, imm: u32 },
