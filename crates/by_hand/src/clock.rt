@@ -67,7 +67,7 @@ impl Port for Clock {
 /// # Errors
 ///
 /// As [`Image::flat`], and `Memory` also where there is no memory for the thread.
-pub fn run_over_clock(alloc: Global, file: &[u8], size: &MachineSize) -> Result<Stop, FlatFault>
+pub(crate) fn run_over_clock(alloc: Global, file: &[u8], size: &MachineSize) -> Result<Stop, FlatFault>
     requires { size.now.threads ≡ 1 }
     ensures ran { IfOk result (λ stop. (flat_fault file.now size.now ≡ None) × EndsOverClock (flat_image file.now size.now) size.now stop) }
     ensures refused { IfErr result (λ fault. (flat_fault file.now size.now ≡ Some fault) ⊎ (fault ≡ FlatFault.Memory)) }
@@ -101,7 +101,7 @@ const READER: [u8; 28] = [
 /// # Errors
 ///
 /// As [`run_over_clock`]; of its faults only `Memory` comes here.
-pub fn three_reads(alloc: Global) -> Result<Stop, FlatFault>
+pub(crate) fn three_reads(alloc: Global) -> Result<Stop, FlatFault>
     ensures ran { let size = numbers 65536 1 1 1 in IfOk result (λ stop. EndsOverClock (flat_image READER size) size stop) }
     ensures memory { IfErr result (λ fault. fault ≡ FlatFault.Memory) }
 {

@@ -135,7 +135,7 @@ fn add_beside<M: SharedMemory, R: Threads + Wait + Sync>(
 /// # Errors
 ///
 /// [`AllocError`] is want of memory.
-pub fn count<R: Threads + Wait + Sync>(rt: &R, alloc: Global) -> Result<u64, AllocError>
+pub(crate) fn count<R: Threads + Wait + Sync>(rt: &R, alloc: Global) -> Result<u64, AllocError>
     ensures sum { IfOk result (λ word. word ≡ 2000) }
     ensures left { IfOk result (λ word. (origin : Origin) × (history : List Entry) × IsOfTwo origin
         × HaveBothAdded WORD ROUNDS history × Leaves origin history 1024 word) }

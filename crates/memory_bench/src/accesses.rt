@@ -12,7 +12,7 @@ use std::sync::Wait;
 
 /// What is made in each round.
 #[derive(Clone, Copy)]
-pub enum Kind {
+pub(crate) enum Kind {
     /// A load-exclusive and a store-exclusive that adds 1.
     Pairs,
     /// A store.
@@ -22,7 +22,7 @@ pub enum Kind {
 }
 
 /// The kind of this name.
-pub fn kind_of(name: &str) -> Option<Kind> {
+pub(crate) fn kind_of(name: &str) -> Option<Kind> {
     match name {
         "pairs" => Some(Kind::Pairs),
         "stores" => Some(Kind::Stores),
@@ -32,7 +32,7 @@ pub fn kind_of(name: &str) -> Option<Kind> {
 }
 
 /// A memory of zeros for one thread, and its pass.
-pub fn alone(alloc: Global) -> Result<(HstMemory, HstPass), AllocError>
+pub(crate) fn alone(alloc: Global) -> Result<(HstMemory, HstPass), AllocError>
     ensures { IfOk result (λ t. IsAlone t.0 t.1) }
 {
     let Ok(size) = MachineSize::new(65_536, 1, 4096, 1) else {
@@ -45,7 +45,7 @@ pub fn alone(alloc: Global) -> Result<(HstMemory, HstPass), AllocError>
 }
 
 /// Makes so many accesses to one word, and adds up what they gave.
-pub fn make<M: SharedMemory, R: Wait>(
+pub(crate) fn make<M: SharedMemory, R: Wait>(
     rt: &R,
     memory: &M,
     pass: &mut M::Pass,
