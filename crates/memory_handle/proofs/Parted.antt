@@ -1,8 +1,8 @@
 -- Which numbers handles hold that were split, have taken in others, or have all.
-use Rattle.std.proofs.Common.{◌≡◌, ◌≢◌, ◌==◌, ◌&&◌, inl, inr, not, nat_lt, ℕ, ◌-◌, ◌<◌, Bool, true, sym, ap, ◌∙◌, arith}
+use Rattle.std.proofs.Common.{◌≡◌, ◌≢◌, ◌==◌, ◌&&◌, inl, inr, not, nat_lt, ℕ, ◌-◌, ◌+◌, ◌<◌, Bool, true, sym, ap, ◌∙◌, arith}
 use Rattle.std.proofs.lemmas.Bool.{and_parts, cases_Bool, eq-eqb, eqb-true, ltb-false, ltb-true, ne_eqb, or_cases, or_left, or_right}
 use Rattle.std.specs.Cmp.Derive.{both_true}
-use Rattle.shared_memory.specs.Seen.{IsOneOf, all_but, joint}
+use Rattle.shared_memory.specs.Seen.{IsOneOf, IsSingle, all_but, joint}
 use Rattle.memory_handle.specs.Numbers.{AreFrom}
 
 false_true : not true ≡ true → ⊥
@@ -45,3 +45,7 @@ from-all first upto threads t numbers are all below =
     let low : first ≡ 0 = eqb-true first 0 parts.0 in
     let high : upto ≡ threads = eqb-true upto threads parts.1 in
     are.here t (omega (arith, low)) (omega (arith, high, below))
+
+-- who has one thread has no second
+pub not-several : {first upto : ℕ} {numbers : ℕ → Bool} → AreFrom first upto numbers → IsSingle first numbers → first + 1 < upto → ⊥
+not-several {first = first} are single several = omega (arith, single.only (first + 1) (are.here (first + 1) (omega arith) several))

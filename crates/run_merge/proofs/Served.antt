@@ -1,15 +1,18 @@
 -- Each kind of access, by which a thread is served.
-use Rattle.std.proofs.Common.{◌+◌, ℕ, true, false, List, add-zero, arith, refl, sym}
+use Rattle.std.proofs.Common.{◌∙◌, ◌+◌, ℕ, true, false, List, [], ◌++◌, add-zero, ap, arith, refl, sym}
+use Rattle.std.proofs.lemmas.List.{append-nil}
 use Rattle.atomic_table.specs.Seated.{TableId}
 use Rattle.llsc_base.specs.declared.access.Place.{Place}
+use Rattle.history.specs.Parts.{entries_of}
 use Rattle.history.specs.Operation.{clear, entries_of_operation, fail, load, load_watched, store}
 use Rattle.history.specs.declared.entry.Cause.{Cause}
 use Rattle.history.specs.declared.entry.Entry.{Entry}
 use Rattle.shared_memory.specs.Origin.{Origin}
 use Rattle.shared_memory.specs.Seen.{Sees}
 use Rattle.llsc_base.specs.declared.outside.Ask.TheVariants as ask
-use Rattle.guest_thread.specs.inner.Sharing.{HasGoneOn, IsServedSharing, SharingState}
+use Rattle.guest_thread.specs.inner.Sharing.{HasGoneOn, IsServedSharing, IsUnserved, SharingState}
 use Rattle.guest_thread.specs.declared.counts.Counts.{Counts}
+use Rattle.history.proofs.Appends.{entries_of-append}
 use Rattle.guest_thread.proofs.Shared.{served_by}
 
 abbrev pub part : TableId → Origin → ℕ → List Entry → Counts → SharingState
@@ -63,3 +66,10 @@ module _ (memory : TableId) (origin : Origin) (t : ℕ) (old new : List Entry) (
   clear_served sees =
       served_by origin (entries_of_operation t clear) (part memory origin t old was) (part memory origin t new was) ask.Clear 0
       (further _ _ sees) sees refl refl (sym (add-zero was.reads)) (sym (add-zero was.writes)) (sym (add-zero was.fails)) (omega arith)
+
+  pub none_served : Sees origin t old [] new → IsUnserved (part memory origin t old was) (part memory origin t new was)
+  none_served sees = record {
+    goes_on = further [] was sees;
+    nothing = ap (entries_of t) sees.longer ∙ entries_of-append t old sees.added ∙ ap (λ l. entries_of t old ++ l) sees.mine ∙ append-nil (entries_of t old);
+    counts = refl;
+  }

@@ -27,6 +27,19 @@ run_starters-pass-requires-clause-kin g c κs outlives =
       children_room = omega (arith, times, all, children);
     }
 
+pub all_ends-requires : goal.all_ends-requires
+all_ends-requires g c =
+    let origin = g.M.SharedMemory.origin c.args.mem.now in
+    let ran = c.run_starters-pass.ensures in
+    let many = c.requires.kin.many in
+    let times : (vec_len c.args.kin.others + 1) * origin.spare ≡ origin.first * origin.spare = ap (λ (n : ℕ). n * origin.spare) many in
+    let all = c.requires.kin.first.all in
+    let room = c.requires.kin.ends_room in
+    let heads = ran.ends_len in
+    let children = ran.children_len in
+    let capacity = ran.ends_capacity in
+    record { room = omega (arith, heads, children, capacity, many, times, all, room) }
+
 pub returns-clause-ends : goal.returns-clause-ends
 returns-clause-ends g c =
     let origin = g.M.SharedMemory.origin c.args.mem.now in

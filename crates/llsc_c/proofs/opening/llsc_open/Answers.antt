@@ -1,7 +1,8 @@
 -- The handle of the memory that was made, whose numbers are those that were asked for.
-use Rattle.std.proofs.Common.{rules, ◌≡◌, true, length, ap, ◌∙◌}
+use Rattle.std.proofs.Common.{rules, ◌≡◌, inl, inr, true, length, ap, refl, sym, ◌∙◌}
 use Rattle.llsc_base.specs.Sizes.{Numbers}
 use Rattle.shared_memory.specs.Origin.{Origin}
+use Rattle.llsc_c.proofs.Cases.{open-empty}
 use Rattle.llsc_c.proofs.opening.llsc_open.Goals as goal
 
 pub returns-clause-opened : goal.returns-clause-opened
@@ -19,3 +20,15 @@ returns-clause-opened c z =
       fresh = told.fresh;
       all = (told.all.0, told.all.1 ∙ ap (λ (s : Numbers). s.threads) same);
     }
+
+pub returns-in-Some-clause-answer : goal.returns-in-Some-clause-answer
+returns-in-Some-clause-answer c = inl (sym (open-empty _ c.args.granule c.in-Ok.ensures.0 c.in-Ok-with_granule.ensures.machine.0 c.in-Some.ensures.handle))
+
+pub returns-in_default-open-clause-answer : goal.returns-in_default-open-clause-answer
+returns-in_default-open-clause-answer c = inr (open-empty _ c.args.granule c.in-Ok.ensures.0 c.in-Ok-with_granule.ensures.machine.0 c.in_default-taken.ensures.handle, refl)
+
+pub returns-in_default-new-clause-answer : goal.returns-in_default-new-clause-answer
+returns-in_default-new-clause-answer c = inr (open-empty _ c.args.granule c.in-Ok.ensures.0 c.in-Ok-with_granule.ensures.machine.0 c.in_default-taken.ensures.handle, refl)
+
+pub returns-clause-answer : goal.returns-clause-answer
+returns-clause-answer c = inl (sym (open-empty _ c.args.granule c.in-Ok.ensures.0 c.in-Ok-with_granule.ensures.machine.0 c.in_default-taken.ensures.handle))

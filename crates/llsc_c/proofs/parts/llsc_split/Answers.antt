@@ -1,9 +1,9 @@
 -- The handles before and after a split; and, where a box can't be had, that the threads are together again.
-use Rattle.std.proofs.Common.{rules, ap, sym, ◌∙◌, ◌-◌, ◌==◌}
+use Rattle.std.proofs.Common.{rules, Some, ap, sym, subst, ◌∙◌, ◌-◌, ◌==◌}
 use Rattle.std.specs.Arc.{arc_value}
-use Rattle.memory_handle.specs.Handles.{handle_seen}
+use Rattle.memory_handle.specs.Handles.{IsUnused, handle_seen}
 use Rattle.memory_handle.specs.declared.handles.Handle.{Handle}
-use Rattle.llsc_c.proofs.Cases.{either-same, misuse-not_done, splits-fresh}
+use Rattle.llsc_c.proofs.Cases.{either-same, misuse-not_done, split-refused, splits-fresh}
 use Rattle.llsc_c.proofs.parts.llsc_split.Goals as goal
 
 pub returns-in-Ok-new-clause-split : goal.returns-in-Ok-new-clause-split
@@ -58,3 +58,14 @@ returns-in-Err-new-clause-wanting c z =
         fresh = c.put_back.ensures.fresh ∙ sym (splits-fresh (c.deref_mut.result.now.upto - c.deref_mut.result.now.first == 1) c.deref_mut.result.now.fresh told.fault);
       };
     }
+
+pub put_back-requires-clause-unused : goal.put_back-requires-clause-unused
+put_back-requires-clause-unused c = subst IsUnused (sym c.deref_mut-in-Err-new.ensures.value) c.in-Ok.ensures.unused.1
+
+pub put_back-requires-clause-last : goal.put_back-requires-clause-last
+put_back-requires-clause-last c = subst IsUnused (sym c.in-Err-new.ensures.value_returned) c.in-Ok.ensures.unused.0
+
+pub returns-in-Err-clause-answer : goal.returns-in-Err-clause-answer
+returns-in-Err-clause-answer c =
+    let held = c.in-Some-taken.ensures.handle ∙ ap (λ (h : Handle). Some h) (sym c.deref_mut.ensures.value) in
+    split-refused c.deref_mut.result.now c.in-Err.misuse _ held c.in_default.ensures.handle c.answer_to.ensures c.in-Err.ensures.fault

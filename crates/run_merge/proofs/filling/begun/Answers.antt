@@ -1,12 +1,14 @@
-use Rattle.std.proofs.Common.{◌≡◌, ◌∙◌, ◌≤◌, ◌<◌, List, IsTrue, length, replicate, slice_index, sum_by, refl, sym, ap, subst, arith}
+use Rattle.std.proofs.Common.{ℕ, ◌≡◌, ◌∙◌, ◌≤◌, ◌<◌, List, IsTrue, get_or, length, replicate, slice_index, sum_by, refl, sym, ap, subst, arith}
 use Rattle.std.proofs.lemmas.List.{length-replicate}
 use Rattle.std.specs.List.{count_by}
 use Rattle.std.specs.Int.{is_power_of_two}
 use Rattle.std.proofs.lemmas.Option.{slice_get_within}
+use Rattle.llsc_base.proofs.Cells.{class_of-lt}
 use Rattle.shared_memory.proofs.FirstWords.{some-class}
 use Rattle.version_memory.specs.Memory.{pass_seen}
 use Rattle.run_merge.specs.inner.Filling.{AreSmall, IsStack}
-use Rattle.run_merge.specs.inner.Tables.{is_read_at}
+use Rattle.run_merge.specs.inner.Tables.{class_at, is_read_at}
+use Rattle.run_merge.specs.Taking.{row_at}
 use Rattle.run_merge.specs.declared.logs.Log.{Log}
 use Rattle.run_merge.specs.declared.logs.Stamped.{Stamped}
 use Rattle.run_merge.specs.declared.merging.Merging.{Merging}
@@ -16,6 +18,23 @@ use Rattle.run_merge.proofs.filling.begun.Goals as goal
 pub widths_of-widths-requires-clause-small : goal.widths_of-widths-requires-clause-small
 widths_of-widths-requires-clause-small c = λ t log at.
     subst AreSmall (sym (c.requires.logs.each t log at)) (small_log c.args.size.now (pass_seen c.args.pass.now) t c.requires.few)
+
+pub counts_of-left-requires-clause-spots : goal.counts_of-left-requires-clause-spots
+counts_of-left-requires-clause-spots c t log at i d less =
+    let size = c.args.size.now in
+    let one = get_or log.entries.items i d in
+    let class = class_at size one in
+    let some = some-class size.classes (subst (λ n. IsTrue (is_power_of_two n)) c.classes-classes.ensures.number c.classes-classes.ensures.power) in
+    let known : class < length c.widths_of-widths.result.items = omega (arith, class_of-lt size.classes (row_at size one) some, c.widths_of-widths.ensures.len) in
+    let inside = c.stacked-base.ensures.stack.within class known in
+    omega (
+      arith,
+      inside,
+      c.widths_of-widths.ensures.wide t log at i d less less,
+      ap (λ b. slice_index b class) c.as_slice.ensures.value,
+      ap length (c.in_ok-none.ensures.items_if_clones_equal (λ y is. is)),
+      length-replicate {A = ℕ} c.stacked-base.result.1 0,
+    )
 
 pub counts_of-left-requires-clause-short : goal.counts_of-left-requires-clause-short
 counts_of-left-requires-clause-short c = λ t log at.

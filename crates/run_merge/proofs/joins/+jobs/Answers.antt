@@ -1,6 +1,9 @@
 use Rattle.std.proofs.Common.{rules, ◌+◌, ◌*◌, ◌<◌, ◌≡◌, arith, length, vec_len, vec_capacity}
 use Rattle.run_merge.proofs.AllLogged.{logged_first, logged_more}
 use Rattle.version_memory.specs.Memory.{memory_id, memory_origin}
+use denote.Param.{copied, param}
+use denote.Param.Send.{IsSend, IsSync, Quiet-if}
+use mir.Syntax.{of_param}
 use Rattle.run_merge.proofs.joins.+jobs.Goals as goal
 
 pub returns-clause-logged : goal.returns-clause-logged
@@ -22,29 +25,41 @@ returns-in_default-clause-logged g t c =
 
 pub fn::log_jobs::join+arg2+FnOnce::call_once-join+arg2-requires :
     goal.fn::log_jobs::join+arg2+FnOnce::call_once-join+arg2-requires
-fn::log_jobs::join+arg2+FnOnce::call_once-join+arg2-requires g t c κs within = search rules
+fn::log_jobs::join+arg2+FnOnce::call_once-join+arg2-requires g t c κs within =
+    let asked = c.requires.1.1.1 in
+    (c.decreases, (within.0, (within.1.0, (within.1.1, (asked.1.0, (asked.1.1, (asked.1.2, asked.0)))))))
 
 pub join-recorded-requires-after_bounds : goal.join-recorded-requires-after_bounds
 join-recorded-requires-after_bounds g t c κs within =
     let fewer : 2 * vec_len c.take_job.new.jobs + 1 < t = omega (arith, c.in-Some.ensures.len, c.decreases) in
     let room : vec_len c.take_job.new.jobs < vec_capacity c.args.ends = omega (arith, c.in-Some.ensures.len, c.requires.room) in
     let many : vec_len c.take_log-log-2.new.logs ≡ vec_len c.take_job.new.jobs + 1 = omega (arith, c.take_log-log-2.ensures.len, c.in-Some.ensures.len, c.requires.logs) in
-    let none = c.in-Some.ensures.none in (
+    let none = c.in-Some.ensures.none in
+    let core : IsSend (param 0 g.row.C) = search rules in
+    let ready : IsSend (copied 2 g.row.C-Ready) = search rules in
+    let host : IsSync (param 1 g.row.R) = search rules in (
       (
         fewer,
         (
-          search rules,
+          λ a here. here,
           (
-            search rules,
+            λ a here. here,
             (
-              search rules,
+              λ a here. here,
               (
-                (search rules, c.requires.first_job, c.in-Some.ensures.others, (c.requires.none.0, none.1), c.take_log-log-2.ensures.others, many, c.requires.empty, room, c.requires.whole, c.requires.budget),
-                (search rules, search rules, search rules),
+                (host, c.requires.first_job, c.in-Some.ensures.others, (c.requires.none.0, none.1), c.take_log-log-2.ensures.others, many, c.requires.empty, room, c.requires.whole, c.requires.budget),
+                (core, ready, host),
               ),
             ),
           ),
         ),
       ),
-      ((c.in-Some.ensures.last, none.0, c.take_log-log-2.ensures.unused, c.requires.whole, c.requires.budget), (search rules, search rules, search rules)),
+      (
+        (c.in-Some.ensures.last, none.0, c.take_log-log-2.ensures.unused, c.requires.whole, c.requires.budget),
+        (
+          record { owned = core.owned; leaving = λ k. Quiet-if (k (of_param 0)) _ _ (λ x w. tt) (λ x w. tt) },
+          record { owned = ready.owned; leaving = λ k x w. tt },
+          record { shared = host.shared },
+        ),
+      ),
     )

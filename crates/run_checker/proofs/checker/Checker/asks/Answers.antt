@@ -4,6 +4,16 @@ use Rattle.guest_thread.specs.Ended.{HasEnded}
 use Rattle.run_checker.specs.inner.Positions.{IsBrought}
 use Rattle.run_checker.proofs.checker.Checker.asks.Goals as goal
 
+pub returns-in-Asks-clause-asks : goal.returns-in-Asks-clause-asks
+returns-in-Asks-clause-asks g c size early brought =
+    let index = c.loop-guest.guest-index in
+    let was = c.loop-guest.invariant in
+    let known : index < length c.args.self.now.guests.items = omega (arith, was.long, c.loop-guest.auto.guest-items, c.loop-guest-test.true) in
+    let come =
+    subst (IsBrought g.C.Core.set g.C.Core.machine c.args.image.now size c.args.budget early index) (sym (was.same index c.guest-item.result (omega arith)))
+    (brought.guests index c.guest-item.result known) in
+    record { thread = index; ask = c.in-Asks.field-0; known = known; next = (c.in-Asks.ensures.comes _ _ come).0 }
+
 pub loop-guest-preserved : goal.loop-guest-preserved
 loop-guest-preserved g c =
     let guests = c.loop-guest.guest-items in

@@ -3,13 +3,26 @@ use Rattle.history.specs.Operation.{entries_of_operation, store}
 use Rattle.history.specs.declared.entry.Entry.TheVariants as entry
 use Rattle.version_memory.specs.Memory.{memory_id, memory_origin, pass_seen}
 use Rattle.llsc_base.specs.declared.outside.Ask.TheVariants as ask
-use Rattle.guest_thread.specs.inner.Sharing.{IsServedSharing}
+use Rattle.guest_thread.specs.inner.Sharing.{IsServedSharing, IsUnserved}
 use Rattle.guest_thread.proofs.Shared.{is_spent}
 use Rattle.run_merge.specs.inner.Logging.{IsLogged, LoggingState}
 use Rattle.run_merge.specs.Logs.{access_of}
 use Rattle.run_merge.proofs.Grown.{grown_by_none, grown_by_stamped, logged_on, made}
-use Rattle.run_merge.proofs.Served.{one_write, part, store_served}
+use Rattle.run_merge.proofs.Served.{none_served, one_write, part, store_served}
 use Rattle.run_merge.proofs.logging.Logging.store.Goals as goal
+
+pub returns-in_default-clause-unserved : goal.returns-in_default-clause-unserved
+returns-in_default-clause-unserved g c =
+    let s = c.self.inside in
+    let new = pass_seen c.store_stamped.new.pass in
+    subst (λ (st : LoggingState). IsUnserved st.sharing (part (memory_id s.mem.now) (memory_origin s.mem.now) s.thread new s.counts)) c.self.view_is
+    (none_served (memory_id s.mem.now) (memory_origin s.mem.now) s.thread (pass_seen s.pass) new s.counts (c.in_default.ensures.refused s.thread c.self.invariant.1))
+
+pub returns-in_default-clause-legal : goal.returns-in_default-clause-legal
+returns-in_default-clause-legal g c = (c.in_default.ensures.refused c.self.inside.thread c.self.invariant.1).legal
+
+pub returns-clause-legal : goal.returns-clause-legal
+returns-clause-legal g c = (c.in-Ok.ensures.done c.self.inside.thread c.self.invariant.1).legal
 
 pub returns-in_default-clause-refused : goal.returns-in_default-clause-refused
 returns-in_default-clause-refused g c =

@@ -10,6 +10,12 @@ use Rattle.run_merge.proofs.Grown.{grown_by_plain, grown_by_stamped, logged_on, 
 use Rattle.run_merge.proofs.Served.{fail_served, one_fail, one_write, part, store_ex_served}
 use Rattle.run_merge.proofs.logging.Logging.store_ex.Goals as goal
 
+pub returns-in_default-clause-legal : goal.returns-in_default-clause-legal
+returns-in_default-clause-legal g c = (c.in_default.ensures.failed refl c.self.inside.thread c.self.invariant.1).1.legal
+
+pub returns-clause-legal : goal.returns-clause-legal
+returns-clause-legal g c = (c.in-Some.ensures.done c.self.inside.thread c.self.invariant.1).legal
+
 pub returns-in_default-clause-served : goal.returns-in_default-clause-served
 returns-in_default-clause-served g c =
     let s = c.self.inside in

@@ -1,7 +1,10 @@
-use Rattle.std.proofs.Common.{◌∙◌, ℕ, refl, sym, ap, get_or, List, set, ◌+◌}
+use Rattle.std.proofs.Common.{◌∙◌, ℕ, refl, sym, ap, arith, get_or, List, set, ◌+◌}
+use Rattle.std.proofs.lemmas.List.{length-map}
+use Rattle.std.proofs.lemmas.List.Sums.{count_by-le-length}
 use Rattle.llsc_base.proofs.Cells.{class_of-lt}
 use Rattle.llsc_base.specs.declared.access.Size.TheVariants.{B1}
-use Rattle.history.specs.Accesses.{history_of}
+use Rattle.history.specs.Accesses.{entry_of, history_of}
+use Rattle.history.specs.Cause.{is_write}
 use Rattle.history.specs.declared.entry.Deed.TheVariants as deed
 use Rattle.version_memory.specs.Memory.{pass_seen}
 use Rattle.run_merge.specs.inner.Merging.{tables_of}
@@ -63,6 +66,15 @@ count_one-requires-clause-read c = λ read.
     let may = free_may size seen (history_of old.out.items) (tables_of old) c.requires.state.tables c.requires.state.apart c.args.t next at (sym c.may_take.ensures ∙ c.if-not-may_take.false) in
     let within = class_of-lt size.classes (row_at size next) c.requires.state.room.some in
     some_left size seen old c.requires.state c.args.t next may c.requires.known within read
+
+pub count_one-requires-clause-few : goal.count_one-requires-clause-few
+unfolding no_access
+count_one-requires-clause-few c = λ _.
+    let size = c.args.size.now in
+    let out = c.args.self.now.out in
+    let next : Stamped = get_or c.as_slice-entries.result.now (get_or c.as_slice.result.now c.args.t 0) no_access in
+    let row = row_at size next in
+    omega (arith, c.requires.state.tables.counts row, count_by-le-length (is_write size row) (history_of out.items), length-map out.items entry_of, out.ok.0, out.ok.1, out.small)
 
 pub returns-clause-state : goal.returns-clause-state
 unfolding no_access

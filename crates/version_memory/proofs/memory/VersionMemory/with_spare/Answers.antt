@@ -1,4 +1,5 @@
 use Rattle.std.proofs.Common.{◌≡◌, length, nat_lt, refl, ap, ◌∙◌, arith}
+use Rattle.std.proofs.lemmas.Result.{IfOk-from_err}
 use Rattle.llsc_base.specs.Images.{Program}
 use Rattle.history.specs.Memory.{IsMemory}
 use Rattle.shared_memory.proofs.FirstWords.{some-class}
@@ -54,3 +55,27 @@ invariant_of-pass-clause-between c =
     let size = c.args.size.now in
     let number : c.threads-threads.result ≡ size.threads = c.threads-threads.ensures.number in
     rw c.in_ok-table.ensures.4 (between-first size.threads c.first_marks.result (let least = c.threads-threads.ensures.least in omega arith) (λ t. c.first_marks.ensures t ∙ ap (nat_lt t) number))
+
+pub returns-in_err-words-clause-origin : goal.returns-in_err-words-clause-origin
+returns-in_err-words-clause-origin c = IfOk-from_err _ _ c.from_residual.ensures.0
+
+pub returns-in_err-words-clause-pass : goal.returns-in_err-words-clause-pass
+returns-in_err-words-clause-pass c = IfOk-from_err _ _ c.from_residual.ensures.0
+
+pub returns-in_err-words-clause-numbers : goal.returns-in_err-words-clause-numbers
+returns-in_err-words-clause-numbers c = IfOk-from_err _ _ c.from_residual.ensures.0
+
+pub returns-in_err-words-clause-seen : goal.returns-in_err-words-clause-seen
+returns-in_err-words-clause-seen c = IfOk-from_err _ _ c.from_residual.ensures.0
+
+pub returns-in_err-table-clause-origin : goal.returns-in_err-table-clause-origin
+returns-in_err-table-clause-origin c = IfOk-from_err _ _ c.from_residual-in_err-table.ensures.0
+
+pub returns-in_err-table-clause-pass : goal.returns-in_err-table-clause-pass
+returns-in_err-table-clause-pass c = IfOk-from_err _ _ c.from_residual-in_err-table.ensures.0
+
+pub returns-in_err-table-clause-numbers : goal.returns-in_err-table-clause-numbers
+returns-in_err-table-clause-numbers c = IfOk-from_err _ _ c.from_residual-in_err-table.ensures.0
+
+pub returns-in_err-table-clause-seen : goal.returns-in_err-table-clause-seen
+returns-in_err-table-clause-seen c = IfOk-from_err _ _ c.from_residual-in_err-table.ensures.0
