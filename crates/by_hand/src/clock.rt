@@ -67,7 +67,11 @@ impl Port for Clock {
 /// # Errors
 ///
 /// As [`Image::flat`], and `Memory` also where there is no memory for the thread.
-pub(crate) fn run_over_clock(alloc: Global, file: &[u8], size: &MachineSize) -> Result<Stop, FlatFault>
+pub(crate) fn run_over_clock(
+    alloc: Global,
+    file: &[u8],
+    size: &MachineSize,
+) -> Result<Stop, FlatFault>
     requires { size.now.threads ≡ 1 }
     ensures ran { IfOk result (λ stop. (flat_fault file.now size.now ≡ None) × EndsOverClock (flat_image file.now size.now) size.now stop) }
     ensures refused { IfErr result (λ fault. (flat_fault file.now size.now ≡ Some fault) ⊎ (fault ≡ FlatFault.Memory)) }
