@@ -1,19 +1,9 @@
-//! The fields of a word. Shifts and masks stand here and nowhere else.
-ghost use Rattle.std.specs.Prelude.{◌≡◌, ◌<◌, ◌==◌, ◌^◌};
+//! The registers, the condition and the single bits that a word names.
+ghost use Rattle.std.specs.Prelude.{◌≡◌, ◌<◌, ◌==◌};
 ghost use Rattle.llsc_base.specs.Bits.{bits_of};
 
 use a32_instr::{Cond, Reg};
-
-/// The `width` bits of a word from bit `low` up.
-#[inline(always)]
-pub fn bits(word: u32, low: u32, width: u32) -> u32
-    requires low { low < 32 }
-    requires width { width < 32 }
-    ensures value { result ≡ bits_of word low width }
-    ensures bound { result < 2 ^ width }
-{
-    (word >> low) & ((1 << width) - 1)
-}
+use llsc_base::bits;
 
 /// Whether a bit of a word is set.
 #[inline(always)]

@@ -5,9 +5,9 @@ ghost use Rattle.a32_instr.specs.Fields.{block_unpredictable};
 ghost use Rattle.a32_instr.specs.Table.{block};
 ghost use Rattle.a32_decode.specs.inner.Rows.{Decides};
 
-use crate::bits::{bit, bits, condition, register};
+use crate::bits::{bit, condition, register};
 use a32_instr::{Instr, Reg};
-use llsc_base::DecodeFault;
+use llsc_base::{DecodeFault, bits};
 
 /// A load or a store of a block: a word whose bits 27:25 are 100 (DDI 0406C A5.5). Bit 22 names the registers of another
 /// mode, or a return from an exception: those are other instructions.

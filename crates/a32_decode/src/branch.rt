@@ -5,9 +5,9 @@ ghost use Rattle.a32_instr.specs.Fields.{signed24};
 ghost use Rattle.a32_instr.specs.Table.{branch, branch_reg, svc};
 ghost use Rattle.a32_decode.specs.inner.Rows.{Decides};
 
-use crate::bits::{bit, bits, condition, register};
+use crate::bits::{bit, condition, register};
 use a32_instr::Instr;
-use llsc_base::DecodeFault;
+use llsc_base::{DecodeFault, bits};
 
 /// A branch: a word whose bits 27:25 are 101 (DDI 0406C A5.5).
 #[inline]

@@ -5,11 +5,11 @@ ghost use Rattle.a32_instr.specs.Fields.{alu_fits, alu_op, alu_unpredictable, sh
 ghost use Rattle.a32_instr.specs.Table.{alu_imm, alu_by_num, alu_by_reg, half_imm, half_reg, movw, movt, nop, yields, mul, mla, mls, long, clz, branch_reg, load_ex, store_ex};
 ghost use Rattle.a32_decode.specs.inner.Rows.{Decides, rows_of_registers};
 
-use crate::bits::{bit, bits, condition, register};
+use crate::bits::{bit, condition, register};
 use crate::pc::{one_of_2_is_pc, one_of_4_is_pc};
 use crate::{branch, extra_load_store, multiply, synchronization};
 use a32_instr::{AluOp, Instr, Operand2, Reg, ShiftKind};
-use llsc_base::DecodeFault;
+use llsc_base::{DecodeFault, bits};
 
 /// Data processing with registers, multiplications, exclusives, halfwords and signed bytes: a word whose bits 27:25
 /// are 000 (DDI 0406C A5.2).

@@ -4,10 +4,10 @@ ghost use Rattle.llsc_base.specs.Bits.{bits_of};
 ghost use Rattle.a32_instr.specs.Table.{extend, rev, word_reg, meaning, table};
 ghost use Rattle.a32_decode.specs.inner.Rows.{Decides};
 
-use crate::bits::{bit, bits};
+use crate::bits::bit;
 use crate::{block, branch, data_processing, load_store, media, synchronization};
 use a32_instr::Instr;
-use llsc_base::DecodeFault;
+use llsc_base::{DecodeFault, bits};
 
 /// The instruction that a word is, by the table of words (DDI 0406C A5, A8.8). The encodings go by bits 27:25 (DDI 0406C
 /// A5.1, table A5-1); a condition field of 15 is another space of encodings.

@@ -5,10 +5,10 @@ ghost use Rattle.a32_instr.specs.Fields.{index_fits, index_of, half_fits, half_k
 ghost use Rattle.a32_instr.specs.Table.{half_imm, half_reg};
 ghost use Rattle.a32_decode.specs.inner.Rows.{Decides};
 
-use crate::bits::{bit, bits, condition, register};
+use crate::bits::{bit, condition, register};
 use crate::load_store::{index, is_index};
 use a32_instr::{HalfKind, Instr, Offset, Reg, ShiftKind};
-use llsc_base::DecodeFault;
+use llsc_base::{DecodeFault, bits};
 
 /// A load or a store of a halfword, or a load of a signed byte: a word whose bits 27:25 are 000 and whose bits 7 and 4
 /// are set (DDI 0406C A5.2.8).

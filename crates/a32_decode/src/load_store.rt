@@ -5,10 +5,10 @@ ghost use Rattle.a32_instr.specs.Fields.{index_fits, index_of, word_unpredictabl
 ghost use Rattle.a32_instr.specs.Table.{word_imm, word_reg};
 ghost use Rattle.a32_decode.specs.inner.Rows.{Decides};
 
-use crate::bits::{bit, bits, condition, register};
+use crate::bits::{bit, condition, register};
 use crate::data_processing::kind_of_shift;
 use a32_instr::{Index, Instr, Offset, Reg};
-use llsc_base::DecodeFault;
+use llsc_base::{DecodeFault, bits};
 
 /// A load or a store with an immediate offset: a word whose bits 27:25 are 010 (DDI 0406C A5.3).
 #[inline]

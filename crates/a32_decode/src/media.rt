@@ -4,10 +4,10 @@ ghost use Rattle.llsc_base.specs.Bits.{bits_of};
 ghost use Rattle.a32_instr.specs.Table.{extend, rev};
 ghost use Rattle.a32_decode.specs.inner.Rows.{Decides};
 
-use crate::bits::{bit, bits, condition, register};
+use crate::bits::{bit, condition, register};
 use crate::pc::one_of_2_is_pc;
 use a32_instr::Instr;
-use llsc_base::DecodeFault;
+use llsc_base::{DecodeFault, bits};
 
 /// A media instruction: a word whose bits 27:25 are 011 and whose bit 4 is set (DDI 0406C A5.4).
 #[inline]

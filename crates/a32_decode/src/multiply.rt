@@ -5,10 +5,10 @@ ghost use Rattle.a32_instr.specs.Fields.{long_kind};
 ghost use Rattle.a32_instr.specs.Table.{mul, mla, mls, long};
 ghost use Rattle.a32_decode.specs.inner.Rows.{Decides};
 
-use crate::bits::{bit, bits, condition, register};
+use crate::bits::{bit, condition, register};
 use crate::pc::{one_of_3_is_pc, one_of_4_is_pc};
 use a32_instr::{Instr, LongKind};
-use llsc_base::DecodeFault;
+use llsc_base::{DecodeFault, bits};
 
 /// A multiplication: a word whose bits 27:24 are 0000 and 7:4 are 1001 (DDI 0406C A5.2.5).
 #[inline]

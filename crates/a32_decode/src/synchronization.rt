@@ -5,10 +5,10 @@ ghost use Rattle.a32_instr.specs.Fields.{barrier_kind, exclusive_size, no_pair, 
 ghost use Rattle.a32_instr.specs.Table.{load_ex, store_ex, clrex, barrier};
 ghost use Rattle.a32_decode.specs.inner.Rows.{Decides};
 
-use crate::bits::{bit, bits, condition, register};
+use crate::bits::{bit, condition, register};
 use crate::pc::{one_of_2_is_pc, one_of_3_is_pc};
 use a32_instr::{BarrierKind, Instr, Reg};
-use llsc_base::{DecodeFault, Size};
+use llsc_base::{DecodeFault, Size, bits};
 
 /// A load-exclusive or a store-exclusive: a word whose bits 27:24 are 0001 and 7:4 are 1001.
 #[inline]

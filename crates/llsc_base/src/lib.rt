@@ -10,6 +10,7 @@
 
 mod access;
 mod decoding;
+mod fields;
 mod flat;
 mod hulls;
 mod images;
@@ -23,6 +24,7 @@ mod statuses;
 
 pub use access::{Bar, BarredWord, Place, Size};
 pub use decoding::DecodeFault;
+pub use fields::bits;
 pub use flat::{ELF_MAGIC, FlatFault};
 pub use images::{Image, Span};
 pub use limits::{CODE_START, MOST_STEPS};

@@ -1,18 +1,9 @@
-//! The fields of a word. Shifts and masks stand here and nowhere else.
+//! The registers, immediates and distances that a word names.
 ghost use Rattle.std.specs.Prelude.{◌≡◌, ◌<◌, ◌^◌, ◌*◌, ◌+◌};
 ghost use Rattle.llsc_base.specs.Bits.{bits_of};
 ghost use Rattle.rv32_guest.specs.Immediates.{signed_field, branch_distance, jump_distance};
 
-/// The `width` bits of a word from bit `low` up.
-#[inline(always)]
-pub fn bits(word: u32, low: u32, width: u32) -> u32
-    requires low { low < 32 }
-    requires width { width < 32 }
-    ensures value { result ≡ bits_of word low width }
-    ensures bound { result < 2 ^ width }
-{
-    (word >> low) & ((1 << width) - 1)
-}
+use llsc_base::bits;
 
 /// The destination register.
 #[inline(always)]

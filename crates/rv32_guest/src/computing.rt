@@ -4,9 +4,9 @@ ghost use Rattle.llsc_base.specs.Bits.{bits_of};
 ghost use Rattle.rv32_guest.specs.Table.{addi, slti, sltiu, xori, ori, andi, slli, srli, srai, add, sub, sll, slt, sltu, xor, srl, sra, or, and};
 ghost use Rattle.rv32_guest.specs.inner.Rows.{Decides};
 
-use crate::bits::{bits, funct3, immediate, rd, rs1, rs2};
+use crate::bits::{funct3, immediate, rd, rs1, rs2};
 use crate::instructions::RvInstr;
-use llsc_base::DecodeFault;
+use llsc_base::{DecodeFault, bits};
 
 /// Computing with an immediate: a word of the opcode 0010011.
 #[inline]

@@ -2,10 +2,9 @@
 ghost use Rattle.std.specs.Prelude.{◌≡◌};
 ghost use Rattle.rv32_guest.specs.Table.{meaning, table};
 
-use crate::bits::bits;
 use crate::instructions::RvInstr;
 use crate::{branches, computing, jumps, memory, system};
-use llsc_base::DecodeFault;
+use llsc_base::{DecodeFault, bits};
 
 /// The instruction that a word is, by the table of words. The encodings go by the opcode, bits 6:0.
 ///

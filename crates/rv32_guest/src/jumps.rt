@@ -4,9 +4,9 @@ ghost use Rattle.llsc_base.specs.Bits.{bits_of};
 ghost use Rattle.rv32_guest.specs.Table.{lui, auipc, jal, jalr};
 ghost use Rattle.rv32_guest.specs.inner.Rows.{Decides};
 
-use crate::bits::{bits, funct3, immediate, jump_distance, rd, rs1};
+use crate::bits::{funct3, immediate, jump_distance, rd, rs1};
 use crate::instructions::RvInstr;
-use llsc_base::DecodeFault;
+use llsc_base::{DecodeFault, bits};
 
 /// LUI: a word of the opcode 0110111.
 #[inline]

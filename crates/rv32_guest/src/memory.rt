@@ -4,9 +4,9 @@ ghost use Rattle.llsc_base.specs.Bits.{bits_of};
 ghost use Rattle.rv32_guest.specs.Table.{lb, lh, lw, lbu, lhu, sb, sh, sw, lr_w, sc_w};
 ghost use Rattle.rv32_guest.specs.inner.Rows.{Decides};
 
-use crate::bits::{bits, funct3, immediate, rd, rs1, rs2, store_offset};
+use crate::bits::{funct3, immediate, rd, rs1, rs2, store_offset};
 use crate::instructions::RvInstr;
-use llsc_base::DecodeFault;
+use llsc_base::{DecodeFault, bits};
 
 /// A load: a word of the opcode 0000011.
 #[inline]

@@ -2,7 +2,7 @@ use Rattle.std.proofs.Common.{◌≡◌, ℕ, ◌-◌, ◌*◌, ◌<◌, ◌/◌
 use Rattle.std.proofs.Math.Nat.{mod-eq_of_lt}
 use Rattle.std.proofs.Math.Pow.{pow-lt}
 use Rattle.std.proofs.lemmas.Nat.{and_mask}
-use Rattle.a32_decode.proofs.bits.bits.Goals as goal
+use Rattle.llsc_base.proofs.fields.bits.Goals as goal
 
 -- a number of bits below 32 is kept by the mask that is one shifted left by it, less one
 mask : (number width : ℕ) → width < 32 → bit_and number (1 * 2 ^ width % 2 ^ 32 - 1) ≡ number % 2 ^ width
