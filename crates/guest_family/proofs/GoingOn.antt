@@ -137,18 +137,23 @@ module _ {P : Type 0} (home : P → TableId) (numbers : P → ℕ → Bool) (see
       let later = is.1 in
       (goes, front_on (seen first.pass) (seen now.pass) (seen called.pass) gone.1 is.0.front, is.0.same ∙ gone.2, omega (arith, before, later))
 
-  -- and has come to its end, or to a call
-  pub gone_to_end : (mem : TableId) (origin : Origin) (program : Program) (budget t : ℕ) (start : Machine) (first now : Part P Machine) (done : Finished P)
-      → IsFront (seen first.pass) (seen now.pass) → starts_in t (seen now.pass) ≡ starts_in t (seen first.pass)
-      → HasReachedEnd home numbers seen mem origin program budget t start now.pass done → HasReachedEnd home numbers seen mem origin program budget t start first.pass done
-  gone_to_end mem origin program budget t start first now done front same is = record {
-    memory = is.memory;
-    single = is.single;
-    front = front_on (seen first.pass) (seen now.pass) (seen done.pass) front is.front;
-    same = is.same ∙ same;
-    end = is.end;
-  }
+  -- and has come to its end from there, by a program that is the same
+  pub gone_to_end : (mem : TableId) (origin : Origin) (program at : Program) (budget t : ℕ) (start : Machine) (first now : Part P Machine) (done : Finished P)
+      → HasGone mem origin program budget t start first now → at ≡ program
+      → (IsPartUnderWay home numbers seen mem origin at budget t start now → HasReachedEnd home numbers seen mem origin at budget t start now.pass done)
+      → HasReachedEnd home numbers seen mem origin program budget t start first.pass done
+  gone_to_end mem origin program at budget t start first now done gone same ends =
+      let there = subst (λ (p : Program). IsPartUnderWay home numbers seen mem origin p budget t start now) (sym same) gone.0 in
+      let is = subst (λ (p : Program). HasReachedEnd home numbers seen mem origin p budget t start now.pass done) same (ends there) in
+      record {
+        memory = is.memory;
+        single = is.single;
+        front = front_on (seen first.pass) (seen now.pass) (seen done.pass) gone.1 is.front;
+        same = is.same ∙ gone.2;
+        end = is.end;
+      }
 
+  -- or to a call
   pub gone_to_call : (mem : TableId) (origin : Origin) (program : Program) (budget t : ℕ) (start : Machine) (first now called : Part P Machine) (entry arg : ℕ)
       → IsFront (seen first.pass) (seen now.pass) → starts_in t (seen now.pass) ≡ starts_in t (seen first.pass)
       → HasCalled home numbers seen mem origin program budget t start now.pass called entry arg

@@ -3,7 +3,7 @@ use Rattle.llsc_base.specs.Images.{Program}
 use Rattle.history.specs.Starts.{Started}
 use Rattle.guest_thread.specs.Begun.{stock_of}
 use Rattle.guest_family.specs.inner.Next.{HasNoneLeft, after_answer}
-use Rattle.guest_family.specs.inner.UnderWay.{HasCalled, HasReachedEnd, IsPartUnderWay}
+use Rattle.guest_family.specs.inner.UnderWay.{HasCalled, IsPartUnderWay}
 use Rattle.guest_family.proofs.Answered.{refused_by_stock}
 use Rattle.guest_family.proofs.GoingOn.{HasGone, HasGoneOn, gone_more, gone_to_end}
 use Rattle.guest_family.proofs.running.run_out.Goals as goal
@@ -37,14 +37,7 @@ calls-preserved g c =
 pub returns-in-Ended : goal.returns-in-Ended
 returns-in-Ended g c = record {
   ended = λ t start goes.
-      let home = g.M.SharedMemory.home in
-      let numbers = g.M.SharedMemory.numbers in
-      let seen = g.M.SharedMemory.seen in
-      let mem = g.M.SharedMemory.id c.args.mem.now in
-      let origin = g.M.SharedMemory.origin c.args.mem.now in
-      let program = c.args.code.now.program in
-      let before = c.calls.invariant.gone t start goes in
-      let now = subst (λ (p : Program). IsPartUnderWay home numbers seen mem origin p c.args.budget t start c.calls.part) (sym c.calls.invariant.program) before.0 in
-      let is = subst (λ (p : Program). HasReachedEnd home numbers seen mem origin p c.args.budget t start c.calls.part.pass c.in-Ended.done) c.calls.invariant.program (c.in-Ended.ensures.next t start now) in
-      gone_to_end home numbers seen mem origin program c.args.budget t start c.args.part c.calls.part c.in-Ended.done before.1 before.2 is;
+      gone_to_end g.M.SharedMemory.home g.M.SharedMemory.numbers g.M.SharedMemory.seen (g.M.SharedMemory.id c.args.mem.now) (g.M.SharedMemory.origin c.args.mem.now)
+      c.args.code.now.program _ c.args.budget t start c.args.part c.calls.part c.in-Ended.done (c.calls.invariant.gone t start goes) c.calls.invariant.program
+      (c.in-Ended.ensures.next t start);
 }
