@@ -7,9 +7,8 @@ use Rattle.llsc_base.specs.declared.access.Place.{Place}
 use Rattle.llsc_base.specs.Images.{Program, bar_of}
 use Rattle.llsc_base.specs.declared.outside.Ask.TheVariants.{LoadEx, StoreEx, Clear}
 use Rattle.a32_instr.specs.State.{State, Effect, register, advanced, with_register}
-use Rattle.llsc_base.specs.Effects.{asks, completes, loaded_part}
+use Rattle.llsc_base.specs.Effects.{asks, asks_unless, completes, loaded_part}
 use Rattle.llsc_base.specs.Words.{low32}
-use Rattle.a32_instr.specs.LoadStore.{asks_unless}
 
 -- the place of a size at the address that a register has
 abbrev pub place_at : Size → ℕ → State → Place

@@ -1,11 +1,10 @@
 -- Loads and stores of a word or a byte (DDI 0406C A5.3, A8.5, A8.8.63, A8.8.64, A8.8.66, A8.8.68 to A8.8.70, A8.8.204,
 -- A8.8.205, A8.8.207, A8.8.208), and of a halfword or a signed byte (A5.2.8, A8.8.80 to A8.8.82, A8.8.84 to A8.8.86,
 -- A8.8.88 to A8.8.90, A8.8.217, A8.8.218).
-use Rattle.std.specs.Prelude.{ℕ, ◌+◌, ◌-◌, ◌%◌, ◌^◌, if◌then◌else◌, Bool, true, false, Option, Some, None, List, [], ◌∷◌, slice_set}
+use Rattle.std.specs.Prelude.{ℕ, ◌+◌, ◌-◌, ◌%◌, ◌^◌, if◌then◌else◌, Bool, true, false, List, [], ◌∷◌, slice_set}
 use Rattle.llsc_base.specs.declared.access.Size.TheVariants.{B1, B2, B4}
 use Rattle.llsc_base.specs.declared.access.Size.{Size}
 use Rattle.llsc_base.specs.declared.access.Place.{Place}
-use Rattle.llsc_base.specs.declared.access.Bar.{Bar}
 use Rattle.llsc_base.specs.Images.{Program, bar_of}
 use Rattle.a32_instr.specs.declared.instructions.Offset.{Offset}
 use Rattle.a32_instr.specs.declared.instructions.Offset.TheVariants.{Imm, Shifted}
@@ -18,7 +17,7 @@ use Rattle.a32_instr.specs.Moves.{widened}
 use Rattle.llsc_base.specs.declared.outside.Ask.{Ask}
 use Rattle.llsc_base.specs.declared.outside.Ask.TheVariants.{Load, Store}
 use Rattle.a32_instr.specs.State.{State, Effect, register, advanced, writes}
-use Rattle.llsc_base.specs.Effects.{asks, completes, stops, barred, loaded_part}
+use Rattle.llsc_base.specs.Effects.{asks_unless, completes, loaded_part}
 use Rattle.llsc_base.specs.Words.{low32}
 
 -- whether an offset is added or taken away
@@ -53,11 +52,6 @@ back_regs Post rn moved regs = slice_set regs rn moved
 
 abbrev pub written_back : Index → ℕ → ℕ → State → State
 written_back index rn moved state = record state { regs = back_regs index rn moved state.regs }
-
--- an access is asked for where nothing bars it
-abbrev pub asks_unless : Option Bar → ℕ → Ask → Effect
-asks_unless None addr ask = asks ask
-asks_unless (Some bar) addr ask = stops (barred bar addr)
 
 -- a load asks for its place, and writes what it takes of the reply to its register, with zeros above it, after the
 -- write-back

@@ -3,9 +3,8 @@ use Rattle.std.proofs.Common.{◌≡◌, ◌≢◌, ◌<◌, length, ℕ, Option
 use Rattle.llsc_base.specs.Images.{Program}
 use Rattle.llsc_base.specs.declared.outside.Ask.{Ask}
 use Rattle.llsc_base.specs.declared.outside.Ask.TheVariants.{Load, LoadEx, Store, StoreEx, Clear}
-use Rattle.a32_instr.specs.LoadStore.{asks_unless}
 use Rattle.a32_instr.specs.State.{State, Effect}
-use Rattle.llsc_base.specs.Effects.{asks, calls, completes, stops}
+use Rattle.llsc_base.specs.Effects.{asks, calls, completes, stops, asks_unless}
 use Rattle.a32_step.specs.declared.phases.Progress.{Progress}
 use Rattle.a32_step.specs.declared.phases.Progress.TheVariants as progress
 use Rattle.guest_core.specs.Machine.{PassesTests}

@@ -1,5 +1,5 @@
 -- A machine whose instruction was carried on over a port.
-use Rattle.std.proofs.Common.{◌≡◌, ℕ, Bool, true, false, if◌then◌else◌, Option, List, [], ◌∷◌, ◌++◌, Result, Ok, Err, refl, sym, ap, subst, ◌∙◌}
+use Rattle.std.proofs.Common.{◌≡◌, ℕ, Bool, true, false, if◌then◌else◌, Option, List, [], ◌∷◌, ◌++◌, Ok, refl, sym, ap, subst, ◌∙◌}
 use Rattle.llsc_base.specs.Images.{Program}
 use Rattle.a32_instr.specs.declared.instructions.Instr.{Instr}
 use Rattle.llsc_base.specs.declared.outside.Ask.{Ask}
@@ -8,11 +8,11 @@ use Rattle.a32_instr.specs.State.{State, Effect, advanced}
 use Rattle.llsc_base.specs.Effects.{asks, calls, completes, stops}
 use Rattle.a32_instr.specs.Effect.{acts, condition_of, effect_of}
 use Rattle.guest_core.specs.declared.phases.Passage.{Passage}
-use Rattle.guest_core.specs.declared.phases.Passage.TheVariants.{Complete, AtStart}
+use Rattle.guest_core.specs.declared.phases.Passage.TheVariants.{Complete}
 use Rattle.a32_step.specs.inner.ExecutionState.{ExecutionState, resting, machine_in}
 use Rattle.a32_step.specs.inner.ExecutionState as stage
-use Rattle.a32_step.specs.Machine.{Machine, instr_at, next_effect, after_next, a32}
-use Rattle.guest_core.specs.Machine.{between, AwaitsNothing, moved_on, given, begins_of, IsHeld}
+use Rattle.a32_step.specs.Machine.{Machine, instr_at, next_effect, after_next}
+use Rattle.guest_core.specs.Machine.{between, moved_on, given, IsHeld}
 use Rattle.guest_core.specs.Ports.{Leads, goes, refused, stays}
 use Rattle.a32_step.specs.inner.Acting.{IsGiven, begins, none_made, one_more, StandsAt, IsActed}
 use Rattle.a32_step.specs.inner.Passages.{Comes, EndsAt, IsCarriedOn}
@@ -24,8 +24,6 @@ use Rattle.a32_step.specs.inner.Progress.{progress_of}
 use Rattle.a32_step.proofs.Acting.{acted_same}
 use Rattle.a32_step.proofs.ExecutionStates.{is_resting}
 use Rattle.a32_step.proofs.Replied.{inside, first_effect, first_after}
-use Rattle.llsc_base.specs.declared.outside.Stop.{Stop}
-use Rattle.guest_core.specs.Known.{HasNone}
 
 -- ---- between two instructions
 
@@ -211,20 +209,3 @@ module _ {S : Type 0} {replies : S → Ask → Option ℕ → S → Type 0} {pro
         })
 
 -- ---- one that isn't carried on
-
-pub not_on : {S : Type 0} {replies : S → Ask → Option ℕ → S → Type 0} {program : Program} {old : Machine} {from : S} → old ≡ between old.state → IsCarriedOn replies program old from AtStart old from
-not_on {old = old} rest = record {
-  pairs = [];
-  machine = old;
-  leads = stays;
-  comes = starts;
-  ends = (refl, subst (λ (m : Machine). AwaitsNothing m.phase) (sym rest) tt);
-}
-
-none_held : (program : Program) (state : State) (found : Result Instr Stop) → HasNone found → IsHeld (begins_of a32 program state found)
-none_held program state (Ok instr) none = absurd none
-none_held program state (Err stop) none = tt
-
--- where no instruction stands it stops
-pub held_at_none : (program : Program) (old : Machine) → old ≡ between old.state → HasNone (instr_at program old.state.pc) → IsHeld (next_effect program old)
-held_at_none program old rest none = subst (λ m. IsHeld (next_effect program m)) (sym rest) (none_held program old.state (instr_at program old.state.pc) none)

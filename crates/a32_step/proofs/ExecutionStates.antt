@@ -14,7 +14,8 @@ use Rattle.a32_step.specs.inner.Machine.{Phase, next_in, after_in, HasBegun}
 use Rattle.guest_core.specs.Phase as phase
 use Rattle.a32_step.specs.inner.ExecutionState.{ExecutionState, Stage, Between, Inside, Awaiting, Calling, Stopped, HasRoom, IsAwaited, IsCalled, moves, settled, wanted_at, phase_of, machine_in}
 use Rattle.guest_core.specs.Machine.{between, given, moved_on, wanted_of, IsAwaiting, IsCalling}
-use Rattle.guest_core.specs.inner.Machine.{IsInside}
+use Rattle.guest_core.specs.inner.Machine.{IsBetween, IsInside}
+use Rattle.guest_core.proofs.Resting.{is_between}
 
 -- one that is awaited has room
 pub room_of : (stage : Stage) (replies : List ℕ) → IsAwaited stage → HasRoom stage replies → length replies < 16
@@ -38,15 +39,7 @@ is_called instr (Awaiting ask) calling = calling
 is_called instr (Calling call) calling = tt
 is_called instr (Stopped stop) calling = calling
 
-is_at_rest : Phase → Type 0
-is_at_rest phase.Between = Unit {0}
-is_at_rest (phase.Inside instr) = ⊥
-is_at_rest (phase.Awaiting instr ask) = ⊥
-is_at_rest (phase.Calling call) = ⊥
-is_at_rest (phase.Stopped stop) = ⊥
-
-between_at : (instr : Instr) (at : Stage) → is_at_rest (phase_of instr at) → at ≡ Between
-unfolding is_at_rest
+between_at : (instr : Instr) (at : Stage) → IsBetween (phase_of instr at) → at ≡ Between
 between_at instr Between is = refl
 between_at instr Inside is = absurd is
 between_at instr (Awaiting ask) is = absurd is
@@ -55,8 +48,7 @@ between_at instr (Stopped stop) is = absurd is
 
 -- an execution is between two instructions where its machine is
 pub is_resting : (instr : Instr) (standing : ExecutionState) → machine_in instr standing ≡ between standing.state → standing.stage ≡ Between
-unfolding is_at_rest
-is_resting instr standing is = between_at instr standing.stage (subst is_at_rest (sym (ap (λ (m : Machine). m.phase) is)) tt)
+is_resting instr standing is = between_at instr standing.stage (is_between (machine_in instr standing) is)
 
 pub called : (instr : Instr) (stage : Stage) (call : CallAsk) → stage ≡ Calling call → phase_of instr stage ≡ phase.Calling call
 called instr stage call is = ap (phase_of instr) is

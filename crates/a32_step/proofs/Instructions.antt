@@ -16,7 +16,7 @@ use Rattle.a32_instr.specs.declared.instructions.HalfKind.{HalfKind}
 use Rattle.a32_instr.specs.declared.instructions.HalfKind.TheVariants.{Strh, Ldrh, Ldrsb, Ldrsh}
 use Rattle.a32_instr.specs.declared.arithmetic.Computed.{Computed}
 use Rattle.a32_instr.specs.State.{State, register, advanced, writes}
-use Rattle.llsc_base.specs.Effects.{completes, loaded_part}
+use Rattle.llsc_base.specs.Effects.{completes, loaded_part, asks_unless}
 use Rattle.llsc_base.specs.Words.{low32}
 use Rattle.llsc_base.specs.inner.Words.{AreWords}
 use Rattle.a32_instr.specs.Fields.{is_compare}
@@ -24,7 +24,7 @@ use Rattle.a32_instr.specs.Shift.{top_bit, rotated_right}
 use Rattle.a32_instr.specs.DataProcessing.{operand_of, computed, with_flags, alu_done}
 use Rattle.a32_instr.specs.Multiply.{multiplied, product_flags, less_product}
 use Rattle.a32_instr.specs.Moves.{with_top, reversed, extended, width_of}
-use Rattle.a32_instr.specs.LoadStore.{asks_unless, loads, loads_half, stores, accesses, half_accesses, half_size, half_value, accessed_address, moved_address, written_back, access_size, part_of}
+use Rattle.a32_instr.specs.LoadStore.{loads, loads_half, stores, accesses, half_accesses, half_size, half_value, accessed_address, moved_address, written_back, access_size, part_of}
 use Rattle.a32_instr.specs.Block.{block_back, block_size, lowest_address}
 use Rattle.a32_instr.specs.Branch.{linked}
 use Rattle.a32_instr.specs.Exclusive.{next_register, place_at, stored_part, loads_exclusive, stores_exclusive}

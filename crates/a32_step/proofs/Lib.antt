@@ -10,5 +10,4 @@ pub mod Acting
 pub mod Places
 pub mod BlockPassages
 pub mod CarriedOn
-pub mod Unmet
 pub mod Acts

@@ -13,7 +13,8 @@ use Rattle.a32_instr.specs.Effect.{acts, condition_of}
 use Rattle.a32_instr.specs.Table.{table, meaning}
 use Rattle.guest_core.specs.declared.phases.Wanted.{Wanted}
 use Rattle.llsc_base.specs.inner.Words.{AreWords}
-use Rattle.a32_step.specs.Machine.{Machine, decoded, instr_of_word, next_effect}
+use Rattle.guest_core.specs.Fetched.{decoded, instr_of_word}
+use Rattle.a32_step.specs.Machine.{Machine, next_effect}
 use Rattle.a32_step.specs.inner.Machine.{Phase, begins, next_in}
 use Rattle.guest_core.specs.Phase.{Between, Inside, Awaiting, Calling, Stopped}
 pub use Rattle.guest_core.specs.Machine.{GoesOn, GoesOnWith}
@@ -28,7 +29,7 @@ decoded_stands program state (Ok instr) =
 decoded_stands program state (Err fault.Undefined) = tt
 decoded_stands program state (Err fault.Unpredictable) = tt
 
-begins_stand : (program : Program) (state : State) (word : Option ℕ) → Stands (AreWords state.regs) program [] (begins program state (instr_of_word state.pc word))
+begins_stand : (program : Program) (state : State) (word : Option ℕ) → Stands (AreWords state.regs) program [] (begins program state (instr_of_word (meaning table) state.pc word))
 begins_stand program state None = tt
 begins_stand program state (Some word) = decoded_stands program state (meaning table word)
 

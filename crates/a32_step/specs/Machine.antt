@@ -1,33 +1,21 @@
 -- The thread of an A32 guest, which may be in the middle of an instruction.
-use Rattle.std.specs.Prelude.{ℕ, [], ◌∷◌, false, Option, Some, None, Result, Ok, Err}
-use Rattle.llsc_base.specs.Images.{Program, word_at}
+use Rattle.std.specs.Prelude.{ℕ, [], ◌∷◌, false, Result}
+use Rattle.llsc_base.specs.Images.{Program}
 use Rattle.a32_instr.specs.declared.instructions.Instr.{Instr}
-use Rattle.llsc_base.specs.declared.decoding.DecodeFault.{DecodeFault}
-use Rattle.llsc_base.specs.declared.decoding.DecodeFault.TheVariants as fault
 use Rattle.llsc_base.specs.declared.outside.Stop.{Stop}
-use Rattle.llsc_base.specs.declared.outside.Stop.TheVariants as stop
 use Rattle.a32_instr.specs.State.{State, Effect, answered}
 use Rattle.a32_instr.specs.Table.{table, meaning}
 use Rattle.a32_instr.specs.Effect.{acts, effect_of}
+use Rattle.guest_core.specs.Fetched.{fetched}
 use Rattle.guest_core.specs.Machine.{MachineOf, InstructionSet, next_of, after_of, start_in}
 
 -- the thread of an A32 guest
 abbrev pub Machine : Type 0
 Machine = MachineOf Instr State
 
--- the instruction that a decoded word means, or the stop at a word that means none
-abbrev pub decoded : ℕ → Result Instr DecodeFault → Result Instr Stop
-decoded pc (Ok instr) = Ok instr
-decoded pc (Err fault.Undefined) = Err (stop.Undefined pc)
-decoded pc (Err fault.Unpredictable) = Err (stop.Unpredictable pc)
-
 -- the instruction at an address, or the stop where there is none
-abbrev pub instr_of_word : ℕ → Option ℕ → Result Instr Stop
-instr_of_word pc None = Err (stop.Outside pc)
-instr_of_word pc (Some word) = decoded pc (meaning table word)
-
 abbrev pub instr_at : Program → ℕ → Result Instr Stop
-instr_at program pc = instr_of_word pc (word_at program pc)
+instr_at = fetched (meaning table)
 
 -- The start of thread t of n: r0 has t, r1 has n, r13 has the top of the stack, every other register is 0 and every
 -- flag is clear.

@@ -3,7 +3,7 @@ ghost use Rattle.std.specs.Prelude.{◌≡◌, ◌%◌, IfOk, IfErr, Ok, Err};
 ghost use Rattle.a32_instr.specs.declared.instructions.Instr.{Instr};
 ghost use Rattle.a32_instr.specs.Effect.{condition_of};
 ghost use Rattle.a32_instr.specs.Table.{meaning, table};
-ghost use Rattle.a32_step.specs.Machine.{decoded, instr_at};
+ghost use Rattle.a32_step.specs.Machine.{instr_at};
 
 use a32_decode::decode;
 use a32_instr::{Cond, Instr};
@@ -37,16 +37,6 @@ impl Model for Slot {
     ghost inverse = { λ met. record { word = met.word; cond = condition_of met.instr; instr = met.instr } };
 
     ghost inverse_ok = { λ slot right. ap (λ cond. record slot { cond = cond }) (sym right.1) };
-}
-
-/// The stop at a word that is no instruction.
-fn stop_at(pc: u32, fault: DecodeFault) -> Stop
-    ensures { decoded pc (Err fault) ≡ Err result }
-{
-    match fault {
-        DecodeFault::Undefined => Stop::Undefined(pc),
-        DecodeFault::Unpredictable => Stop::Unpredictable(pc),
-    }
 }
 
 impl Slot {
@@ -88,7 +78,7 @@ impl Slot {
         };
         match self.take(word) {
             Ok(()) => Ok(()),
-            Err(fault) => Err(stop_at(addr, fault)),
+            Err(fault) => Err(fault.stop_at(addr)),
         }
     }
 

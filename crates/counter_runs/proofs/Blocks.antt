@@ -1,5 +1,6 @@
 -- The blocks of the counter guest: what is left of a run at the end of each, by what was left at its beginning. In each chain of
 -- instructions the last one stands first.
+use Rattle.llsc_base.specs.Effects.{asks_unless}
 use Rattle.std.proofs.Common.{◌≡◌, ℕ, suc, ◌+◌, ◌*◌, ◌/◌, ◌%◌, ◌^◌, ◌<◌, ◌==◌, Bool, true, false, List, [], ◌∷◌, None, pos, negsuc, nat_le, refl, ap, subst, arith}
 use Rattle.llsc_base.specs.Images.{bar_of}
 use Rattle.llsc_base.specs.Memory.{is_aligned}
@@ -13,7 +14,6 @@ use Rattle.llsc_base.specs.declared.outside.Ask.TheVariants as ask
 use Rattle.llsc_base.specs.declared.outside.Stop.TheVariants.{Exit}
 use Rattle.a32_instr.specs.Branch.{target_of}
 use Rattle.a32_instr.specs.Condition.{passes}
-use Rattle.a32_instr.specs.LoadStore.{asks_unless}
 use Rattle.a32_instr.specs.Shift.{shifted_left, shifted_right, turned}
 use Rattle.a32_instr.specs.Sum.{sum_of}
 use Rattle.elf32.proofs.Unbarred.{unbarred}

@@ -3,7 +3,8 @@ use Rattle.std.proofs.Common.{◌≡◌, ℕ, zero, suc, ◌+◌, ◌*◌, ◌^�
 use Rattle.llsc_base.specs.Sizes.{Numbers}
 use Rattle.a32_instr.specs.Table.{meaning, table}
 use Rattle.a32_instr.specs.declared.instructions.Instr.{Instr}
-use Rattle.a32_step.specs.Machine.{decoded, instr_at, instr_of_word}
+use Rattle.guest_core.specs.Fetched.{decoded, instr_of_word}
+use Rattle.a32_step.specs.Machine.{instr_at}
 use Rattle.elf32.specs.Units.{unit_image}
 use Rattle.elf32.specs.declared.units.Unit.{Unit}
 use Rattle.elf32.proofs.Fetched.{fetched}
@@ -35,4 +36,4 @@ pub instr_listed : (unit : Unit) (size : Numbers) (instrs : List Instr) → Mean
     → (k : ℕ) (instr : Instr) → slice_get instrs k ≡ Some instr → instr_at (unit_image unit size) (4096 + 4 * k) ≡ Ok instr
 instr_listed unit size instrs mean room k instr there =
     let is = listed unit.words instrs mean k instr there in
-    ap (instr_of_word (4096 + 4 * k)) (fetched unit size k is.known room is.small) ∙ ap (decoded (4096 + 4 * k)) is.means
+    ap (instr_of_word (meaning table) (4096 + 4 * k)) (fetched unit size k is.known room is.small) ∙ ap (decoded (4096 + 4 * k)) is.means

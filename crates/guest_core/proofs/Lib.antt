@@ -1,3 +1,5 @@
 pub mod Follows
 pub mod Placed
 pub mod Learnt
+pub mod Resting
+pub mod Unmet

@@ -1,5 +1,6 @@
 pub mod Phase
 pub mod Machine
+pub mod Fetched
 pub mod Ports
 pub mod Known
 pub mod Passages

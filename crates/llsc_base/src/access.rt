@@ -1,6 +1,9 @@
 //! The place of an access, its size, and what stands against it.
 ghost use Rattle.std.specs.Prelude.{◌≡◌, ◌==◌, ◌%◌, ◌≤◌};
+ghost use Rattle.llsc_base.specs.Effects.{barred};
 ghost use Rattle.llsc_base.specs.Memory.{cell_of, is_aligned, row_of, size_bytes};
+
+use crate::outside::Stop;
 
 /// How many bytes an access has.
 #[derive(Clone, Copy, Debug, PartialEq, Eq)]
@@ -83,6 +86,19 @@ pub enum Bar {
     Outside,
     /// A store, and a byte of the place lies in a span that isn't written.
     ReadOnly,
+}
+
+impl Bar {
+    /// The stop of a thread whose access at this address it stands against.
+    pub fn stop_at(self, addr: u32) -> Stop
+        ensures { result ≡ barred self addr }
+    {
+        match self {
+            Bar::Alignment => Stop::Alignment(addr),
+            Bar::Outside => Stop::Outside(addr),
+            Bar::ReadOnly => Stop::ReadOnly(addr),
+        }
+    }
 }
 
 /// A word that may not be accessed, and what stands against it.

@@ -1,7 +1,9 @@
 //! Why a word is no instruction.
 ghost use Rattle.std.specs.Prelude.{◌≡◌};
+ghost use Rattle.llsc_base.specs.Effects.{undecoded};
 ghost use Rattle.llsc_base.specs.Faults.{decode_fault_name};
 
+use crate::outside::Stop;
 use thiserror::Error;
 
 /// Why a word is no instruction.
@@ -23,6 +25,16 @@ impl DecodeFault {
         match self {
             DecodeFault::Undefined => "Undefined",
             DecodeFault::Unpredictable => "Unpredictable",
+        }
+    }
+
+    /// The stop of a thread at such a word, which stands at this address.
+    pub fn stop_at(self, addr: u32) -> Stop
+        ensures { result ≡ undecoded self addr }
+    {
+        match self {
+            DecodeFault::Undefined => Stop::Undefined(addr),
+            DecodeFault::Unpredictable => Stop::Unpredictable(addr),
         }
     }
 }

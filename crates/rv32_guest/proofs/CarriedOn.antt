@@ -1,14 +1,12 @@
 -- A machine whose instruction was carried on over a port.
-use Rattle.std.proofs.Common.{◌≡◌, ℕ, true, false, Option, Some, None, List, [], ◌∷◌, Result, Ok, Err, refl, sym, ap, subst, ◌∙◌}
+use Rattle.std.proofs.Common.{◌≡◌, ℕ, true, false, Option, Some, None, List, [], ◌∷◌, Ok, refl, sym, ap, subst, ◌∙◌}
 use Rattle.llsc_base.specs.declared.access.Bar.{Bar}
 use Rattle.llsc_base.specs.Images.{Program, bar_of}
 use Rattle.llsc_base.specs.declared.outside.Ask.{Ask}
 use Rattle.llsc_base.specs.declared.outside.Ask.TheVariants as ask
-use Rattle.llsc_base.specs.declared.outside.Stop.{Stop}
-use Rattle.llsc_base.specs.Effects.{asks, completes}
+use Rattle.llsc_base.specs.Effects.{asks, completes, asks_unless}
 use Rattle.guest_core.specs.declared.phases.Passage.TheVariants.{Complete, AtStart}
 use Rattle.guest_core.specs.Phase as phase
-use Rattle.guest_core.specs.Known.{HasNone}
 use Rattle.guest_core.specs.Machine.{IsHeld}
 use Rattle.guest_core.specs.Machine.{after_found_of, after_of, begins_of, between, given, moved_on, next_of, AwaitsNothing}
 use Rattle.guest_core.specs.Passages.{ComesOf, EndsAtOf, IsCarriedOnOf, starts, replied}
@@ -16,7 +14,6 @@ use Rattle.guest_core.specs.Ports.{goes, refused, stays}
 use Rattle.rv32_guest.specs.declared.cpu.Stage.TheVariants as stage
 use Rattle.rv32_guest.specs.declared.cpu.RvCpu.TheInside as fields
 use Rattle.rv32_guest.specs.declared.instructions.RvInstr.{RvInstr}
-use Rattle.rv32_guest.specs.Accesses.{asks_unless}
 use Rattle.rv32_guest.specs.inner.Accesses.{asked_first}
 use Rattle.rv32_guest.specs.Effect.{acts}
 use Rattle.rv32_guest.specs.inner.Inside.{machine_of}
@@ -25,6 +22,7 @@ use Rattle.rv32_guest.specs.inner.Outcome.{effect_by, replies_of, Keeps}
 use Rattle.rv32_guest.specs.declared.outcomes.Outcome.{Outcome}
 use Rattle.rv32_guest.specs.declared.outcomes.Outcome.TheVariants as comes
 use Rattle.rv32_guest.specs.State.{RvState, Effect}
+use Rattle.guest_core.proofs.Resting.{not_on}
 use Rattle.rv32_guest.proofs.Resting.{is_resting}
 
 -- ---- between two instructions
@@ -56,16 +54,6 @@ found {program} inside pc is rest at same known = record {
 }
 
 -- ---- how it was carried on
-
-pub not_on : {P : Type 0} {replies : P → Ask → Option ℕ → P → Type 0} {program : Program} {old : Machine} {from : P} → old ≡ between old.state
-    → IsCarriedOnOf rv32 replies program old from AtStart old from
-not_on {old = old} rest = record {
-  pairs = [];
-  machine = old;
-  leads = stays;
-  comes = starts;
-  ends = (refl, subst (λ (m : Machine). AwaitsNothing m.phase) (sym rest) tt);
-}
 
 held_keeps : (outcome : Outcome) (old now : RvState) → (outcome ≡ comes.Completes → ⊥) → Keeps outcome old now → now ≡ old
 held_keeps comes.Completes old now held kept = absurd (held refl)
@@ -143,16 +131,7 @@ module _ {program : Program} {old : Machine} {state : RvState} {instr : RvInstr}
 
 -- ---- what holds it
 
-none_held : (program : Program) (state : RvState) (at : Result RvInstr Stop) → HasNone at → IsHeld (begins_of rv32 program state at)
-none_held program state (Ok instr) none = absurd none
-none_held program state (Err stop) none = tt
-
--- where no instruction stands it stops
-pub held_at_none : (program : Program) (old : Machine) → old ≡ between old.state → HasNone (instr_at program old.state.pc) → IsHeld (next_of rv32 program old)
-held_at_none program old rest none =
-    subst (λ m. IsHeld (next_of rv32 program m)) (sym rest) (none_held program old.state (instr_at program old.state.pc) none)
-
-unless_held : (bar : Option Bar) (addr : ℕ) (ask : Ask) → IsHeld (asks_unless bar addr ask)
+unless_held : (bar : Option Bar) (addr : ℕ) (ask : Ask) → IsHeld {S = RvState} (asks_unless bar addr ask)
 unless_held None addr ask = tt
 unless_held (Some bar) addr ask = tt
 

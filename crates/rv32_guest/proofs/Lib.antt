@@ -9,4 +9,3 @@ pub mod OthersAskNothing
 pub mod CarriedOn
 pub mod Ending
 pub mod Resting
-pub mod Unmet

@@ -12,16 +12,17 @@ use Rattle.llsc_base.specs.declared.outside.Ask.{Ask}
 use Rattle.llsc_base.specs.declared.outside.Ask.TheVariants as ask
 use Rattle.llsc_base.specs.declared.outside.Stop.{Stop}
 use Rattle.llsc_base.specs.declared.outside.Stop.TheVariants as stop
-use Rattle.llsc_base.specs.Effects.{barred, asks, calls, completes, stops}
+use Rattle.llsc_base.specs.Effects.{barred, asks, calls, completes, stops, asks_unless}
 use Rattle.guest_core.specs.Phase.{PhaseOf, Between, Inside, Awaiting, Calling, Stopped}
 use Rattle.guest_core.specs.Machine.{begins_of, next_in_of, next_of, GoesOn, GoesOnWith, IsOwn, PassesTests}
 use Rattle.rv32_guest.specs.declared.instructions.RvInstr.{RvInstr}
 use Rattle.rv32_guest.specs.declared.instructions.RvInstr.TheVariants.{Lui, Auipc, Jal, Jalr, Beq, Bne, Blt, Bge, Bltu, Bgeu, Lb, Lh, Lw, Lbu, Lhu, Sb, Sh, Sw, Addi, Slti, Sltiu, Xori, Ori, Andi, Slli, Srli, Srai, Add, Sub, Sll, Slt, Sltu, Xor, Srl, Sra, Or, And, Fence, LrW, ScW, Ecall}
 use Rattle.rv32_guest.specs.State.{RvState, Effect, register, jumps}
 use Rattle.rv32_guest.specs.Computing.{moved, is_less_signed, even}
-use Rattle.rv32_guest.specs.Accesses.{asks_unless, loads, stores, reserves, stores_conditionally, place_of}
+use Rattle.rv32_guest.specs.Accesses.{loads, stores, reserves, stores_conditionally, place_of}
 use Rattle.rv32_guest.specs.Effect.{acts, branches}
-use Rattle.rv32_guest.specs.Machine.{Machine, rv32, decoded, instr_of_word}
+use Rattle.guest_core.specs.Fetched.{decoded, instr_of_word}
+use Rattle.rv32_guest.specs.Machine.{Machine, rv32}
 use Rattle.rv32_guest.specs.Stops.{IsStop}
 use Rattle.rv32_guest.specs.Table.{table, meaning}
 use Rattle.rv32_guest.proofs.Meanings.{predictable}
@@ -128,7 +129,7 @@ module _ (program : Program) where
   decoded_stands state (Err fault.Undefined) predictable = tt
   decoded_stands state (Err fault.Unpredictable) predictable = absurd (predictable refl)
 
-  begins_stand : (state : RvState) (word : Option ℕ) → Stands program [] (begins_of rv32 program state (instr_of_word state.pc word))
+  begins_stand : (state : RvState) (word : Option ℕ) → Stands program [] (begins_of rv32 program state (instr_of_word (meaning table) state.pc word))
   begins_stand state None = tt
   begins_stand state (Some word) = decoded_stands state (meaning table word) (predictable table word)
 

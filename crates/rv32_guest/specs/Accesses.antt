@@ -1,23 +1,17 @@
 -- Loads and stores ("Load and Store Instructions"), and load-reserved and store-conditional ("Zalrsc"). What becomes of a
 -- reservation is memory's matter: here they only ask.
-use Rattle.std.specs.Prelude.{ℕ, ◌*◌, ◌%◌, ◌^◌, if◌then◌else◌, Bool, true, false, Option, Some, None, List, [], ◌∷◌}
+use Rattle.std.specs.Prelude.{ℕ, ◌*◌, ◌%◌, ◌^◌, if◌then◌else◌, Bool, true, false, List, [], ◌∷◌}
 use Rattle.llsc_base.specs.Memory.{size_bytes}
 use Rattle.llsc_base.specs.Images.{Program, bar_of}
-use Rattle.llsc_base.specs.declared.access.Bar.{Bar}
 use Rattle.llsc_base.specs.declared.access.Place.{Place}
 use Rattle.llsc_base.specs.declared.access.Size.{Size}
 use Rattle.llsc_base.specs.declared.access.Size.TheVariants.{B4}
 use Rattle.llsc_base.specs.declared.outside.Ask.{Ask}
 use Rattle.llsc_base.specs.declared.outside.Ask.TheVariants.{Load, Store, LoadEx, StoreEx}
-use Rattle.llsc_base.specs.Effects.{barred, loaded_part, asks, completes, stops}
+use Rattle.llsc_base.specs.Effects.{asks_unless, completes, loaded_part}
 use Rattle.llsc_base.specs.Words.{low32}
 use Rattle.rv32_guest.specs.State.{RvState, Effect, advanced, writes}
 use Rattle.rv32_guest.specs.Computing.{sign_extended}
-
--- an access is asked for where nothing bars it
-abbrev pub asks_unless : Option Bar → ℕ → Ask → Effect
-asks_unless None addr ask = asks ask
-asks_unless (Some bar) addr ask = stops (barred bar addr)
 
 -- what a load takes of its reply, as 32 bits: with its sign above it, or with zeros
 abbrev pub loaded : (with_sign : Bool) → Size → ℕ → ℕ

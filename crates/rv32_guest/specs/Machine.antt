@@ -1,10 +1,8 @@
 -- The thread of a RISC-V guest, which may be in the middle of an instruction.
-use Rattle.std.specs.Prelude.{ℕ, [], ◌∷◌, Option, Some, None, Result, Ok, Err}
-use Rattle.llsc_base.specs.Images.{Program, word_at}
-use Rattle.llsc_base.specs.declared.decoding.DecodeFault.{DecodeFault}
-use Rattle.llsc_base.specs.declared.decoding.DecodeFault.TheVariants as fault
+use Rattle.std.specs.Prelude.{ℕ, [], ◌∷◌, Result}
+use Rattle.llsc_base.specs.Images.{Program}
 use Rattle.llsc_base.specs.declared.outside.Stop.{Stop}
-use Rattle.llsc_base.specs.declared.outside.Stop.TheVariants as stop
+use Rattle.guest_core.specs.Fetched.{fetched}
 use Rattle.guest_core.specs.Machine.{MachineOf, InstructionSet, start_in}
 use Rattle.rv32_guest.specs.declared.instructions.RvInstr.{RvInstr}
 use Rattle.rv32_guest.specs.State.{RvState, answered}
@@ -15,19 +13,9 @@ use Rattle.rv32_guest.specs.Effect.{acts}
 abbrev pub Machine : Type 0
 Machine = MachineOf RvInstr RvState
 
--- the instruction that a decoded word means, or the stop at a word that means none
-abbrev pub decoded : ℕ → Result RvInstr DecodeFault → Result RvInstr Stop
-decoded pc (Ok instr) = Ok instr
-decoded pc (Err fault.Undefined) = Err (stop.Undefined pc)
-decoded pc (Err fault.Unpredictable) = Err (stop.Unpredictable pc)
-
 -- the instruction at an address, or the stop where there is none
-abbrev pub instr_of_word : ℕ → Option ℕ → Result RvInstr Stop
-instr_of_word pc None = Err (stop.Outside pc)
-instr_of_word pc (Some word) = decoded pc (meaning table word)
-
 abbrev pub instr_at : Program → ℕ → Result RvInstr Stop
-instr_at program pc = instr_of_word pc (word_at program pc)
+instr_at = fetched (meaning table)
 
 -- The start of thread t of n: x10 has t, x11 has n, x2 has the top of the stack, and every other register is 0.
 abbrev pub state_at_start : (entry t n sp : ℕ) → RvState

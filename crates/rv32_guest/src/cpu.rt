@@ -15,7 +15,7 @@ use crate::instructions::RvInstr;
 use crate::outcomes::Outcome;
 use crate::registers::Registers;
 use guest_core::Wanted;
-use llsc_base::{Ask, CallAsk, DecodeFault, Image, Stop};
+use llsc_base::{Ask, CallAsk, Image, Stop};
 use std::marker::Model;
 
 /// Where a thread stands in its instruction.
@@ -193,8 +193,7 @@ impl RvCpu {
         };
         match rv_decode(word) {
             Ok(instr) => Ok(instr),
-            Err(DecodeFault::Undefined) => Err(Stop::Undefined(pc)),
-            Err(DecodeFault::Unpredictable) => Err(Stop::Unpredictable(pc)),
+            Err(fault) => Err(fault.stop_at(pc)),
         }
     }
 

@@ -6,9 +6,8 @@ use Rattle.llsc_base.specs.declared.access.Size.TheVariants.{B4}
 use Rattle.llsc_base.specs.declared.outside.Ask.{Ask}
 use Rattle.llsc_base.specs.declared.outside.Ask.TheVariants.{Load, LoadEx, Store, StoreEx, Clear}
 use Rattle.llsc_base.specs.declared.outside.Stop.{Stop}
-use Rattle.a32_instr.specs.LoadStore.{asks_unless}
 use Rattle.a32_instr.specs.State.{State, Effect, register}
-use Rattle.llsc_base.specs.Effects.{asks, calls, completes, stops}
+use Rattle.llsc_base.specs.Effects.{asks, calls, completes, stops, asks_unless}
 use Rattle.a32_step.specs.declared.phases.Progress.{Progress}
 use Rattle.a32_step.specs.inner.ExecutionState.{ExecutionState, Awaiting, Calling, Stopped, resting}
 use Rattle.guest_core.specs.Machine.{PassesTests}

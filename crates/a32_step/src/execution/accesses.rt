@@ -6,7 +6,6 @@ ghost use Rattle.guest_core.specs.Machine.{PassesTests, ValueFits};
 ghost use Rattle.a32_step.specs.inner.Acting.{IsReplied, asked_first, with_reply};
 
 use super::Execution;
-use super::load_store::barred;
 use crate::phases::Progress;
 use crate::sources::Source;
 use llsc_base::{Ask, Image, Stop};
@@ -23,7 +22,7 @@ fn stop_at_ask(image: &Image, ask: Ask) -> Option<Stop>
         Ask::Clear => return None,
     };
     match image.test(place, store) {
-        Some(bar) => Some(barred(bar, place.addr)),
+        Some(bar) => Some(bar.stop_at(place.addr)),
         None => None,
     }
 }

@@ -10,7 +10,6 @@ ghost use Rattle.a32_compute.specs.Lists.{AreLeft};
 ghost use Rattle.a32_step.specs.inner.Acting.{IsActed, IsGiven, word_ask};
 
 use super::Execution;
-use super::load_store::barred;
 use crate::phases::Progress;
 use crate::sources::Source;
 use a32_compute::operands::moved;
@@ -190,7 +189,7 @@ impl Execution {
         let base = self.operand(transfer.rn);
         let lowest = lowest_address(transfer.up, transfer.before, base, 4 * count);
         if let Some(word) = image.test_words(lowest, count, !transfer.load) {
-            return self.stop(barred(word.bar, word.addr));
+            return self.stop(word.bar.stop_at(word.addr));
         }
         self.begin();
         if !self.access_each(image, transfer.load, transfer.list, count, lowest, source) {

@@ -3,7 +3,6 @@ ghost use Rattle.std.specs.Prelude.{◌≡◌, ◌<◌, ◌≤◌, ◌+◌, ◌^
 ghost use Rattle.llsc_base.specs.Memory.{size_bytes};
 ghost use Rattle.a32_instr.specs.State.{advanced, jumps, register, writes};
 ghost use Rattle.a32_instr.specs.LoadStore.{access_size, accessed_address, half, half_size, distance_of, loads, loads_half, moved_address, stores, word, written_back};
-ghost use Rattle.llsc_base.specs.Effects.{barred};
 ghost use Rattle.a32_step.specs.inner.Progress.{progress_of};
 ghost use Rattle.a32_step.specs.inner.ExecutionState.{moves};
 ghost use Rattle.a32_step.specs.inner.Acting.{IsActed};
@@ -17,7 +16,7 @@ use a32_compute::operands::{
 use a32_compute::parts::{loaded_half, loaded_word};
 use a32_compute::shifts::shift_by_number;
 use a32_instr::{HalfKind, Index, Offset, Reg};
-use llsc_base::{Ask, Bar, Image, Place, Size, Stop};
+use llsc_base::{Ask, Image, Place, Size};
 
 /// What becomes of the base register when a load or a store is complete.
 #[derive(Clone, Copy)]
@@ -32,17 +31,6 @@ struct WriteBack {
 struct Aim {
     addr: u32,
     moved: u32,
-}
-
-/// The stop of a thread whose access is barred.
-pub(super) fn barred(bar: Bar, addr: u32) -> Stop
-    ensures { result ≡ barred bar addr }
-{
-    match bar {
-        Bar::Alignment => Stop::Alignment(addr),
-        Bar::Outside => Stop::Outside(addr),
-        Bar::ReadOnly => Stop::ReadOnly(addr),
-    }
 }
 
 impl Execution {

@@ -3,9 +3,8 @@ use Rattle.std.specs.Prelude.{true, false}
 use Rattle.llsc_base.specs.Images.{Program, bar_of}
 use Rattle.llsc_base.specs.declared.outside.Ask.{Ask}
 use Rattle.llsc_base.specs.declared.outside.Ask.TheVariants.{Load, Store, LoadEx, StoreEx, Clear}
-use Rattle.llsc_base.specs.Effects.{asks}
+use Rattle.llsc_base.specs.Effects.{asks, asks_unless}
 use Rattle.rv32_guest.specs.State.{Effect}
-use Rattle.rv32_guest.specs.Accesses.{asks_unless}
 
 -- what an instruction of this access does before it has had the reply
 abbrev pub asked_first : Program → Ask → Effect

@@ -2,7 +2,7 @@
 ghost use Rattle.std.specs.Prelude.{◌≡◌, ◌%◌, ◌^◌, [], ◌∷◌, IfNone, IfSome};
 ghost use Rattle.llsc_base.specs.Memory.{size_bytes};
 ghost use Rattle.llsc_base.specs.Images.{Program};
-ghost use Rattle.llsc_base.specs.Effects.{barred, asks, completes, stops};
+ghost use Rattle.llsc_base.specs.Effects.{asks, completes, stops};
 ghost use Rattle.guest_core.specs.Machine.{PassesTests, ValueFits};
 ghost use Rattle.rv32_guest.specs.inner.Classes.{instr_class, MakesAccess, MakesNoAccess};
 ghost use Rattle.rv32_guest.specs.Accesses.{place_of};
@@ -14,18 +14,7 @@ ghost use Rattle.rv32_guest.specs.State.{register};
 use crate::arithmetic::{loaded_byte, loaded_half, low_word};
 use crate::instructions::RvInstr;
 use crate::registers::Registers;
-use llsc_base::{Ask, Bar, Image, Place, Size, Stop};
-
-/// The stop of a thread whose access is barred.
-fn barred(bar: Bar, addr: u32) -> Stop
-    ensures { result ≡ barred bar addr }
-{
-    match bar {
-        Bar::Alignment => Stop::Alignment(addr),
-        Bar::Outside => Stop::Outside(addr),
-        Bar::ReadOnly => Stop::ReadOnly(addr),
-    }
-}
+use llsc_base::{Ask, Image, Place, Size, Stop};
 
 /// The stop of a thread whose access is barred, if anything bars it.
 #[inline(always)]
@@ -40,7 +29,7 @@ pub fn stop_at(image: &Image, ask: Ask) -> Option<Stop>
         Ask::Clear => return None,
     };
     match image.test(place, store) {
-        Some(bar) => Some(barred(bar, place.addr)),
+        Some(bar) => Some(bar.stop_at(place.addr)),
         None => None,
     }
 }

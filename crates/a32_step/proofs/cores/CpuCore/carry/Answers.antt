@@ -1,7 +1,9 @@
 use Rattle.std.proofs.Common.{rules, ◌≤◌, List, ℕ, length, sym, ap, subst, ◌∙◌}
-use Rattle.a32_step.specs.Machine.{Machine, instr_at}
+use Rattle.a32_step.specs.Machine.{Machine, a32, instr_at}
 use Rattle.guest_core.specs.Known.{HasNone}
-use Rattle.a32_step.proofs.CarriedOn.{carried_on, carried_through, found, held_at_none, held_next, known_still, none_left, not_on, passed_over}
+use Rattle.guest_core.proofs.Resting.{not_on}
+use Rattle.guest_core.proofs.Unmet.{held_at_none}
+use Rattle.a32_step.proofs.CarriedOn.{carried_on, carried_through, found, held_next, known_still, none_left, passed_over}
 use Rattle.a32_step.proofs.cores.CpuCore.carry.Goals as goal
 
 pub returns-then-not-found-clause-carried : goal.returns-then-not-found-clause-carried
@@ -36,7 +38,7 @@ returns-in-Held-clause-carried g c =
 
 pub returns-then-not-found-clause-held : goal.returns-then-not-found-clause-held
 returns-then-not-found-clause-held g c = λ other.
-    held_at_none c.args.code.now.program c.args.self.now c.requires.rest
+    held_at_none a32 c.args.code.now.program c.args.self.now c.requires.rest
     (subst (λ at. HasNone (instr_at c.args.code.now.program at)) (c.pc-pc.ensures.pc ∙ ap (λ (m : Machine). m.state.pc) c.self.view_is) (c.find-found.ensures.none c.if-not-found.true))
 
 pub returns-in-Held-clause-held : goal.returns-in-Held-clause-held

@@ -2,9 +2,11 @@ use Rattle.std.proofs.Common.{rules, ◌≡◌, [], ap, subst, sym, ◌∙◌}
 use Rattle.llsc_base.specs.Effects.{asks}
 use Rattle.guest_core.specs.Known.{HasNone}
 use Rattle.rv32_guest.specs.inner.Accesses.{asked_first}
-use Rattle.rv32_guest.specs.Machine.{Machine, instr_at}
+use Rattle.rv32_guest.specs.Machine.{Machine, instr_at, rv32}
 use Rattle.rv32_guest.specs.inner.Outcome.{effect_by}
-use Rattle.rv32_guest.proofs.CarriedOn.{carried_at_once, carried_by_reply, first_held, found, held_at_none, held_next, held_on, held_still, not_on, refused_on, with_registers}
+use Rattle.guest_core.proofs.Resting.{not_on}
+use Rattle.guest_core.proofs.Unmet.{held_at_none}
+use Rattle.rv32_guest.proofs.CarriedOn.{carried_at_once, carried_by_reply, first_held, found, held_next, held_on, held_still, refused_on, with_registers}
 use Rattle.rv32_guest.proofs.cores.RvCpuCore.carry.Goals as goal
 
 pub returns-then-not-found-clause-carried : goal.returns-then-not-found-clause-carried
@@ -36,7 +38,7 @@ returns-clause-carried g c =
 
 pub returns-then-not-found-clause-held : goal.returns-then-not-found-clause-held
 returns-then-not-found-clause-held g c = λ other.
-    held_at_none c.args.code.now.program c.args.self.now c.requires.rest
+    held_at_none rv32 c.args.code.now.program c.args.self.now c.requires.rest
     (subst (λ at. HasNone (instr_at c.args.code.now.program at)) (c.pc-pc.ensures.pc ∙ ap (λ (m : Machine). m.state.pc) c.self.view_is) (c.find-found.ensures.none c.if-not-found.true))
 
 pub returns-in_default-act-clause-held : goal.returns-in_default-act-clause-held
