@@ -127,8 +127,11 @@ GoesOnWith (Awaiting instr asked) replies = ⊥
 GoesOnWith (Calling call) replies = ⊥
 GoesOnWith (Stopped stop) replies = ⊥
 
--- a stop that an instruction may make: each but that for want of a tag, which is memory's
+-- a stop that an instruction may make: each but the exit call's, that of a thread whose steps are used up, and that for want of a
+-- tag, which is memory's
 abbrev pub IsOwn : Stop → Type 0
+IsOwn (stop.Exit code) = ⊥
+IsOwn stop.Budget = ⊥
 IsOwn (stop.TagLimit addr) = ⊥
 IsOwn _ = Unit {0}
 

@@ -41,7 +41,7 @@ use Rattle.guest_thread.specs.declared.ports.Rest.{Rest}
 use Rattle.guest_thread.specs.declared.ports.Rest.TheVariants as rest
 use Rattle.guest_thread.specs.declared.running.Finished.{Finished}
 use Rattle.guest_thread.proofs.Calling.{calling_in}
-use Rattle.guest_thread.proofs.Going.{answer_later, calls_within, ended_by_within, ended_on_since, ends_by_within, few_by_answer, reaches_within, refused_at, spent_between, steps_since}
+use Rattle.guest_thread.proofs.Going.{answer_later, calls_within, ended_by_within, ended_on_since, ends_by_within, few_by_answer, left_since, reaches_within, refused_at, spent_between, steps_since, used_up}
 use Rattle.guest_thread.proofs.Reached.{spent_ends}
 use Rattle.guest_thread.proofs.Shared.{HasShared, after_all}
 
@@ -56,9 +56,9 @@ module _ {I S : Type 0} (set : InstructionSet I S) where
   same_call one other same = cc
 
   -- a thread that has made all of its steps has stopped by the exit call
-  last_by : (upto budget steps : ℕ) (why : Stop) → StopsWithin upto why steps → steps ≡ upto → (upto ≡ budget) ⊎ ((code : ℕ) × (why ≡ stop.Exit code))
-  last_by upto budget steps why (inl less) same = absurd (omega (arith, less, same))
-  last_by upto budget steps why (inr exit) same = inr exit
+  last_by : (upto steps : ℕ) (why : Stop) → StopsWithin upto why steps → steps ≡ upto → (why ≡ stop.Budget) ⊎ ((code : ℕ) × (why ≡ stop.Exit code))
+  last_by upto steps why (inl less) same = absurd (omega (arith, less, same))
+  last_by upto steps why (inr exit) same = inr exit
 
   module _ {C : Type 0} (of_core : C → MachineOf I S) {P : Type 0} (home : P → TableId) (numbers : P → ℕ → Bool) (seen : P → List Entry) (mem : TableId) (origin : Origin) (program : Program)
       (starts : Bool) (upto budget t : ℕ) (part : Part P C) where
@@ -152,7 +152,9 @@ module _ {I S : Type 0} (set : InstructionSet I S) where
               thread = refl;
               least = steps_since set starts program upto (point_of set of_core part) pairs (of_core guest.cpu) guest.steps guest.output comes.0;
               most = omega (arith, spent);
-              last = λ _. inl all;
+              last = λ _. inl refl;
+              left = λ code is. absurd (let f : ⊥ = cc in f);
+              used = λ _. spent ∙ all;
               spends = λ addr is. absurd (let f : ⊥ = cc in f);
               spent = λ addr is. absurd (let f : ⊥ = cc in f);
             })
@@ -169,7 +171,9 @@ module _ {I S : Type 0} (set : InstructionSet I S) where
               thread = refl;
               least = ended_on_since set starts program budget (point_of set of_core part) pairs why guest.steps guest.output on;
               most = ended_by_within set starts program upto (point_of set of_core part) (RefusesAt last) pairs why guest.steps guest.output ends;
-              last = last_by upto budget guest.steps why early;
+              last = last_by upto guest.steps why early;
+              left = λ code is. left_since set passes own starts program budget (point_of set of_core part) rests pairs why guest.steps guest.output code on is;
+              used = λ is. used_up set passes own starts program budget (point_of set of_core part) rests pairs why guest.steps guest.output on is;
               spends = λ addr is. ap (λ (o : Origin). o.spends) (sym gone.shared.goes_on.origin) ∙ (refused addr is).0;
               spent = λ addr is. subst (λ s. IsSpent origin.size s addr) (sym gone.seen_is)
                   (subst (λ (o : Origin). IsSpent o.size last.seen addr) gone.shared.goes_on.origin (refused addr is).1);

@@ -1,10 +1,10 @@
 -- A piece of a thread's run, from a point on: how far it comes, within how many steps, and by how many accesses.
-use Rattle.std.proofs.Common.{◌≡◌, inl, inr, ℕ, ◌+◌, ◌*◌, ◌≤◌, Bool, List, ◌++◌, length, refl, sym, ap, subst, ◌∙◌, arith}
+use Rattle.std.proofs.Common.{◌≡◌, inl, inr, ℕ, ◌+◌, ◌*◌, ◌<◌, ◌≤◌, Bool, List, ◌++◌, length, refl, sym, ap, subst, ◌∙◌, arith}
 use Rattle.llsc_base.specs.Images.{Program}
 use Rattle.llsc_base.specs.declared.outside.CallAsk.{CallAsk}
 use Rattle.llsc_base.specs.declared.outside.Stop.{Stop}
-use Rattle.llsc_base.specs.declared.outside.Stop.TheVariants.{Budget, TagLimit}
-use Rattle.guest_core.specs.Machine.{MachineOf, after_of, between, wanted_of, AwaitsNothing, GoesOn, InstructionSet}
+use Rattle.llsc_base.specs.declared.outside.Stop.TheVariants.{Budget, Exit, TagLimit}
+use Rattle.guest_core.specs.Machine.{MachineOf, after_of, between, wanted_of, AwaitsNothing, GoesOn, InstructionSet, IsOwn}
 use Rattle.guest_core.specs.inner.Sound.{AsksPass, AsksHaveRoom, StopsAreOwn}
 use Rattle.guest_core.specs.Phase.{PhaseOf, Between, Inside, Awaiting, Calling, Stopped}
 use Rattle.guest_core.specs.declared.phases.Wanted.TheVariants as wanted
@@ -22,7 +22,7 @@ use Rattle.guest_thread.specs.declared.pieces.Paused.{Paused}
 use Rattle.guest_thread.specs.declared.pieces.Paused.TheVariants.{Ended, Start, Pause}
 use Rattle.history.specs.declared.entry.Entry.{Entry}
 use Rattle.shared_memory.specs.Origin.{Origin}
-use Rattle.guest_thread.proofs.Placed.{ends_untagged_from, reached_goes}
+use Rattle.guest_thread.proofs.Placed.{ends_untagged_from, halts_by_its_own, reached_goes}
 
 module _ {I S : Type 0} (set : InstructionSet I S) where
   ready_at : (phase : PhaseOf I) → GoesOn phase → AwaitsNothing phase
@@ -150,6 +150,25 @@ module _ {I S : Type 0} (set : InstructionSet I S) where
         → EndsByFrom set stocked refuses program budget point pairs stop steps output → stop ≡ TagLimit addr → refuses addr
     refused_at refuses pairs stop steps output addr (inl ends) is = absurd (ends_untagged_from set passes own stocked program budget point goes_on pairs stop steps output addr ends is)
     refused_at refuses pairs stop steps output addr (inr refused) is = subst refuses (same_limit refused.0 addr (sym refused.1.1 ∙ is)) refused.1.0
+
+    -- the exit call is a step
+    pub left_since : (pairs : List Pair) (stop : Stop) (steps : ℕ) (output : List ℕ) (code : ℕ) → EndsOnFrom set stocked program budget point pairs stop steps output
+        → stop ≡ Exit code → point.steps < steps
+    left_since _ _ _ _ code (by_itself _ _ _ _ (halts pairs machine steps output stop reached less found)) is =
+        absurd (subst IsOwn is (halts_by_its_own set passes own stocked program budget point goes_on pairs machine stop steps output reached found))
+    left_since _ _ _ _ code (by_itself _ _ _ _ (leaves pairs machine steps output call left reached less found known)) is =
+        let since = steps_since stocked program budget point pairs machine steps output reached in omega (arith, since)
+    left_since _ _ _ _ code (by_itself _ _ _ _ (spends pairs machine output reached)) is = absurd (let f : ⊥ = cc in f)
+    left_since _ _ _ _ code (by_limit pairs machine steps output place value reached less found) is = absurd (let f : ⊥ = cc in f)
+
+    -- steps are used up where they are the budget
+    pub used_up : (pairs : List Pair) (stop : Stop) (steps : ℕ) (output : List ℕ) → EndsOnFrom set stocked program budget point pairs stop steps output
+        → stop ≡ Budget → steps ≡ budget
+    used_up _ _ _ _ (by_itself _ _ _ _ (halts pairs machine steps output stop reached less found)) is =
+        absurd (subst IsOwn is (halts_by_its_own set passes own stocked program budget point goes_on pairs machine stop steps output reached found))
+    used_up _ _ _ _ (by_itself _ _ _ _ (leaves pairs machine steps output call code reached less found known)) is = absurd (let f : ⊥ = cc in f)
+    used_up _ _ _ _ (by_itself _ _ _ _ (spends pairs machine output reached)) is = refl
+    used_up _ _ _ _ (by_limit pairs machine steps output place value reached less found) is = absurd (let f : ⊥ = cc in f)
 
   -- ---- how many accesses
 

@@ -5,10 +5,10 @@ use Rattle.llsc_base.specs.Images.{Program}
 use Rattle.llsc_base.specs.declared.outside.Ask.{Ask}
 use Rattle.llsc_base.specs.declared.outside.Stop.{Stop}
 use Rattle.llsc_base.specs.declared.outside.Stop.TheVariants as stop
-use Rattle.llsc_base.specs.Effects.{asks, stops}
+use Rattle.llsc_base.specs.Effects.{stops}
 use Rattle.guest_core.specs.Phase.{PhaseOf, Between, Inside, Awaiting, Calling, Stopped}
 use Rattle.guest_core.specs.inner.Sound.{AsksPass, StopsAreOwn}
-use Rattle.guest_core.specs.Machine.{MachineOf, wanted_of, after_of, given_in, AwaitsNothing, IsAwaiting, InstructionSet, IsOwn, GoesOn}
+use Rattle.guest_core.specs.Machine.{MachineOf, wanted_of, after_of, given_in, next_of, AwaitsNothing, IsAwaiting, InstructionSet, IsOwn, GoesOn}
 use Rattle.guest_core.specs.declared.phases.Wanted.TheVariants as wanted
 use Rattle.guest_core.proofs.Follows.{follows_of}
 use Rattle.guest_calls.specs.Run.{Pair, PointOf, first_point, ReachesBy, begins, accesses, steps_on, returns, prints, EndsFrom, halts, leaves, spends, AsksFrom, asks_access, asks_byte, Ends, Asks}
@@ -58,16 +58,16 @@ module _ {I S : Type 0} (set : InstructionSet I S)
         let inside : from + count ≤ length program.bytes = (written_within (set.call_of call) (length program.bytes) (length output) from count known).0 in
         (eq-eqb ((from + length bytes) % 1) 0 (omega arith), omega (arith, inside, short))
 
-    -- its stop is an instruction's, the exit call, or the end of its steps
-    ends_own : (pairs : List Pair) (why : Stop) (steps : ℕ) (output : List ℕ) → EndsFrom set stocked program budget point pairs why steps output → IsOwn why
-    ends_own _ _ _ _ (halts pairs machine steps output why reached less is) =
-        own program machine why (reached_goes pairs machine steps output reached) is
-    ends_own _ _ _ _ (leaves pairs machine steps output call code reached less is known) = tt
-    ends_own _ _ _ _ (spends pairs machine output reached) = tt
+    -- a stop that is no step is an instruction's
+    pub halts_by_its_own : (pairs : List Pair) (machine : MachineOf I S) (why : Stop) (steps : ℕ) (output : List ℕ) → ReachesBy set stocked program budget point pairs machine steps output
+        → next_of set program machine ≡ stops why → IsOwn why
+    halts_by_its_own pairs machine why steps output reached is = own program machine why (reached_goes pairs machine steps output reached) is
 
-    -- and no want of a tag
+    -- a thread doesn't stop by itself for want of a tag
     pub ends_untagged_from : (pairs : List Pair) (why : Stop) (steps : ℕ) (output : List ℕ) (addr : ℕ) → EndsFrom set stocked program budget point pairs why steps output → why ≡ stop.TagLimit addr → ⊥
-    ends_untagged_from pairs why steps output addr ends same = subst IsOwn same (ends_own pairs why steps output ends)
+    ends_untagged_from _ _ _ _ addr (halts pairs machine steps output why reached less is) same = subst IsOwn same (halts_by_its_own pairs machine why steps output reached is)
+    ends_untagged_from _ _ _ _ addr (leaves pairs machine steps output call code reached less is known) same = cc
+    ends_untagged_from _ _ _ _ addr (spends pairs machine output reached) same = cc
 
   -- ---- from its start
 

@@ -9,7 +9,7 @@ use Rattle.history.specs.declared.entry.Entry.{Entry}
 use Rattle.shared_memory.specs.Origin.{Origin}
 use Rattle.shared_memory.specs.Seen.{IsFront, IsSingle}
 use Rattle.llsc_base.specs.declared.outside.CallAsk.{CallAsk}
-use Rattle.llsc_base.specs.declared.outside.Stop.TheVariants.{Exit, TagLimit}
+use Rattle.llsc_base.specs.declared.outside.Stop.TheVariants.{Budget, Exit, TagLimit}
 use Rattle.guest_core.specs.Machine.{MachineOf, InstructionSet, between, IsCalling}
 use Rattle.guest_calls.specs.Bound.{most_accesses_in}
 use Rattle.guest_calls.specs.Pairs.{pairs_of}
@@ -51,13 +51,15 @@ HasMadeFew accesses (Ended done) = accesses ≤ most_accesses_in done.end.steps
 HasMadeFew accesses (Start part entry arg) = accesses ≤ 16 * (part.steps + 1) + length part.out
 HasMadeFew accesses (Pause part) = accesses ≤ 16 * part.steps + length part.out
 
--- It has ended, within the steps that it was to make; with all of them made only by the exit call, or since its budget is spent. A
--- store is refused only where the memory counts a class's writes, and that of the address has none left.
+-- It has ended, within the steps that it was to make; with all of them made only by the exit call, which is one, or since its budget
+-- is used up. A store is refused only where the memory counts a class's writes, and that of the address has none left.
 pub record HasEndedAt {P : Type 0} (origin : Origin) (history : List Entry) (upto budget t steps : ℕ) (done : Finished P) : Type 0 where
   pub thread : done.end.thread ≡ t
   pub least : steps ≤ done.end.steps
   pub most : done.end.steps ≤ upto
-  pub last : done.end.steps ≡ upto → (upto ≡ budget) ⊎ ((code : ℕ) × (done.end.stop ≡ Exit code))
+  pub last : done.end.steps ≡ upto → (done.end.stop ≡ Budget) ⊎ ((code : ℕ) × (done.end.stop ≡ Exit code))
+  pub left : (code : ℕ) → done.end.stop ≡ Exit code → steps < done.end.steps
+  pub used : done.end.stop ≡ Budget → done.end.steps ≡ budget
   pub spends : (addr : ℕ) → done.end.stop ≡ TagLimit addr → origin.spends ≡ true
   pub spent : (addr : ℕ) → done.end.stop ≡ TagLimit addr → IsSpent origin.size history addr
 

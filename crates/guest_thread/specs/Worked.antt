@@ -1,5 +1,5 @@
 -- A small machine, ends and accesses of the worked cases.
-use Rattle.std.specs.Prelude.{ℕ, false, List, [], ◌∷◌, ◌-◌}
+use Rattle.std.specs.Prelude.{ℕ, false, List, [], ◌∷◌}
 use Rattle.llsc_base.specs.Sizes.{Numbers}
 use Rattle.llsc_base.specs.declared.access.Place.{Place}
 use Rattle.llsc_base.specs.declared.access.Size.TheVariants.{B4}

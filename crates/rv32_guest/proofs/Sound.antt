@@ -27,28 +27,36 @@ use Rattle.rv32_guest.specs.Stops.{IsStop}
 use Rattle.rv32_guest.specs.Table.{table, meaning}
 use Rattle.rv32_guest.proofs.Meanings.{predictable}
 
+-- a stop that one of these instructions makes
+abbrev IsMade : Stop → Type 0
+IsMade (stop.Undefined addr) = Unit {0}
+IsMade (stop.Alignment addr) = Unit {0}
+IsMade (stop.Outside addr) = Unit {0}
+IsMade (stop.ReadOnly addr) = Unit {0}
+IsMade _ = ⊥
+
 -- an access has passed its tests and is the first of its instruction, and a stop is one of these instructions
 abbrev Stands : Program → List ℕ → Effect → Type 0
 Stands program replies (asks asked) = PassesTests program asked × (length replies < 16)
 Stands program replies (calls call) = Unit {0}
 Stands program replies (completes state) = Unit {0}
-Stands program replies (stops stop) = IsStop stop
+Stands program replies (stops stop) = IsMade stop
 
-barred_stops : (bar : Bar) (addr : ℕ) → IsStop (barred bar addr)
+barred_stops : (bar : Bar) (addr : ℕ) → IsMade (barred bar addr)
 barred_stops bar.Alignment addr = tt
 barred_stops bar.Outside addr = tt
 barred_stops bar.ReadOnly addr = tt
 
-stop_is_own : (why : Stop) → IsStop why → IsOwn why
-stop_is_own (stop.Exit code) is = tt
-stop_is_own (stop.Undefined addr) is = tt
-stop_is_own (stop.Unpredictable addr) is = tt
-stop_is_own (stop.Thumb addr) is = tt
-stop_is_own (stop.Outside addr) is = tt
-stop_is_own (stop.Alignment addr) is = tt
-stop_is_own (stop.ReadOnly addr) is = tt
-stop_is_own (stop.TagLimit addr) is = absurd is
-stop_is_own stop.Budget is = tt
+made_own : (why : Stop) → IsMade why → IsOwn why × IsStop why
+made_own (stop.Exit code) is = absurd is
+made_own (stop.Undefined addr) is = (tt, tt)
+made_own (stop.Unpredictable addr) is = absurd is
+made_own (stop.Thumb addr) is = absurd is
+made_own (stop.Outside addr) is = (tt, tt)
+made_own (stop.Alignment addr) is = (tt, tt)
+made_own (stop.ReadOnly addr) is = (tt, tt)
+made_own (stop.TagLimit addr) is = absurd is
+made_own stop.Budget is = absurd is
 
 module _ (program : Program) where
   chosen : (replies : List ℕ) (b : Bool) (x y : Effect) → Stands program replies x → Stands program replies y → Stands program replies (if b then x else y)
@@ -152,10 +160,10 @@ module _ (program : Program) where
   next_passes machine asked goes same = (next_stands machine (asks asked) goes same).0
 
   pub next_stops : (machine : Machine) (why : Stop) → GoesOn machine.phase → next_of rv32 program machine ≡ stops why → IsStop why
-  next_stops machine why goes same = next_stands machine (stops why) goes same
+  next_stops machine why goes same = (made_own why (next_stands machine (stops why) goes same)).1
 
   pub next_own : (machine : Machine) (why : Stop) → GoesOn machine.phase → next_of rv32 program machine ≡ stops why → IsOwn why
-  next_own machine why goes same = stop_is_own why (next_stops machine why goes same)
+  next_own machine why goes same = (made_own why (next_stands machine (stops why) goes same)).0
 
   goes_on : (phase : PhaseOf RvInstr) (replies : List ℕ) → GoesOnWith phase replies → GoesOn phase × (replies_in replies phase ≡ replies)
   goes_on Between replies none = (tt, sym none)

@@ -6,7 +6,6 @@ use Rattle.llsc_base.specs.Images.{Program, bar_of}
 use Rattle.llsc_base.specs.declared.access.Place.{Place}
 use Rattle.llsc_base.specs.declared.access.Size.{Size}
 use Rattle.llsc_base.specs.declared.access.Size.TheVariants.{B4}
-use Rattle.llsc_base.specs.declared.outside.Ask.{Ask}
 use Rattle.llsc_base.specs.declared.outside.Ask.TheVariants.{Load, Store, LoadEx, StoreEx}
 use Rattle.llsc_base.specs.Effects.{asks_unless, completes, loaded_part}
 use Rattle.llsc_base.specs.Words.{low32}

@@ -15,7 +15,7 @@ use Rattle.guest_thread.proofs.Prepared.{range_more}
 use Rattle.slice_pool.specs.Ends.{AreTurnsOfEach}
 use Rattle.slice_pool.specs.inner.Ends.{AreLeft, HaveEndedUpto, one}
 use Rattle.slice_pool.specs.Hands.{downto}
-use Rattle.slice_pool.specs.Over.{AreTurnsOf}
+use Rattle.slice_pool.specs.Over.{AreTurnsOf, last_step}
 use Rattle.slice_pool.specs.inner.Over.{AreAllGone, IsGone, weighs}
 use Rattle.slice_pool.specs.declared.turns.Gone.{Gone}
 use Rattle.slice_pool.specs.declared.views.Key.{Key}
@@ -28,7 +28,7 @@ upto_more t =
     ap (λ k. range_with_len 0 t ++ k ∷ []) here ∙ range_more 0 t ∙ ap (range_with_len 0) next
 
 -- one end more, with its slices
-turns_more : (slice n : ℕ) (end : GuestEnd) (ends : List GuestEnd) (turns : List ℕ) → AreTurnsOfEach slice ends turns → AreTurnsOf slice n end.steps
+turns_more : (slice n : ℕ) (end : GuestEnd) (ends : List GuestEnd) (turns : List ℕ) → AreTurnsOfEach slice ends turns → AreTurnsOf slice n (last_step end.stop end.steps)
     → AreTurnsOfEach slice (ends ++ end ∷ []) (turns ++ n ∷ [])
 turns_more slice n end [] [] are is = (is, tt)
 turns_more slice n end [] (m ∷ turns) are is = absurd are

@@ -1,8 +1,11 @@
 -- One slice of a guest.
-use Rattle.std.proofs.Common.{◌≡◌, ℕ, suc, ◌+◌, ◌++◌, ◌-◌, ◌*◌, ◌<◌, ◌≤◌, Bool, false, List, ap, arith, refl, subst, sym, ◌∙◌, suc-mul}
+use Rattle.std.proofs.Common.{◌≡◌, ◌⊎◌, inl, inr, ⊎_elim, ℕ, suc, ◌+◌, ◌++◌, ◌-◌, ◌*◌, ◌<◌, ◌≤◌, Bool, false, List, ap, arith, refl, subst, sym, ◌∙◌, suc-mul}
+use Rattle.std.proofs.lemmas.Bool.{cases_lt}
 use Rattle.atomic_table.specs.Seated.{TableId}
 use Rattle.llsc_base.specs.Images.{Program}
 use Rattle.llsc_base.specs.Limits.{most_budget}
+use Rattle.llsc_base.specs.declared.outside.Stop.{Stop}
+use Rattle.llsc_base.specs.declared.outside.Stop.TheVariants as stop
 use Rattle.history.specs.declared.entry.Entry.{Entry}
 use Rattle.shared_memory.specs.Origin.{Origin}
 use Rattle.shared_memory.specs.Seen.{IsSingle}
@@ -20,7 +23,7 @@ use Rattle.a32_step.specs.Machine.{a32, Machine}
 use Rattle.a32_step.proofs.Tested.{next_room}
 use Rattle.guest_thread.proofs.FewAccesses.{few_counted, few_in_history}
 use Rattle.slice_pool.specs.inner.Hands.{key_of}
-use Rattle.slice_pool.specs.Over.{AreTurnsOf}
+use Rattle.slice_pool.specs.Over.{AreTurnsOf, last_step}
 use Rattle.slice_pool.specs.inner.Over.{IsGoneFrom, IsUpto}
 use Rattle.slice_pool.specs.inner.Rule.{IsGuestUnderWay}
 use Rattle.slice_pool.specs.declared.queue.Waiting.{Waiting}
@@ -30,10 +33,52 @@ use Rattle.slice_pool.specs.declared.views.Key.{Key}
 one_turn : (slice turns : ℕ) → (turns + 1) * slice ≡ turns * slice + slice
 one_turn slice turns = let more : turns + 1 ≡ suc turns = omega arith in ap (λ n. n * slice) more ∙ (let s = suc-mul turns slice in omega (arith, s))
 
--- the slices of one that has ended within its last
-turns_to : (slice turns steps last : ℕ) → steps ≡ turns * slice → steps ≤ last → last ≤ steps + slice → AreTurnsOf slice (turns + 1) last
+-- ---- the step at which a thread stopped
+
+-- a stop behind the last step
+abbrev IsBehind : Stop → Type 0
+IsBehind (stop.Exit code) = Unit {0}
+IsBehind stop.Budget = Unit {0}
+IsBehind _ = ⊥
+
+behind : (why : Stop) → (why ≡ stop.Budget) ⊎ ((code : ℕ) × (why ≡ stop.Exit code)) → IsBehind why
+behind why (inl spent) = subst IsBehind (sym spent) tt
+behind why (inr exit) = subst IsBehind (sym exit.1) tt
+
+-- it's none of those before
+no_earlier : (why : Stop) (from steps budget : ℕ) → from ≤ budget - 1 → from ≤ steps → ((code : ℕ) → why ≡ stop.Exit code → from < steps)
+    → (why ≡ stop.Budget → steps ≡ budget) → from ≤ last_step why steps
+no_earlier (stop.Exit code) from steps budget within least left used = let less = left code refl in omega (arith, less)
+no_earlier stop.Budget from steps budget within least left used = let all = used refl in omega (arith, within, all)
+no_earlier (stop.Undefined addr) from steps budget within least left used = least
+no_earlier (stop.Unpredictable addr) from steps budget within least left used = least
+no_earlier (stop.Alignment addr) from steps budget within least left used = least
+no_earlier (stop.Outside addr) from steps budget within least left used = least
+no_earlier (stop.ReadOnly addr) from steps budget within least left used = least
+no_earlier (stop.Thumb addr) from steps budget within least left used = least
+no_earlier (stop.TagLimit addr) from steps budget within least left used = least
+
+-- fewer than so many
+fewer : (steps bound : ℕ) → steps ≤ bound → (steps ≡ bound → ⊥) → steps < bound
+fewer steps bound most none = ⊎_elim (λ less. less) (λ all. absurd (none (omega (arith, most, all)))) (cases_lt steps bound)
+
+-- nor one that its slice doesn't have
+no_later : (why : Stop) (steps bound : ℕ) → 1 ≤ bound → steps ≤ bound → (steps ≡ bound → IsBehind why) → last_step why steps < bound
+no_later (stop.Exit code) steps bound some most last = omega (arith, some, most)
+no_later stop.Budget steps bound some most last = omega (arith, some, most)
+no_later (stop.Undefined addr) steps bound some most last = fewer steps bound most last
+no_later (stop.Unpredictable addr) steps bound some most last = fewer steps bound most last
+no_later (stop.Alignment addr) steps bound some most last = fewer steps bound most last
+no_later (stop.Outside addr) steps bound some most last = fewer steps bound most last
+no_later (stop.ReadOnly addr) steps bound some most last = fewer steps bound most last
+no_later (stop.Thumb addr) steps bound some most last = fewer steps bound most last
+no_later (stop.TagLimit addr) steps bound some most last = fewer steps bound most last
+
+-- ---- a slice
+
+-- the slices of one that has stopped in its last
+turns_to : (slice turns steps last : ℕ) → steps ≡ turns * slice → steps ≤ last → last < steps + slice → AreTurnsOf slice (turns + 1) last
 turns_to slice turns steps last were least most = record {
-  some_turn = omega arith;
   least =
       let one : turns + 1 - 1 ≡ turns = omega arith in
       let e : (turns + 1 - 1) * slice ≡ turns * slice = ap (λ n. n * slice) one in
@@ -96,17 +141,22 @@ module _ {P : Type 0} (home : P → TableId) (numbers : P → ℕ → Bool) (see
       }
 
   -- it ends
-  pub ended : (x : Waiting P) (upto : ℕ) (done : Finished P) → origin.first ≡ origin.size.threads → budget ≤ most_budget → IsUpto slice budget x.part.steps upto
+  pub ended : (x : Waiting P) (upto : ℕ) (done : Finished P) → 1 ≤ slice → origin.first ≡ origin.size.threads → budget ≤ most_budget → IsUpto slice budget x.part.steps upto
       → IsGuestUnderWay home numbers seen key x → IsPiece a32 (λ m. m) home numbers seen mem origin program false upto budget x.thread x.part (Ended done)
       → IsGoneFrom home numbers seen origin key x.thread (record { pass = done.pass; end = done.end; turns = x.turns + 1 })
-  ended x upto done begin small to was goes =
-      let t : x.thread ≡ done.end.thread = sym goes.stands.thread in (
+  ended x upto done some begin small to was goes =
+      let t : x.thread ≡ done.end.thread = sym goes.stands.thread in
+      let most = goes.stands.most in
+      let within = to.most in
+      let since = no_earlier done.end.stop x.part.steps done.end.steps budget was.within goes.stands.least goes.stands.left goes.stands.used in
+      let before = no_later done.end.stop done.end.steps (x.part.steps + slice) (omega (arith, some)) (omega (arith, most, within))
+      (λ all. behind done.end.stop (goes.stands.last (omega (arith, most, within, all)))) in (
         record {
           memory = goes.memory;
           single = subst (λ u. IsSingle u (numbers done.pass)) t goes.single;
           known = subst (λ u. u < origin.size.threads) t was.known;
           end = subst (λ u. IsEndOf a32 program origin budget (seen done.pass) u done.end) t (ended_as x upto done begin small was goes);
-          turns = turns_to slice x.turns x.part.steps done.end.steps was.turns goes.stands.least (let m = goes.stands.most in let u = to.most in omega (arith, m, u));
+          turns = turns_to slice x.turns x.part.steps (last_step done.end.stop done.end.steps) was.turns since before;
         },
         goes.stands.thread,
       )

@@ -92,7 +92,7 @@ fn run_guests<'i, K: Knows + Send + Sync, M: SharedMemory, R: Threads + Wait + S
 /// 1,000,000,000,000 steps for each. No memory is taken from the allocator.
 ///
 /// What they did is in what the pass has seen of the history: a guest's accesses there are those of its run, with its end. Each
-/// slice of a guest but its last has all of its steps.
+/// slice of a guest but its last has all of its steps, and in the last it stops.
 pub fn run_pool<M: SharedMemory, R: Threads + Wait + Sync>(
     rt: &R,
     mem: &M,

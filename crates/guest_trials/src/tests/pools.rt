@@ -48,6 +48,7 @@ fn leave_by<R: Threads + Wait + Sync>(
 fn guests_run_by_slices(rt: HostRuntime) -> Result<(), Fail> {
     assert!(rt; leave_by(&rt, rt.alloc(), 2, 1, 3)?);
     assert!(rt; leave_by(&rt, rt.alloc(), 1, 2, 2)?);
+    assert!(rt; leave_by(&rt, rt.alloc(), 3, 3, 1)?);
     assert!(rt; leave_by(&rt, rt.alloc(), 4, 1000, 1)?);
     Ok(())
 }

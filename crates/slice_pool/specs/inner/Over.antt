@@ -14,7 +14,7 @@ use Rattle.slice_pool.specs.declared.turns.Gone.{Gone}
 use Rattle.slice_pool.specs.declared.turns.Turned.{Turned}
 use Rattle.slice_pool.specs.declared.turns.Turned.TheVariants.{Over, Waits}
 use Rattle.slice_pool.specs.declared.views.Key.{Key}
-use Rattle.slice_pool.specs.Over.{AreTurnsOf}
+use Rattle.slice_pool.specs.Over.{AreTurnsOf, last_step}
 
 -- up to how many steps a slice goes: it is whole, unless the budget is less
 pub record IsUpto (slice budget steps upto : ℕ) : Type 0 where
@@ -36,13 +36,13 @@ abbrev pub AreAllGone : {P : Type 0} → ℕ → List (Gone P) → Type 0
 AreAllGone count done = AreNumbersOf (downto count) done
 
 module _ {P : Type 0} (home : P → TableId) (numbers : P → ℕ → Bool) (seen : P → List Entry) where
-  -- a guest has ended as its thread's run does by what its pass has seen, with as many slices as its steps took
+  -- a guest has ended as its thread's run does by what its pass has seen, in the last of its slices
   pub record IsGone (origin : Origin) (key : Key) (x : Gone P) : Type 0 where
     pub memory : home x.pass ≡ key.memory
     pub single : IsSingle x.end.thread (numbers x.pass)
     pub known : x.end.thread < key.size.threads
     pub end : IsEndOf a32 key.program origin key.budget (seen x.pass) x.end.thread x.end
-    pub turns : AreTurnsOf key.slice x.turns x.end.steps
+    pub turns : AreTurnsOf key.slice x.turns (last_step x.end.stop x.end.steps)
 
   -- and it was this one
   abbrev pub IsGoneFrom : Origin → Key → ℕ → Gone P → Type 0

@@ -1,6 +1,6 @@
 -- Only proofs and inner contracts need these words beside those of `specs/Rule`.
 -- The rule of the queue: which guests wait in it, and which the seats hold.
-use Rattle.std.specs.Prelude.{◌≡◌, ◌≤◌, ◌<◌, ◌+◌, ◌*◌, ℕ, All, Bool, List, [], ◌∷◌, sum_by}
+use Rattle.std.specs.Prelude.{◌≡◌, ◌≤◌, ◌<◌, ◌+◌, ◌-◌, ◌*◌, ℕ, All, Bool, List, [], ◌∷◌, sum_by}
 use mathlib.Core.Option.{some}
 use lib.ListN.{get_elem?}
 use Rattle.atomic_table.specs.Seated.{TableId}
@@ -39,7 +39,7 @@ AreAllBut v items = v.parts ≡ 8 → (weight : ℕ → ℕ) → sum_by (waits w
 -- what a memory says of a pass: which memory made it, which numbers it holds, and what it has seen
 module _ {P : Type 0} (home : P → TableId) (numbers : P → ℕ → Bool) (seen : P → List Entry) where
   -- a guest between two of its slices, each of which had its steps: it has come so far from its start, with the accesses that
-  -- its pass has seen
+  -- its pass has seen; and a step of its budget is left, where it has one
   pub record IsGuestUnderWay (key : Key) (x : Waiting P) : Type 0 where
     pub memory : home x.part.pass ≡ key.memory
     pub single : IsSingle x.thread (numbers x.part.pass)
@@ -49,7 +49,7 @@ module _ {P : Type 0} (home : P → TableId) (numbers : P → ℕ → Bool) (see
     pub counts : AreCounts x.thread (seen x.part.pass) (counts_by x.part)
     pub few : CountFew (counts_by x.part) x.part.steps x.part.out
     pub turns : x.part.steps ≡ x.turns * key.slice
-    pub within : x.part.steps ≤ key.budget
+    pub within : x.part.steps ≤ key.budget - 1
 
   -- The numbers of the guests that wait and of those that the seats hold are all numbers of the machine, each once.
   pub record Keeps (items : List (Waiting P)) (views : List Hand) : Type 0 where

@@ -9,7 +9,7 @@ go_on-requires-clause-single g c κs within =
 pub returns-in-Ended-clause-turned : goal.returns-in-Ended-clause-turned
 returns-in-Ended-clause-turned g c =
     ended g.M.SharedMemory.home g.M.SharedMemory.numbers g.M.SharedMemory.seen (g.M.SharedMemory.id c.args.mem.now) (g.M.SharedMemory.origin c.args.mem.now) c.args.code.now.program
-    c.args.slice c.args.budget c.args.guest c.slice_end-upto.result c.in-Ended.done c.requires.begin c.requires.budget c.slice_end-upto.ensures c.requires.guest
+    c.args.slice c.args.budget c.args.guest c.slice_end-upto.result c.in-Ended.done c.requires.slice c.requires.begin c.requires.budget c.slice_end-upto.ensures c.requires.guest
     (c.in-Ended.ensures.piece c.args.guest.thread c.requires.guest.single)
 
 pub returns-in-Pause-clause-turned : goal.returns-in-Pause-clause-turned
