@@ -2,15 +2,15 @@
 use Rattle.std.proofs.Common.{◌≡◌, ◌≢◌, ◌<◌, length, ℕ, Option, Some, None, List, [], ◌∷◌, ◌++◌, drop, slice_get, refl, sym, ap, subst, ◌∙◌}
 use Rattle.llsc_base.specs.Images.{Program}
 use Rattle.llsc_base.specs.declared.outside.Ask.{Ask}
-use Rattle.llsc_base.specs.declared.outside.Ask.TheVariants.{Load, LoadEx, Store, StoreEx, Clear}
 use Rattle.a32_instr.specs.State.{State, Effect}
-use Rattle.llsc_base.specs.Effects.{asks, calls, completes, stops, asks_unless}
+use Rattle.llsc_base.specs.Effects.{asks, calls, completes, stops}
 use Rattle.a32_step.specs.declared.phases.Progress.{Progress}
 use Rattle.a32_step.specs.declared.phases.Progress.TheVariants as progress
-use Rattle.guest_core.specs.Machine.{PassesTests}
+use Rattle.guest_core.specs.inner.Asking.{asked_first}
+use Rattle.guest_core.proofs.Asked.{asked_passed, asked_stopped}
 use Rattle.a32_step.specs.inner.Progress.{progress_of}
 use Rattle.a32_step.specs.inner.ExecutionState.{ExecutionState, Stage, HasRoom, Between, Inside, Awaiting, Calling, Stopped, moves, resting, settled, wanted_at}
-use Rattle.a32_step.specs.inner.Acting.{IsSilent, IsGiven, begins, none_made, one_more, StandsAt, IsActed, IsReplied, had_before, replied, unmade, barred, asked_first, with_reply}
+use Rattle.a32_step.specs.inner.Acting.{IsSilent, IsGiven, begins, none_made, one_more, StandsAt, IsActed, IsReplied, had_before, replied, unmade, barred, with_reply}
 
 -- the first of some replies, if there is one
 first_had : (had : List ℕ) (reply : ℕ) → slice_get had 0 ≡ Some reply → had ≡ reply ∷ drop 1 had
@@ -20,14 +20,6 @@ first_had (x ∷ xs) reply is = ap (λ (r : ℕ). r ∷ xs) (cc (is))
 none_had : (had : List ℕ) → slice_get had 0 ≡ None → had ≡ []
 none_had [] is = refl
 none_had (x ∷ xs) is = absurd (cc (is))
-
--- an access that nothing bars is asked for
-asked_passed : (program : Program) (ask : Ask) → PassesTests program ask → asked_first program ask ≡ asks ask
-asked_passed program (Load place) passed = ap (λ b. asks_unless b place.addr (Load place)) passed
-asked_passed program (LoadEx place) passed = ap (λ b. asks_unless b place.addr (LoadEx place)) passed
-asked_passed program (Store place value) passed = ap (λ b. asks_unless b place.addr (Store place value)) passed
-asked_passed program (StoreEx place value) passed = ap (λ b. asks_unless b place.addr (StoreEx place value)) passed
-asked_passed program Clear passed = refl
 
 -- ---- where it stands
 
@@ -117,7 +109,7 @@ module _ {S : Type 0} {replies : S → Ask → Option ℕ → S → Type 0} {old
         let asked : effect old.replies ≡ asks ask = ap effect (none_had old.replies none) ∙ first_is ∙ asked_passed program ask passed in
         acted_by old.replies (asks ask) asked (none_made old.replies from next ask begins asked refused) refl refl
     held_by _ is (barred stop none stopped) =
-        acted_by old.replies (stops stop) (ap effect (none_had old.replies none) ∙ first_is ∙ stopped) begins refl refl
+        acted_by old.replies (stops stop) (ap effect (none_had old.replies none) ∙ first_is ∙ asked_stopped program ask stop stopped) begins refl refl
 
     pub acted_held : {answer : Option ℕ} {mid : ExecutionState} {to : S} → IsReplied replies program ask old from answer mid to → answer ≡ None → IsActed replies effect old from progress.Held mid to
     acted_held {answer} came is = held_by answer is came

@@ -10,7 +10,7 @@ use Rattle.a32_step.specs.declared.phases.Progress.{Progress}
 use Rattle.guest_core.specs.declared.phases.Wanted.{Wanted}
 use Rattle.a32_step.specs.inner.Progress.{progress_of}
 use Rattle.a32_step.specs.Machine.{Machine, next_effect, after_next}
-use Rattle.a32_step.specs.inner.Machine.{Phase, next_in, after_in, HasBegun}
+use Rattle.a32_step.specs.inner.Machine.{next_in, after_in, HasBegun}
 use Rattle.guest_core.specs.Phase as phase
 use Rattle.a32_step.specs.inner.ExecutionState.{ExecutionState, Stage, Between, Inside, Awaiting, Calling, Stopped, HasRoom, IsAwaited, IsCalled, moves, settled, wanted_at, phase_of, machine_in}
 use Rattle.guest_core.specs.Machine.{between, given, moved_on, wanted_of, IsAwaiting, IsCalling}

@@ -11,7 +11,7 @@ use Rattle.llsc_base.specs.declared.outside.Ask.TheVariants.{LoadEx, StoreEx}
 use Rattle.a32_instr.specs.Exclusive.{load_exclusive, store_exclusive, stored_part}
 use Rattle.a32_instr.specs.LoadStore.{access_size, accessed_address, accesses, half, half_accesses, half_by, half_size, loads_half, moved_address, stores, word, word_by, written_back}
 use Rattle.a32_instr.specs.State.{State, register}
-use Rattle.a32_step.specs.inner.Acting.{asked_first}
+use Rattle.guest_core.specs.inner.Asking.{asked_first}
 
 module _ (program : Program) (state : State) (index : Index) (rn rt : ℕ) (offset : Offset) (addr moved : ℕ)
     (moved_is : moved ≡ moved_address rn offset state) (addr_is : addr ≡ accessed_address index (register state rn) moved) (had : List ℕ) where

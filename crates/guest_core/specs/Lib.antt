@@ -1,5 +1,6 @@
 pub mod Phase
 pub mod Machine
+pub mod Asking
 pub mod Fetched
 pub mod Ports
 pub mod Known

@@ -11,12 +11,14 @@
 //! does that may be in the middle of an instruction.
 #![tactic(auto)]
 
+mod asking;
 mod code;
 mod cores;
 mod phases;
 mod ports;
 mod ready;
 
+pub use asking::stop_at;
 pub use code::Code;
 pub use cores::Core;
 pub use phases::{Passage, Wanted};

@@ -1,10 +1,8 @@
 -- A machine whose instruction was carried on over a port.
-use Rattle.std.proofs.Common.{◌≡◌, ℕ, true, false, Option, Some, None, List, [], ◌∷◌, Ok, refl, sym, ap, subst, ◌∙◌}
-use Rattle.llsc_base.specs.declared.access.Bar.{Bar}
-use Rattle.llsc_base.specs.Images.{Program, bar_of}
+use Rattle.std.proofs.Common.{◌≡◌, ℕ, Option, Some, None, List, [], ◌∷◌, Ok, refl, sym, ap, subst, ◌∙◌}
+use Rattle.llsc_base.specs.Images.{Program}
 use Rattle.llsc_base.specs.declared.outside.Ask.{Ask}
-use Rattle.llsc_base.specs.declared.outside.Ask.TheVariants as ask
-use Rattle.llsc_base.specs.Effects.{asks, completes, asks_unless}
+use Rattle.llsc_base.specs.Effects.{asks, completes}
 use Rattle.guest_core.specs.declared.phases.Passage.TheVariants.{Complete, AtStart}
 use Rattle.guest_core.specs.Phase as phase
 use Rattle.guest_core.specs.Machine.{IsHeld}
@@ -14,7 +12,6 @@ use Rattle.guest_core.specs.Ports.{goes, refused, stays}
 use Rattle.rv32_guest.specs.declared.cpu.Stage.TheVariants as stage
 use Rattle.rv32_guest.specs.declared.cpu.RvCpu.TheInside as fields
 use Rattle.rv32_guest.specs.declared.instructions.RvInstr.{RvInstr}
-use Rattle.rv32_guest.specs.inner.Accesses.{asked_first}
 use Rattle.rv32_guest.specs.Effect.{acts}
 use Rattle.rv32_guest.specs.inner.Inside.{machine_of}
 use Rattle.rv32_guest.specs.Machine.{Machine, instr_at, rv32}
@@ -130,18 +127,6 @@ module _ {program : Program} {old : Machine} {state : RvState} {instr : RvInstr}
         })
 
 -- ---- what holds it
-
-unless_held : (bar : Option Bar) (addr : ℕ) (ask : Ask) → IsHeld {S = RvState} (asks_unless bar addr ask)
-unless_held None addr ask = tt
-unless_held (Some bar) addr ask = tt
-
--- an access holds it, be it made or barred
-pub first_held : (program : Program) (ask : Ask) → IsHeld (asked_first program ask)
-first_held program (ask.Load place) = unless_held (bar_of program place false) place.addr (ask.Load place)
-first_held program (ask.LoadEx place) = unless_held (bar_of program place false) place.addr (ask.LoadEx place)
-first_held program (ask.Store place value) = unless_held (bar_of program place true) place.addr (ask.Store place value)
-first_held program (ask.StoreEx place value) = unless_held (bar_of program place true) place.addr (ask.StoreEx place value)
-first_held program ask.Clear = tt
 
 outcome_held : (state : RvState) (outcome : Outcome) → (outcome ≡ comes.Completes → ⊥) → IsHeld (effect_by state outcome)
 outcome_held state comes.Completes held = absurd (held refl)

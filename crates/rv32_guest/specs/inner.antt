@@ -1,5 +1,4 @@
 -- What only proofs and inner contracts need.
-pub mod Accesses
 pub mod Classes
 pub mod Inside
 pub mod Outcome

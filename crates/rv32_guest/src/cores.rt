@@ -1,10 +1,9 @@
 //! The core of a RISC-V guest as one of the cores that run guests.
 use crate::calls::call_of;
 use crate::cpu::RvCpu;
-use crate::execution::stop_at;
 use crate::instructions::RvInstr;
 use crate::outcomes::Outcome;
-use guest_core::{Code, Core, Passage, Port, Wanted};
+use guest_core::{Code, Core, Passage, Port, Wanted, stop_at};
 use llsc_base::{CallAsk, Image};
 
 impl Core for RvCpu {

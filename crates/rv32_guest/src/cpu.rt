@@ -10,11 +10,10 @@ ghost use Rattle.rv32_guest.specs.Machine.{instr_at, rv32, start_of};
 ghost use Rattle.rv32_guest.specs.State.{RvState, answered, register};
 
 use crate::decoder::rv_decode;
-use crate::execution::stop_at;
 use crate::instructions::RvInstr;
 use crate::outcomes::Outcome;
 use crate::registers::Registers;
-use guest_core::Wanted;
+use guest_core::{Wanted, stop_at};
 use llsc_base::{Ask, CallAsk, Image, Stop};
 use std::marker::Model;
 

@@ -16,8 +16,6 @@ mod accesses;
 mod computing;
 mod control;
 
-pub use accesses::stop_at;
-
 impl Registers {
     /// A register gets a value, and the next instruction follows.
     #[inline(always)]

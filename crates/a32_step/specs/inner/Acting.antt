@@ -1,16 +1,17 @@
 -- Only proofs and inner contracts need these words.
 -- An instruction that acts over whoever replies to its accesses.
 use Rattle.std.specs.Prelude.{◌≡◌, ℕ, Bool, true, false, Option, Some, None, List, [], ◌∷◌, ◌++◌, slice_get}
-use Rattle.llsc_base.specs.Images.{Program, bar_of}
+use Rattle.llsc_base.specs.Images.{Program}
 use Rattle.llsc_base.specs.declared.access.Size.TheVariants.{B4}
 use Rattle.llsc_base.specs.declared.outside.Ask.{Ask}
-use Rattle.llsc_base.specs.declared.outside.Ask.TheVariants.{Load, LoadEx, Store, StoreEx, Clear}
+use Rattle.llsc_base.specs.declared.outside.Ask.TheVariants.{Load, Store}
 use Rattle.llsc_base.specs.declared.outside.Stop.{Stop}
 use Rattle.a32_instr.specs.State.{State, Effect, register}
-use Rattle.llsc_base.specs.Effects.{asks, calls, completes, stops, asks_unless}
+use Rattle.llsc_base.specs.Effects.{asks, calls, completes, stops}
 use Rattle.a32_step.specs.declared.phases.Progress.{Progress}
 use Rattle.a32_step.specs.inner.ExecutionState.{ExecutionState, Awaiting, Calling, Stopped, resting}
 use Rattle.guest_core.specs.Machine.{PassesTests}
+use Rattle.guest_core.specs.Asking.{stop_of}
 use Rattle.a32_step.specs.inner.Progress.{progress_of}
 
 -- nobody replies
@@ -49,14 +50,6 @@ pub record IsActed {S : Type 0} (replies : S → Ask → Option ℕ → S → Ty
 
 -- ---- one access
 
--- what an instruction of this access does before it has had the reply
-abbrev pub asked_first : Program → Ask → Effect
-asked_first program (Load place) = asks_unless (bar_of program place false) place.addr (Load place)
-asked_first program (LoadEx place) = asks_unless (bar_of program place false) place.addr (LoadEx place)
-asked_first program (Store place value) = asks_unless (bar_of program place true) place.addr (Store place value)
-asked_first program (StoreEx place value) = asks_unless (bar_of program place true) place.addr (StoreEx place value)
-asked_first program Clear = asks Clear
-
 -- What comes of its access: the reply that it had before, or that of the source, and the instruction stands as it was; or none, and
 -- it waits, or the access is barred, and the thread stops.
 pub data IsReplied {S : Type 0} (replies : S → Ask → Option ℕ → S → Type 0) (program : Program) (ask : Ask) (old : ExecutionState) (from : S) : Option ℕ → ExecutionState → S → Type 0 where
@@ -64,7 +57,7 @@ pub data IsReplied {S : Type 0} (replies : S → Ask → Option ℕ → S → Ty
   replied : (reply : ℕ) (to : S) → slice_get old.replies 0 ≡ None → PassesTests program ask → replies from ask (Some reply) to → IsReplied replies program ask old from (Some reply) old to
   unmade : (to : S) → slice_get old.replies 0 ≡ None → PassesTests program ask → replies from ask None to
       → IsReplied replies program ask old from None (record old { stage = Awaiting ask }) to
-  barred : (stop : Stop) → slice_get old.replies 0 ≡ None → asked_first program ask ≡ stops stop
+  barred : (stop : Stop) → slice_get old.replies 0 ≡ None → stop_of program ask ≡ Some stop
       → IsReplied replies program ask old from None (record old { stage = Stopped stop }) from
 
 -- the replies that it has had then: those from before, if there are any

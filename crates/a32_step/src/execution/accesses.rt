@@ -1,31 +1,14 @@
 //! The access of an instruction that makes one.
-ghost use Rattle.std.specs.Prelude.{◌≡◌, ◌≢◌, ◌<◌, ◌≤◌, ◌+◌, ◌^◌, [], IfSome, IfNone, length, IsFalse};
-ghost use Rattle.llsc_base.specs.Effects.{stops};
+ghost use Rattle.std.specs.Prelude.{◌≡◌, ◌≢◌, ◌<◌, ◌≤◌, ◌+◌, ◌^◌, [], length, IsFalse};
 ghost use Rattle.a32_step.specs.inner.ExecutionState.{Between};
-ghost use Rattle.guest_core.specs.Machine.{PassesTests, ValueFits};
-ghost use Rattle.a32_step.specs.inner.Acting.{IsReplied, asked_first, with_reply};
+ghost use Rattle.guest_core.specs.Machine.{ValueFits};
+ghost use Rattle.a32_step.specs.inner.Acting.{IsReplied, with_reply};
 
 use super::Execution;
 use crate::phases::Progress;
 use crate::sources::Source;
-use llsc_base::{Ask, Image, Stop};
-
-/// The stop of a thread whose access is barred, if anything bars it.
-#[inline(always)]
-fn stop_at_ask(image: &Image, ask: Ask) -> Option<Stop>
-    ensures stops { IfSome result (λ stop. asked_first image.now ask ≡ stops stop) }
-    ensures passes { IfNone result (PassesTests image.now ask) }
-{
-    let (place, store) = match ask {
-        Ask::Load(place) | Ask::LoadEx(place) => (place, false),
-        Ask::Store(place, _) | Ask::StoreEx(place, _) => (place, true),
-        Ask::Clear => return None,
-    };
-    match image.test(place, store) {
-        Some(bar) => Some(bar.stop_at(place.addr)),
-        None => None,
-    }
-}
+use guest_core::stop_at;
+use llsc_base::{Ask, Image};
 
 impl Execution {
     /// The reply to the instruction's access: the one that it has had, or the source's. `None` where something bars the access, so
@@ -51,7 +34,7 @@ impl Execution {
                 return Some(reply);
             }
         }
-        if let Some(stop) = stop_at_ask(image, ask) {
+        if let Some(stop) = stop_at(image, ask) {
             self.stop(stop);
             return None;
         }

@@ -2,11 +2,11 @@
 ghost use Rattle.std.specs.Prelude.{◌≡◌, ◌%◌, ◌^◌, [], ◌∷◌, IfNone, IfSome};
 ghost use Rattle.llsc_base.specs.Memory.{size_bytes};
 ghost use Rattle.llsc_base.specs.Images.{Program};
-ghost use Rattle.llsc_base.specs.Effects.{asks, completes, stops};
-ghost use Rattle.guest_core.specs.Machine.{PassesTests, ValueFits};
+ghost use Rattle.llsc_base.specs.Effects.{completes};
+ghost use Rattle.guest_core.specs.Machine.{ValueFits};
 ghost use Rattle.rv32_guest.specs.inner.Classes.{instr_class, MakesAccess, MakesNoAccess};
 ghost use Rattle.rv32_guest.specs.Accesses.{place_of};
-ghost use Rattle.rv32_guest.specs.inner.Accesses.{asked_first};
+ghost use Rattle.guest_core.specs.inner.Asking.{asked_first};
 ghost use Rattle.rv32_guest.specs.Computing.{moved};
 ghost use Rattle.rv32_guest.specs.Effect.{acts};
 ghost use Rattle.rv32_guest.specs.State.{register};
@@ -14,25 +14,7 @@ ghost use Rattle.rv32_guest.specs.State.{register};
 use crate::arithmetic::{loaded_byte, loaded_half, low_word};
 use crate::instructions::RvInstr;
 use crate::registers::Registers;
-use llsc_base::{Ask, Image, Place, Size, Stop};
-
-/// The stop of a thread whose access is barred, if anything bars it.
-#[inline(always)]
-pub fn stop_at(image: &Image, ask: Ask) -> Option<Stop>
-    ensures stops { IfSome result (λ stop. asked_first image.now ask ≡ stops stop) }
-    ensures asks { IfNone result (asked_first image.now ask ≡ asks ask) }
-    ensures passes { IfNone result (PassesTests image.now ask) }
-{
-    let (place, store) = match ask {
-        Ask::Load(place) | Ask::LoadEx(place) => (place, false),
-        Ask::Store(place, _) | Ask::StoreEx(place, _) => (place, true),
-        Ask::Clear => return None,
-    };
-    match image.test(place, store) {
-        Some(bar) => Some(bar.stop_at(place.addr)),
-        None => None,
-    }
-}
+use llsc_base::{Ask, Place, Size};
 
 /// The place of a size at an address.
 #[inline(always)]

@@ -1,12 +1,13 @@
 use Rattle.std.proofs.Common.{rules, ◌≡◌, [], ap, subst, sym, ◌∙◌}
 use Rattle.llsc_base.specs.Effects.{asks}
 use Rattle.guest_core.specs.Known.{HasNone}
-use Rattle.rv32_guest.specs.inner.Accesses.{asked_first}
+use Rattle.guest_core.specs.inner.Asking.{asked_first}
 use Rattle.rv32_guest.specs.Machine.{Machine, instr_at, rv32}
 use Rattle.rv32_guest.specs.inner.Outcome.{effect_by}
+use Rattle.guest_core.proofs.Asked.{asked_held, asked_passed}
 use Rattle.guest_core.proofs.Resting.{not_on}
 use Rattle.guest_core.proofs.Unmet.{held_at_none}
-use Rattle.rv32_guest.proofs.CarriedOn.{carried_at_once, carried_by_reply, first_held, found, held_next, held_on, held_still, refused_on, with_registers}
+use Rattle.rv32_guest.proofs.CarriedOn.{carried_at_once, carried_by_reply, found, held_next, held_on, held_still, refused_on, with_registers}
 use Rattle.rv32_guest.proofs.cores.RvCpuCore.carry.Goals as goal
 
 pub returns-then-not-found-clause-carried : goal.returns-then-not-found-clause-carried
@@ -30,7 +31,7 @@ returns-in_default-reply-clause-carried g c = refused_on c.in-Some.ask c.require
 pub returns-clause-carried : goal.returns-clause-carried
 returns-clause-carried g c =
     let it = found c.self.inside c.pc-pc.result c.self.view_is c.requires.rest c.pc-pc.ensures.pc c.find-found.ensures.program c.at-instr.ensures.instr in
-    let asked : asked_first c.image.result.now c.in-Some.ask ≡ asks c.in-Some.ask = search rules in
+    let asked : asked_first c.image.result.now c.in-Some.ask ≡ asks c.in-Some.ask = asked_passed c.image.result.now c.in-Some.ask (search rules) in
     carried_by_reply it c.in-Some.ask c.in-Some-reply.reply c.take.new.self
     (c.in-Some.ensures.asks c.args.code.now.program ∙ subst (λ p. asked_first p c.in-Some.ask ≡ asks c.in-Some.ask) (c.image.ensures ∙ c.find-found.ensures.program) asked)
     c.in-Some-reply.ensures.replied (c.take.ensures c.args.code.now.program)
@@ -49,9 +50,9 @@ returns-in_default-act-clause-held g c = λ other.
 pub returns-then-is_some-clause-held : goal.returns-then-is_some-clause-held
 returns-then-is_some-clause-held g c = λ other.
     let it = found c.self.inside c.pc-pc.result c.self.view_is c.requires.rest c.pc-pc.ensures.pc c.find-found.ensures.program c.at-instr.ensures.instr in
-    held_next it (asked_first c.args.code.now.program c.in-Some.ask) (c.in-Some.ensures.asks c.args.code.now.program) (first_held c.args.code.now.program c.in-Some.ask)
+    held_next it (asked_first c.args.code.now.program c.in-Some.ask) (c.in-Some.ensures.asks c.args.code.now.program) (asked_held _ c.args.code.now.program c.in-Some.ask)
 
 pub returns-in_default-reply-clause-held : goal.returns-in_default-reply-clause-held
 returns-in_default-reply-clause-held g c = λ other.
     let it = found c.self.inside c.pc-pc.result c.self.view_is c.requires.rest c.pc-pc.ensures.pc c.find-found.ensures.program c.at-instr.ensures.instr in
-    held_next it (asked_first c.args.code.now.program c.in-Some.ask) (c.in-Some.ensures.asks c.args.code.now.program) (first_held c.args.code.now.program c.in-Some.ask)
+    held_next it (asked_first c.args.code.now.program c.in-Some.ask) (c.in-Some.ensures.asks c.args.code.now.program) (asked_held _ c.args.code.now.program c.in-Some.ask)
