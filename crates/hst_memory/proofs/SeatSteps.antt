@@ -1,14 +1,16 @@
--- Seats that are split and joined keep the rule.
-use Rattle.std.proofs.Common.{◌≡◌, ℕ, Bool, if◌then◌else◌, List, [], ◌∷◌, ◌++◌, set, slice_index, refl, ap, sym, ◌∙◌, subst, inl, inr, ⊎_elim, arith}
+-- Seats that are split and joined, and one that learns that what it has seen is legal, keep the rule.
+use Rattle.std.proofs.Common.{◌≡◌, ℕ, Bool, false, if◌then◌else◌, List, [], ◌∷◌, ◌++◌, set, slice_index, refl, ap, sym, ◌∙◌, subst, inl, inr, ⊎_elim, arith}
 use mathlib.Core.Option.{none}
 use Rattle.atomic_table.specs.Table.{Allows, Joins, Splits, keeps, step}
-use Rattle.atomic_table.proofs.Lists.{at_longer}
+use Rattle.atomic_table.proofs.Lists.{at_longer, set_again}
+use Rattle.llsc_base.specs.declared.access.Place.{Place}
 use Rattle.history.specs.Parts.{entries_of}
 use Rattle.history.specs.Standing.{Standing}
 use Rattle.shared_memory.specs.declared.views.View.{View}
 use Rattle.shared_memory.specs.Passes.{marked, nobody}
 use Rattle.shared_memory.specs.inner.Passes.{alone_mark, joined_view, spent_view, without_mark}
 use Rattle.shared_memory.specs.Seen.{IsOneOf}
+use Rattle.shared_memory.proofs.Grown.{legal-part}
 use Rattle.shared_memory.proofs.Joined.{joined, leads-differ, settled, settles}
 use Rattle.shared_memory.proofs.Split.{split}
 use Rattle.hst_memory.specs.declared.hands.Doing.{Doing}
@@ -19,8 +21,10 @@ use Rattle.hst_memory.specs.declared.hands.Hand.{Hand}
 use Rattle.shared_memory.specs.declared.plans.Plan.{Plan}
 use Rattle.hst_memory.specs.inner.Hands.{hand, reserve_joined, weight_of}
 use Rattle.hst_memory.specs.inner.Knowledge.{IsAt, Knows}
-use Rattle.hst_memory.specs.inner.Kept.{IsSection, KeptBy}
-use Rattle.shared_memory.specs.Told.{settled_at}
+use Rattle.hst_memory.specs.Kept.{origin_of}
+use Rattle.hst_memory.specs.inner.Kept.{IsSection, Kept, KeptBy}
+use Rattle.shared_memory.specs.Told.{settled_at, vouched_at}
+use Rattle.shared_memory.specs.inner.Told.{ask}
 use Rattle.hst_memory.specs.Told.{Mine}
 use Rattle.hst_memory.proofs.PlainSteps.{as-found}
 use Rattle.hst_memory.proofs.Sections.{section-same, total-push, weight}
@@ -94,4 +98,18 @@ module _ (plan : Plan) where
           section = section-same plan.size.threads (slice_index s.words 0) (slice_index s.words 0) s.views seat v w refl at refl k.section;
         }),
         record { settled = settles (Knows plan.size) plan.size k.standing k.history k.tells.owner seat v (k.tells.each seat v at); slots = refl },
+      )
+
+  -- what a seat has seen is legal
+  pub vouches : (slots seat : ℕ) (me : Mine) (p : Place) (value : ℕ) → Allows (KeptBy plan) slots seat me 0 (λ n. n) (vouched_at (ask (origin_of plan) p value) (step slots 0 0 0 none) me)
+  vouches slots seat me p value s k long at small =
+      let v = me.0 in (
+        v,
+        keeps,
+        tt,
+        as-found plan s.words 0 _ (subst (Kept plan s.words) (sym (set_again s.views seat v at)) k),
+        record {
+          same = refl;
+          legal = legal-part (Knows plan.size) plan.size plan.image.value.bytes s.views k.history k.standing plan.size.threads 0 false false seat v k.tells k.born at;
+        },
       )

@@ -15,7 +15,7 @@ use crate::alone::{clear_reservation, fail_absent, load_ex_cell, store_ex_cell};
 use crate::memory::HstMemory;
 use crate::passes::{HstPass, HstStory};
 use crate::plain::{load_cell, store_cell};
-use crate::seats::{join_numbers, split_number};
+use crate::seats::{join_numbers, split_number, vouch_for};
 use llsc_base::{MachineSize, Place};
 use row_bytes::take;
 use shared_memory::{
@@ -79,6 +79,10 @@ impl SharedMemory for HstMemory {
 
     fn thread(&self, pass: &HstPass) -> u32 {
         pass.number
+    }
+
+    fn vouch(&self, pass: &mut HstPass) {
+        vouch_for::<Brand>(&self.table.shared, &mut pass.seat);
     }
 
     fn load(&self, pass: &mut HstPass, place: Place) -> u64 {

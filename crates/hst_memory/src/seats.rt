@@ -1,4 +1,4 @@
-//! How seats are split and joined.
+//! How seats are split and joined, and learn that what they have seen is legal.
 ghost use Rattle.std.specs.Prelude.{◌≡◌, ◌<◌, ℕ, []};
 ghost use Rattle.history.specs.Parts.{entries_of};
 ghost use Rattle.shared_memory.specs.Passes.{marked, nobody};
@@ -8,12 +8,13 @@ ghost use Rattle.hst_memory.specs.declared.hands.Doing.TheVariants.{Rest};
 ghost use Rattle.hst_memory.specs.declared.hands.Reserve.TheVariants.{Nothing};
 ghost use Rattle.hst_memory.specs.inner.Hands.{hand, reserve_joined};
 ghost use Rattle.hst_memory.specs.Passes.{IsMade};
-ghost use Rattle.shared_memory.specs.Told.{Settles};
+ghost use Rattle.hst_memory.specs.Kept.{origin_of};
+ghost use Rattle.shared_memory.specs.Told.{Settles, Vouches};
 
 use crate::hands::HstView;
 use crate::plans::{HstSeat, HstShared};
 use atomic_table::{Join, Split};
-use shared_memory::{Gives, Settle};
+use shared_memory::{Asks, Gives, Settle, Vouch};
 use std::marker::PhantomData;
 
 /// A seat gives a number away.
@@ -75,4 +76,15 @@ pub fn join_numbers(shared: &HstShared, seat: &mut HstSeat, other: HstSeat)
 {
     shared.join_seat::<Both>(seat, other);
     shared.load::<Settle>(seat, 0);
+}
+
+/// A seat learns that what it has seen is legal.
+pub fn vouch_for<J: Asks>(shared: &HstShared, seat: &mut HstSeat)
+    requires asked { J.ask.origin ≡ origin_of shared.now.key }
+    requires made { IsMade shared.now.key shared.now.table_id }
+    requires home { seat.old.table_id ≡ shared.now.table_id }
+    ensures vouched { Vouches (origin_of shared.now.key) seat.old.me seat.new.me }
+    ensures home { seat.new.table_id ≡ seat.old.table_id }
+{
+    shared.load::<Vouch<J>>(seat, 0);
 }

@@ -1,17 +1,19 @@
 -- The history grows by entries of a seat's thread: what its view says from then on, and what the other views say still.
-use Rattle.std.proofs.Common.{◌≡◌, ◌≢◌, ℕ, Bool, List, [], ◌++◌, set, refl, ap, sym, ◌∙◌, subst, append-nil, append_assoc, ⊎_elim, inl, inr, arith}
+use Rattle.std.proofs.Common.{◌≡◌, ◌≢◌, ℕ, Bool, List, [], ◌∷◌, ◌++◌, set, refl, ap, sym, ◌∙◌, subst, append-nil, append_assoc, ⊎_elim, inl, inr, arith}
 use mathlib.Core.Option.{some, some-injective}
 use lib.ListN.{get_elem?}
 use Rattle.std.proofs.lemmas.Bool.{cases_eq}
 use Rattle.atomic_table.proofs.Lists.{at_set, set_here, set_else}
 use Rattle.llsc_base.specs.Sizes.{Numbers}
 use Rattle.history.specs.Parts.{entries_of}
-use Rattle.history.specs.Started.{AreBorn}
+use Rattle.history.specs.Started.{AreBorn, MayStand}
 use Rattle.history.specs.Standing.{Standing, standing_after, standing_of}
 use Rattle.history.specs.Follow.{MayFollow}
 use Rattle.history.specs.declared.entry.Entry.{Entry}
 use Rattle.history.proofs.Appends.{MayFollow-append, entries_of-append, standing_after-append}
+use Rattle.history.proofs.Cuts.{each-front}
 use Rattle.history.proofs.Legality.{IsLegal-MayFollow}
+use Rattle.history.proofs.Prefixes.{IsLegal-front}
 use Rattle.shared_memory.specs.declared.views.View.{View}
 use Rattle.shared_memory.specs.Origin.{Origin, IsLegalFrom}
 use Rattle.shared_memory.specs.Seen.{IsOneOf, IsSingle, Sees}
@@ -147,3 +149,24 @@ pub legal-tells : {D : Type 0} (knows : Standing → ℕ → D → Type 0) (size
     → IsLegalFrom (record { size = size; first = first; spare = spare; bytes = bytes; spends = spends; steady = steady }) history
 legal-tells knows size bytes views history s first spare spends steady t born =
     record { legal = IsLegal-MayFollow size bytes history t.memory t.follows; known = t.outside; born = born }
+
+nil-front : (xs ys : List Entry) → xs ++ ys ≡ [] → xs ≡ []
+nil-front [] ys none = refl
+nil-front (x ∷ xs) ys none = absurd (let f : ⊥ = cc in f)
+
+-- a front of a legal history is legal
+pub legal-front : (origin : Origin) (front back : List Entry) → IsLegalFrom origin (front ++ back) → IsLegalFrom origin front
+legal-front origin front back whole = record {
+  legal = IsLegal-front origin.size origin.bytes front back whole.legal;
+  known = λ t above. nil-front (entries_of t front) (entries_of t back) (sym (entries_of-append t front back) ∙ whole.known t above);
+  born = each-front (MayStand origin.first origin.spare) front back whole.born;
+}
+
+-- what a view has seen is legal
+pub legal-part : {D : Type 0} (knows : Standing → ℕ → D → Type 0) (size : Numbers) (bytes : List ℕ) (views : List (View D)) (history : List Entry) (s : Standing) (first spare : ℕ) (spends steady : Bool)
+    (seat : ℕ) (v : View D) → Tells knows size bytes views history s → AreBorn first spare history → get_elem? views seat ≡ some v
+    → IsLegalFrom (record { size = size; first = first; spare = spare; bytes = bytes; spends = spends; steady = steady }) v.seen
+legal-part knows size bytes views history s first spare spends steady seat v t born at =
+    let origin : Origin = record { size = size; first = first; spare = spare; bytes = bytes; spends = spends; steady = steady } in
+    let front = (t.each seat v at).part.front in
+    legal-front origin v.seen front.0 (subst (IsLegalFrom origin) front.1 (legal-tells knows size bytes views history s first spare spends steady t born))

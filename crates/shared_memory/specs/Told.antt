@@ -6,7 +6,7 @@ use Rattle.history.specs.declared.entry.Entry.{Entry}
 use Rattle.history.specs.declared.entry.Entry.TheVariants.{Read}
 use Rattle.atomic_table.specs.Table.{Me, Step}
 use Rattle.shared_memory.specs.declared.views.View.{View}
-use Rattle.shared_memory.specs.Origin.{Origin}
+use Rattle.shared_memory.specs.Origin.{IsLegalFrom, Origin}
 use Rattle.shared_memory.specs.Passes.{IsSettled, nobody}
 use Rattle.shared_memory.specs.Seen.{Sees}
 
@@ -35,6 +35,11 @@ pub record Settles {D : Type 0} (old new : SeatOf D) : Type 0 where
   pub settled : IsSettled old.0 new.0
   pub slots : new.1 ≡ old.1
 
+-- a seat stays as it is, and what it has seen is legal
+pub record Vouches {D : Type 0} (origin : Origin) (old new : SeatOf D) : Type 0 where
+  pub same : new ≡ old
+  pub legal : IsLegalFrom origin old.0.seen
+
 module _ {D : Type 0} where
   -- a load of a cell, as a load of the place
   abbrev pub loaded : Ask → Step (Unit {0}) → SeatOf D → ℕ → SeatOf D → Type 0
@@ -46,3 +51,7 @@ module _ {D : Type 0} where
 
   abbrev pub settled_at : Step (Unit {0}) → SeatOf D → ℕ → SeatOf D → Type 0
   settled_at st old n new = Settles old new
+
+  -- a load by which a seat learns that what it has seen is legal
+  abbrev pub vouched_at : Ask → Step (Unit {0}) → SeatOf D → ℕ → SeatOf D → Type 0
+  vouched_at q st old n new = Vouches q.origin old new

@@ -44,6 +44,17 @@ impl<D, J: Asks> Play<(), View<D>> for Look<J> {
     ghost then = { looked_at J.ask };
 }
 
+/// A load by which a seat learns that what it has seen is legal.
+pub struct Vouch<J> {
+    of: PhantomData<J>,
+}
+
+impl<D, J: Asks> Play<(), View<D>> for Vouch<J> {
+    ghost use Rattle.shared_memory.specs.Told.{vouched_at};
+
+    ghost then = { vouched_at J.ask };
+}
+
 /// A seat that has taken in another learns what it had seen.
 pub struct Settle;
 

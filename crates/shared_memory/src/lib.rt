@@ -9,7 +9,8 @@
 //! and which a cell; a [`Plan`] is what the table is told once, [`initial_words`] makes its words, and a [`Target`] is a place
 //! with its words. What a seat of the table knows is a [`View`], by `specs/Passes`; `specs/Rule` has what every such memory
 //! keeps between any two steps, of its history and of what its seats know. [`Load`] and [`Look`] are the steps that every
-//! memory has, and [`Settle`] is what a seat learns that has taken in another; `specs/Told` says what each tells its caller.
+//! memory has. By [`Vouch`] a seat learns that what it has seen is legal, and by [`Settle`] what another had seen that it has
+//! taken in; `specs/Told` says what each tells its caller.
 //! [`Marks`] are the numbers of a pass, and by [`Gives`] a call picks the one that a seat gives away. How histories grow, and
 //! how seats are split, joined and closed, is proved in `proofs/`, once for all of them.
 //!
@@ -28,7 +29,7 @@ mod views;
 mod words;
 pub mod worked;
 
-pub use asks::{Asks, Load, Look, Settle};
+pub use asks::{Asks, Load, Look, Settle, Vouch};
 pub use memory::{SharedMemory, Spent};
 pub use numbers::{Marks, first_marks, merge_marks, only_mark, other_number};
 pub use plans::Plan;

@@ -1,5 +1,5 @@
 //! The contract of a memory that guest threads share.
-ghost use Rattle.std.specs.Prelude.{◌≡◌, ◌≢◌, ◌+◌, ◌*◌, ◌^◌, ◌<◌, ◌≤◌, ℕ, Bool, List, [], ◌∷◌, IsTrue, IfErr, false, true, length, slice_index};
+ghost use Rattle.std.specs.Prelude.{◌≡◌, ◌≢◌, ◌+◌, ◌*◌, ◌^◌, ◌<◌, ◌≤◌, ℕ, Bool, List, [], ◌∷◌, IsTrue, IfErr, codes, false, true, length, slice_index};
 ghost use Rattle.std.specs.Bool.{OnFalse, OnTrue};
 ghost use Rattle.std.specs.Result.{OnOk};
 ghost use Rattle.llsc_base.specs.Memory.{is_aligned, size_bytes};
@@ -27,6 +27,15 @@ pub struct Spent {
     pub class: u32,
     /// How many writes it has had, the limit of a class.
     pub writes: u64,
+}
+
+impl Spent {
+    /// The fault's name.
+    pub fn name(&self) -> &str
+        ensures { result.now ≡ codes "Spent" }
+    {
+        "Spent"
+    }
 }
 
 /// A memory that threads share while they run on host threads.
@@ -75,6 +84,14 @@ pub trait SharedMemory: Sync + Drop {
         requires memory { home pass.now ≡ id self.now }
         requires single { (t : ℕ) × IsSingle t (numbers pass.now) }
         ensures { IsSingle result (numbers pass.now) };
+
+    /// Vouches for what a pass has seen: it is a legal history of the memory. The pass stays as it is.
+    fn vouch(&self, pass: &mut Self::Pass)
+        requires memory { home pass.old ≡ id self.now }
+        ensures legal { IsLegalFrom (origin self.now) (seen pass.new) }
+        ensures seen { seen pass.new ≡ seen pass.old }
+        ensures memory { home pass.new ≡ home pass.old }
+        ensures numbers { numbers pass.new ≡ numbers pass.old };
 
     /// A load: the value of the place, which is aligned and lies in memory, here as below.
     fn load(&self, pass: &mut Self::Pass, place: Place) -> u64

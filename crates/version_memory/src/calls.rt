@@ -19,7 +19,7 @@ use crate::memory::VersionMemory;
 use crate::passes::{Reserved, VersionPass, VersionStory};
 use crate::pauses::{pause, pauses_after};
 use crate::plain::load_cell;
-use crate::seats::{join_numbers, split_number};
+use crate::seats::{join_numbers, split_number, vouch_for};
 use history::Entry;
 use llsc_base::{MachineSize, Place};
 use row_bytes::take;
@@ -98,6 +98,10 @@ impl SharedMemory for VersionMemory {
 
     fn thread(&self, pass: &VersionPass) -> u32 {
         pass.number
+    }
+
+    fn vouch(&self, pass: &mut VersionPass) {
+        vouch_for::<Brand>(&self.table.shared, &mut pass.seat);
     }
 
     fn load(&self, pass: &mut VersionPass, place: Place) -> u64 {

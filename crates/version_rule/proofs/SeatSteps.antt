@@ -1,13 +1,16 @@
--- Seats that are split and joined keep the rule.
-use Rattle.std.proofs.Common.{◌≡◌, ℕ, Bool, if◌then◌else◌, [], set, ap, sym, subst, refl}
+-- Seats that are split and joined, and one that learns that what it has seen is legal, keep the rule.
+use Rattle.std.proofs.Common.{◌≡◌, ℕ, Bool, true, if◌then◌else◌, [], set, ap, sym, subst, refl}
 use mathlib.Core.Option.{none}
 use Rattle.atomic_table.specs.Table.{Allows, Joins, Splits, keeps, step}
+use Rattle.atomic_table.proofs.Lists.{set_again}
+use Rattle.llsc_base.specs.declared.access.Place.{Place}
 use Rattle.history.specs.Parts.{entries_of}
 use Rattle.history.specs.Standing.{Standing}
 use Rattle.shared_memory.specs.declared.views.View.{View}
 use Rattle.shared_memory.specs.Passes.{marked, nobody}
 use Rattle.shared_memory.specs.inner.Passes.{alone_mark, joined_view, spent_view, without_mark}
 use Rattle.shared_memory.specs.Seen.{IsOneOf}
+use Rattle.shared_memory.proofs.Grown.{legal-part}
 use Rattle.shared_memory.proofs.Joined.{joined, leads-differ, settled, settles}
 use Rattle.shared_memory.proofs.Split.{split}
 use Rattle.version_rule.specs.declared.hands.Doing.{Doing}
@@ -19,8 +22,9 @@ use Rattle.shared_memory.specs.declared.plans.Plan.{Plan}
 use Rattle.version_rule.specs.Hands.{hand}
 use Rattle.version_rule.specs.inner.Hands.{reserve_joined}
 use Rattle.version_rule.specs.Knowledge.{IsAt, Knows}
-use Rattle.version_rule.specs.Kept.{KeptBy}
-use Rattle.shared_memory.specs.Told.{settled_at}
+use Rattle.version_rule.specs.Kept.{Kept, KeptBy, origin_of}
+use Rattle.shared_memory.specs.Told.{settled_at, vouched_at}
+use Rattle.shared_memory.specs.inner.Told.{ask}
 use Rattle.version_rule.specs.Told.{Mine}
 use Rattle.version_rule.proofs.Facts.{as-found}
 
@@ -82,4 +86,18 @@ module _ (plan : Plan) where
           classes = k.classes;
         }),
         record { settled = settles (Knows plan.size) plan.size k.standing k.history k.tells.owner seat v (k.tells.each seat v at); slots = refl },
+      )
+
+  -- what a seat has seen is legal
+  pub vouches : (slots seat : ℕ) (me : Mine) (p : Place) (value : ℕ) → Allows (KeptBy plan) slots seat me 0 (λ n. n) (vouched_at (ask (origin_of plan) p value) (step slots 0 0 0 none) me)
+  vouches slots seat me p value s k long at small =
+      let v = me.0 in (
+        v,
+        keeps,
+        tt,
+        as-found plan s.words 0 _ (subst (Kept plan s.words) (sym (set_again s.views seat v at)) k),
+        record {
+          same = refl;
+          legal = legal-part (Knows plan.size) plan.size plan.image.value.bytes s.views k.history k.standing plan.first plan.spare true true seat v k.tells k.born at;
+        },
       )
