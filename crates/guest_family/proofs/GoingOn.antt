@@ -15,9 +15,10 @@ use Rattle.guest_thread.specs.Begun.{stock_of}
 use Rattle.guest_thread.specs.Counting.{AreCounts, counts_in}
 use Rattle.guest_thread.specs.StockRun.{Comes, piece, IsStockRun}
 use Rattle.guest_thread.specs.declared.running.Finished.{Finished}
+use Rattle.guest_thread.proofs.Counted.{still_counts}
 use Rattle.guest_thread.proofs.FewAccesses.{counted_within}
 use Rattle.guest_family.specs.inner.Next.{after_answer}
-use Rattle.guest_thread.specs.Pieces.{IsPiece}
+use Rattle.guest_thread.specs.Pieces.{IsPiece, counts_by}
 use Rattle.guest_thread.specs.inner.Pieces.{point_of}
 use Rattle.guest_family.specs.inner.UnderWay.{HasCalled, HasReachedEnd, IsPartUnderWay}
 use Rattle.guest_thread.specs.declared.pieces.Part.{Part}
@@ -52,7 +53,7 @@ module _ {P : Type 0} (home : P → TableId) (numbers : P → ℕ → Bool) (see
         are = is.added;
       } in
       let thread = is.stands.thread in
-      let counts = is.counts goes.counts in
+      let counts = still_counts t (seen part.pass) (seen done.pass) (counts_by part) (counts_in done.end) is.front is.counts goes.counts in
       let made = is.accesses goes.accesses in
       let most = is.stands.most in
       let few = counted_within t (seen done.pass) done.end counts in
@@ -89,7 +90,7 @@ module _ {P : Type 0} (home : P → TableId) (numbers : P → ℕ → Bool) (see
           may_act = is.may_act;
           front = is.front;
           same = is.unstarted;
-          counts = is.counts goes.counts;
+          counts = still_counts t (seen part.pass) (seen new.pass) (counts_by part) (counts_by new) is.front is.counts goes.counts;
           accesses = is.accesses goes.accesses;
           few = is.stands.few;
           within = is.stands.within;

@@ -12,3 +12,4 @@ pub mod Outcome
 pub mod Pushed
 pub mod Started
 pub mod StarterParts
+pub mod Unbegun

@@ -1,7 +1,10 @@
 //! All threads of a program that may start others, on host threads.
-ghost use Rattle.std.specs.Prelude.{◌≡◌, ◌<◌, ◌≤◌, ◌+◌, ◌*◌, ◌^◌, ℕ, [], ◌∷◌, ◌++◌, All, length, reverse, true, vec_len, vec_capacity};
+ghost use Rattle.std.specs.Prelude.{◌≡◌, ◌<◌, ◌≤◌, ◌+◌, ◌*◌, ◌^◌, ℕ, [], ◌∷◌, ◌++◌, All, Contains, length, reverse, true, vec_len, vec_capacity};
 ghost use Rattle.llsc_base.specs.Limits.{most_budget};
+ghost use Rattle.history.specs.Parts.{entries_of};
+ghost use Rattle.shared_memory.specs.Origin.{IsLegalFrom};
 ghost use Rattle.shared_memory.specs.Seen.{IsFront, IsOneOf, SaysAllOf, joint};
+ghost use Rattle.guest_thread.specs.Begun.{begun_in};
 ghost use Rattle.guest_thread.specs.BegunOutcome.{AreBegunEnds};
 ghost use Rattle.guest_thread.specs.Counting.{accesses_counted, counts_in};
 ghost use Rattle.guest_thread.specs.declared.ends.GuestEnd.{GuestEnd};
@@ -233,8 +236,8 @@ fn all_ends(mut ends: Vec<GuestEnd>, mut others: Vec<GuestEnd>) -> Vec<GuestEnd>
 /// starts, from then on. Gives how each ended that has begun, in order of number, with a pass of all numbers. Memory has as many
 /// bytes as the image. The budget is at most 1,000,000,000,000 steps for each. No memory is taken from the allocator.
 ///
-/// What they did is in what the pass has seen of the history: a thread's accesses there, and those that it starts there, are those
-/// of its run, with its end.
+/// What they did is in what the pass has seen of the history, which is legal: a thread's accesses there, and those that it starts
+/// there, are those of its run, with its end. A thread that has not begun there has no entries.
 pub fn run_family<M: StartMemory, R: Threads + Wait + Sync>(
     rt: &R,
     mem: &M,
@@ -251,13 +254,16 @@ pub fn run_family<M: StartMemory, R: Threads + Wait + Sync>(
     ensures many { vec_len result.ends ≤ (M.origin mem.now).size.threads }
     ensures numbers { (t : ℕ) → t < (M.origin mem.now).size.threads → IsOneOf t (M.numbers result.pass) }
     ensures begins { IsFront (M.seen kin.entry.first.job.pass) (M.seen result.pass) }
+    ensures legal { IsLegalFrom (M.origin mem.now) (M.seen result.pass) }
+    ensures others { (t : ℕ) → (Contains (begun_in (M.origin mem.now).first (M.seen result.pass)) t → ⊥) → entries_of t (M.seen result.pass) ≡ [] }
     ensures memory { M.home result.pass ≡ M.id mem.now }
 {
     let Gathered {
-        pass,
+        mut pass,
         ends,
         children,
     } = run_starters(rt, mem, image, kin, budget);
+    mem.vouch(&mut pass);
     Ran {
         pass,
         ends: all_ends(ends, children),

@@ -14,5 +14,6 @@ mod running;
 mod starters;
 
 pub use families::run_family;
+pub use guest_thread::Ran;
 pub use kin::{Kin, Spare, Starter, prepare_family};
 pub use pieces::go_on;

@@ -21,14 +21,14 @@ use Rattle.guest_core.specs.Ports.{Leads}
 use Rattle.guest_calls.specs.Calls.{most_output}
 use Rattle.guest_calls.specs.Pairs.{pair_of, pairs_of}
 use Rattle.guest_calls.specs.Run.{Pair, by_itself, PointOf}
-use Rattle.guest_thread.specs.Counting.{AreCounts, accesses_counted}
+use Rattle.guest_thread.specs.Counting.{accesses_counted}
 use Rattle.guest_thread.specs.Outcome.{IsSpent}
 use Rattle.guest_thread.specs.Pieces.{ByAnswer, CountFew, HasMadeFew, IsPiece, StandsAt, counts_after, counts_by, pass_of}
 use Rattle.guest_thread.specs.inner.Pieces.{ended_at, point_of}
 use Rattle.guest_thread.specs.Ports.{EndsByFrom}
 use Rattle.guest_thread.specs.inner.Ports.{RestsWithin, RestsBy}
 use Rattle.guest_thread.specs.Progress.{headway_of}
-use Rattle.guest_thread.specs.inner.Sharing.{SharingState, RepliesSharing, RefusesAt}
+use Rattle.guest_thread.specs.inner.Sharing.{HaveGrown, SharingState, RepliesSharing, RefusesAt}
 use Rattle.guest_thread.specs.ThreadState.{ThreadOf, ThreadStateOf, thread_in}
 use Rattle.guest_thread.specs.inner.ThreadState.{StopsWithin}
 use Rattle.guest_thread.specs.inner.Under.{ComesToEvent}
@@ -41,6 +41,7 @@ use Rattle.guest_thread.specs.declared.ports.Rest.{Rest}
 use Rattle.guest_thread.specs.declared.ports.Rest.TheVariants as rest
 use Rattle.guest_thread.specs.declared.running.Finished.{Finished}
 use Rattle.guest_thread.proofs.Calling.{calling_in}
+use Rattle.guest_thread.proofs.Counted.{grown_by_added}
 use Rattle.guest_thread.proofs.Going.{answer_later, calls_within, ended_by_within, ended_on_since, ends_by_within, few_by_answer, left_since, reaches_within, refused_at, spent_between, steps_since, used_up}
 use Rattle.guest_thread.proofs.Reached.{spent_ends}
 use Rattle.guest_thread.proofs.Shared.{HasShared, after_all}
@@ -97,6 +98,8 @@ module _ {I S : Type 0} (set : InstructionSet I S) where
           let new : List Entry = seen (pass_of answer) in
           let front : IsFront old new = subst (IsFront old) (sym gone.seen_is) gone.shared.goes_on.front in
           let added : pairs_of t new ≡ pairs_of t old ++ pairs = ap (pairs_of t) gone.seen_is ∙ gone.shared.pairs_are in
+          let grown : HaveGrown t old new (counts_by part) (counts_after answer) =
+          subst (λ s. HaveGrown t old s (counts_by part) (counts_after answer)) (sym gone.seen_is) (subst (HaveGrown t old last.seen (counts_by part)) (sym counts) gone.shared.counts) in
           let made : made_by t new ≡ made_by t old + length pairs =
           sym (length-map (accesses_of (entries_of t new)) pair_of) ∙ ap (λ (l : List Pair). length l) added ∙ length-append (pairs_of t old) pairs
           ∙ ap (λ n. n + length pairs) (length-map (accesses_of (entries_of t old)) pair_of) in
@@ -106,7 +109,7 @@ module _ {I S : Type 0} (set : InstructionSet I S) where
             front = front;
             may_act = subst (MayAct origin.first t) (sym front.1) (may-act-later origin.first t old front.0 may_act);
             unstarted = ap (starts_in t) gone.seen_is ∙ gone.shared.unstarted;
-            counts = λ are. subst (λ s. AreCounts t s (counts_after answer)) (sym gone.seen_is) (subst (AreCounts t last.seen) (sym counts) (gone.shared.counts are));
+            counts = grown_by_added t old new front.0 (counts_by part) (counts_after answer) front.1 grown;
             pairs = pairs;
             added = added;
             comes = λ from before reached. answer_later set of_core starts program budget from before (point_of set of_core part) pairs answer reached comes;

@@ -1,5 +1,5 @@
 -- A thread's part in a memory that threads share, from its start on.
-use Rattle.std.proofs.Common.{◌≡◌, ◌≤◌, ℕ, List, [], ◌∷◌, ◌++◌, ◌+◌, map, sum_by, refl, sym, subst, ap, ◌∙◌, append-nil, append_assoc}
+use Rattle.std.proofs.Common.{◌≡◌, ◌≤◌, ℕ, List, [], ◌∷◌, ◌++◌, ◌+◌, map, sum_by, refl, sym, subst, ap, ◌∙◌, append-nil, append_assoc, arith}
 use Rattle.std.proofs.lemmas.List.{map-append}
 use Rattle.std.proofs.lemmas.List.Sums.{sum_by-append}
 use Rattle.llsc_base.specs.Memory.{row_of}
@@ -22,7 +22,7 @@ use Rattle.guest_thread.specs.Counting.{AreCounts, accesses_counted}
 use Rattle.guest_thread.specs.Counts.{reads_in, writes_in, fails_in, reads_of, writes_of, fails_of}
 use Rattle.guest_thread.specs.Outcome.{IsSpent}
 use Rattle.guest_thread.specs.declared.counts.Counts.{Counts}
-use Rattle.guest_thread.specs.inner.Sharing.{SharingState, HasGoneOn, IsServedSharing, IsUnserved, RepliesSharing}
+use Rattle.guest_thread.specs.inner.Sharing.{SharingState, HasGoneOn, HaveGrown, IsServedSharing, IsUnserved, RepliesSharing}
 
 -- ---- a store that is refused
 
@@ -51,12 +51,38 @@ goes_further first at last early late = record {
   front = front_on first.seen at.seen last.seen early.front late.front;
 }
 
+-- ---- counts
+
+grown_still : (thread : ℕ) (seen : List Entry) (counts : Counts) → HaveGrown thread seen seen counts counts
+grown_still thread seen counts = record { reads = refl; writes = refl; fails = refl }
+
+-- a number that has grown with another, twice
+grown_twice : (first at next past here now : ℕ) → at + past ≡ first + here → next + here ≡ at + now → next + past ≡ first + now
+grown_twice first at next past here now early late = omega (arith, early, late)
+
+grown_further : (thread : ℕ) (past here now : List Entry) (first at next : Counts) → HaveGrown thread past here first at → HaveGrown thread here now at next
+    → HaveGrown thread past now first next
+grown_further thread past here now first at next early late = record {
+  reads = grown_twice first.reads at.reads next.reads (reads_of (entries_of thread past)) (reads_of (entries_of thread here)) (reads_of (entries_of thread now)) early.reads late.reads;
+  writes = grown_twice first.writes at.writes next.writes (writes_of (entries_of thread past)) (writes_of (entries_of thread here)) (writes_of (entries_of thread now)) early.writes late.writes;
+  fails = grown_twice first.fails at.fails next.fails (fails_of (entries_of thread past)) (fails_of (entries_of thread here)) (fails_of (entries_of thread now)) early.fails late.fails;
+}
+
+-- the thread has made no access since
+grown_unmade : (thread : ℕ) (past here now : List Entry) (first at : Counts) → entries_of thread now ≡ entries_of thread here → HaveGrown thread past here first at
+    → HaveGrown thread past now first at
+grown_unmade thread past here now first at same grown = record {
+  reads = grown.reads ∙ ap (λ es. first.reads + reads_of es) (sym same);
+  writes = grown.writes ∙ ap (λ es. first.writes + writes_of es) (sym same);
+  fails = grown.fails ∙ ap (λ es. first.fails + fails_of es) (sym same);
+}
+
 -- a thread has come from a first state with these accesses and replies, and has started no other by itself
 pub record HasShared (first : SharingState) (pairs : List Pair) (now : SharingState) : Type 0 where
   pub goes_on : HasGoneOn first now
   pub pairs_are : pairs_of first.thread now.seen ≡ pairs_of first.thread first.seen ++ pairs
   pub unstarted : starts_in first.thread now.seen ≡ starts_in first.thread first.seen
-  pub counts : AreCounts first.thread first.seen first.counts → AreCounts first.thread now.seen now.counts
+  pub counts : HaveGrown first.thread first.seen now.seen first.counts now.counts
 
 served_on : (first at next : SharingState) (pairs : List Pair) (ask : Ask) (reply : ℕ) → HasShared first pairs at → IsServedSharing at ask reply next
     → HasShared first (pairs ++ (ask, reply) ∷ []) next
@@ -67,15 +93,9 @@ served_on first at next pairs ask reply shared served =
       pairs_are = subst (λ t. pairs_of t next.seen ≡ pairs_of t at.seen ++ (ask, reply) ∷ []) same served.pairs ∙ ap (λ l. l ++ (ask, reply) ∷ []) shared.pairs_are
           ∙ append_assoc (pairs_of first.thread first.seen) pairs ((ask, reply) ∷ []);
       unstarted = subst (λ t. starts_in t next.seen ≡ starts_in t at.seen) same served.unstarted ∙ shared.unstarted;
-      counts = λ are. subst (λ t. AreCounts t next.seen next.counts) same (served.counts (subst (λ t. AreCounts t at.seen at.counts) (sym same) (shared.counts are)));
+      counts = grown_further first.thread first.seen at.seen next.seen first.counts at.counts next.counts shared.counts
+          (subst (λ t. HaveGrown t at.seen next.seen at.counts next.counts) same served.counts);
     }
-
-same_counts : (t : ℕ) (old new : List Entry) (counts : Counts) → entries_of t new ≡ entries_of t old → AreCounts t old counts → AreCounts t new counts
-same_counts t old new counts same are = record {
-  reads = are.reads ∙ ap reads_of (sym same);
-  writes = are.writes ∙ ap writes_of (sym same);
-  fails = are.fails ∙ ap fails_of (sym same);
-}
 
 refused_on : (first at next : SharingState) (pairs : List Pair) → HasShared first pairs at → IsUnserved at next → HasShared first pairs next
 refused_on first at next pairs shared served =
@@ -86,8 +106,8 @@ refused_on first at next pairs shared served =
       goes_on = goes_further first at next shared.goes_on served.goes_on;
       pairs_are = ap (λ l. map pair_of (accesses_of l)) entries ∙ shared.pairs_are;
       unstarted = starts_from-own first.thread 0 next.seen ∙ ap (starts_from first.thread 0) entries ∙ sym (starts_from-own first.thread 0 at.seen) ∙ shared.unstarted;
-      counts = λ are. subst (AreCounts first.thread next.seen) (sym served.counts)
-          (same_counts first.thread at.seen next.seen at.counts entries (shared.counts are));
+      counts = subst (HaveGrown first.thread first.seen next.seen first.counts) (sym served.counts)
+          (grown_unmade first.thread first.seen at.seen next.seen first.counts at.counts entries shared.counts);
     }
 
 -- all of them
@@ -96,7 +116,7 @@ after_all first _ _ stays = record {
   goes_on = goes_on_still first;
   pairs_are = sym (append-nil (pairs_of first.thread first.seen));
   unstarted = refl;
-  counts = λ are. are;
+  counts = grown_still first.thread first.seen first.counts;
 }
 after_all first _ _ (goes pairs at next ask reply leads served) =
     served_on first at next pairs ask reply (after_all first pairs at leads) served
@@ -110,16 +130,21 @@ pub pairs_alone : (first last : SharingState) (pairs : List Pair) → HasShared 
     → pairs_of first.thread last.seen ≡ pairs
 pairs_alone first last pairs shared none = shared.pairs_are ∙ ap (λ l. map pair_of (accesses_of l) ++ pairs) none
 
+grown_from_none : (last past first now : ℕ) → last + past ≡ first + now → past ≡ 0 → first ≡ 0 → last ≡ now
+grown_from_none last past first now grown none zero = omega (arith, grown, none, zero)
+
 pub counts_alone : (first last : SharingState) (pairs : List Pair) → HasShared first pairs last → entries_of first.thread first.seen ≡ []
     → first.counts ≡ record { reads = 0; writes = 0; fails = 0 } → AreCounts first.thread last.seen last.counts
-counts_alone first last pairs shared none counts = shared.counts
-    (subst (AreCounts first.thread first.seen) (sym counts) (record {
-      reads = ap reads_of (sym none);
-      writes = ap writes_of (sym none);
-      fails = ap fails_of (sym none);
-    }))
+counts_alone first last pairs shared none counts = record {
+  reads = grown_from_none last.counts.reads (reads_of (entries_of first.thread first.seen)) first.counts.reads (reads_of (entries_of first.thread last.seen)) shared.counts.reads (ap reads_of none) (ap (λ (n : Counts). n.reads) counts);
+  writes = grown_from_none last.counts.writes (writes_of (entries_of first.thread first.seen)) first.counts.writes (writes_of (entries_of first.thread last.seen)) shared.counts.writes (ap writes_of none) (ap (λ (n : Counts). n.writes) counts);
+  fails = grown_from_none last.counts.fails (fails_of (entries_of first.thread first.seen)) first.counts.fails (fails_of (entries_of first.thread last.seen)) shared.counts.fails (ap fails_of none) (ap (λ (n : Counts). n.fails) counts);
+}
 
 -- ---- an access of a memory, by which a thread is served
+
+grown_by : (old new own past now : ℕ) → new ≡ old + own → now ≡ past + own → new + past ≡ old + now
+grown_by old new own past now counted more = omega (arith, counted, more)
 
 -- by the entries of the thread that it adds, which start no other: what they are as an access and a reply, and how they count
 pub served_by : (origin : Origin) (own : List Entry) (old new : SharingState) (ask : Ask) (reply : ℕ) → HasGoneOn old new
@@ -137,10 +162,10 @@ served_by origin own old new ask reply further sees pair none reads writes fails
       pairs = ap (λ l. map pair_of (accesses_of l)) entries ∙ ap (map pair_of) (accesses_of-append (entries_of t old.seen) own)
           ∙ map-append pair_of (accesses_of (entries_of t old.seen)) (accesses_of own) ∙ ap (λ l. pairs_of t old.seen ++ l) pair;
       unstarted = subst (λ l. starts_in t l ≡ starts_in t old.seen) (sym sees.longer) (starts_in-same t old.seen sees.added own sees.mine none);
-      counts = λ are. record {
-        reads = reads ∙ ap (λ n. n + reads_of own) are.reads ∙ sym (more reads_in);
-        writes = writes ∙ ap (λ n. n + writes_of own) are.writes ∙ sym (more writes_in);
-        fails = fails ∙ ap (λ n. n + fails_of own) are.fails ∙ sym (more fails_in);
+      counts = record {
+        reads = grown_by old.counts.reads new.counts.reads (reads_of own) (reads_of (entries_of t old.seen)) (reads_of (entries_of t new.seen)) reads (more reads_in);
+        writes = grown_by old.counts.writes new.counts.writes (writes_of own) (writes_of (entries_of t old.seen)) (writes_of (entries_of t new.seen)) writes (more writes_in);
+        fails = grown_by old.counts.fails new.counts.fails (fails_of own) (fails_of (entries_of t old.seen)) (fails_of (entries_of t new.seen)) fails (more fails_in);
       };
       one = one;
     }

@@ -19,3 +19,9 @@ pub record AreCounts (thread : ℕ) (history : List Entry) (counts : Counts) : T
   pub reads : counts.reads ≡ reads_of (entries_of thread history)
   pub writes : counts.writes ≡ writes_of (entries_of thread history)
   pub fails : counts.fails ≡ fails_of (entries_of thread history)
+
+-- the counts of a thread before and after some more of the history: they have grown by its accesses there
+pub record HaveGrownBy (thread : ℕ) (added : List Entry) (before after : Counts) : Type 0 where
+  pub reads : after.reads ≡ before.reads + reads_of (entries_of thread added)
+  pub writes : after.writes ≡ before.writes + writes_of (entries_of thread added)
+  pub fails : after.fails ≡ before.fails + fails_of (entries_of thread added)

@@ -14,7 +14,7 @@ use Rattle.guest_core.specs.Machine.{MachineOf, InstructionSet, between, IsCalli
 use Rattle.guest_calls.specs.Bound.{most_accesses_in}
 use Rattle.guest_calls.specs.Pairs.{pairs_of}
 use Rattle.guest_calls.specs.Run.{Pair, PointOf, ReachesBy, EndsOnFrom}
-use Rattle.guest_thread.specs.Counting.{AreCounts, accesses_counted, counts_in}
+use Rattle.guest_thread.specs.Counting.{HaveGrownBy, accesses_counted, counts_in}
 use Rattle.guest_thread.specs.Outcome.{IsSpent}
 use Rattle.guest_thread.specs.Under.{CallsToStart}
 use Rattle.guest_thread.specs.declared.counts.Counts.{Counts}
@@ -101,14 +101,14 @@ module _ {I S : Type 0} (set : InstructionSet I S) {C : Type 0} (machine : C →
 
   module _ {P : Type 0} (home : P → TableId) (numbers : P → ℕ → Bool) (seen : P → List Entry) where
     -- A thread has gone on from a part: whoever has come to where that stood, with the accesses before, comes with some more, those that
-    -- its pass has seen since, to the answer. It has started no thread by itself, and its counts are still those of its accesses.
+    -- its pass has seen since, to the answer. It has started no thread by itself, and its counts have grown by just these accesses.
     pub record IsPiece (mem : TableId) (origin : Origin) (program : Program) (starts : Bool) (upto budget t : ℕ) (part : Part P C) (answer : Paused P C) : Type 0 where
       pub memory : home (pass_of answer) ≡ mem
       pub single : IsSingle t (numbers (pass_of answer))
       pub front : IsFront (seen part.pass) (seen (pass_of answer))
       pub may_act : MayAct origin.first t (seen (pass_of answer))
       pub unstarted : starts_in t (seen (pass_of answer)) ≡ starts_in t (seen part.pass)
-      pub counts : AreCounts t (seen part.pass) (counts_by part) → AreCounts t (seen (pass_of answer)) (counts_after answer)
+      pub counts : HaveGrownBy t front.0 (counts_by part) (counts_after answer)
       pub pairs : List Pair
       pub added : pairs_of t (seen (pass_of answer)) ≡ pairs_of t (seen part.pass) ++ pairs
       pub comes : (from : PointOf I S) (before : List Pair) → ReachesBy set starts program budget from before (machine part.cpu) part.steps part.out

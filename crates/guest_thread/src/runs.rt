@@ -1,6 +1,7 @@
 //! All guest threads of a program on host threads.
 ghost use Rattle.std.specs.Prelude.{◌≡◌, ◌<◌, ◌≤◌, ◌+◌, ℕ, [], ◌∷◌, ◌^◌, All, true, length, vec_len, vec_capacity};
 ghost use Rattle.llsc_base.specs.Limits.{most_budget};
+ghost use Rattle.shared_memory.specs.Origin.{IsLegalFrom};
 ghost use Rattle.shared_memory.specs.Seen.{IsFront, IsOneOf};
 ghost use Rattle.guest_thread.specs.Crews.{AreFresh, IsFresh, IsReadyCrew, threads_of};
 ghost use Rattle.guest_thread.specs.inner.Crews.{HaveEnded, IsEndOf};
@@ -95,7 +96,8 @@ fn run_jobs<M: SharedMemory, C: Core, R: Threads + Wait + Sync>(
 /// of their numbers. Memory has as many bytes as the image. The budget is at most 1,000,000,000,000 steps for each. No memory is
 /// taken from the allocator.
 ///
-/// What they did is in what the pass has seen of the history: a thread's accesses there are those of its run, with its end.
+/// What they did is in what the pass has seen of the history, which is legal: a thread's accesses there are those of its run, with its
+/// end.
 pub fn run_all<M: SharedMemory, C: Core, R: Threads + Wait + Sync>(
     rt: &R,
     mem: &M,
@@ -111,6 +113,7 @@ pub fn run_all<M: SharedMemory, C: Core, R: Threads + Wait + Sync>(
     ensures few { All (λ (end : GuestEnd). accesses_counted (counts_in end) < 2 ^ 45) result.ends.items }
     ensures numbers { (t : ℕ) → t < (M.origin mem.now).size.threads → IsOneOf t (M.numbers result.pass) }
     ensures begins { IsFront (M.seen crew.entry.first_job.pass) (M.seen result.pass) }
+    ensures legal { IsLegalFrom (M.origin mem.now) (M.seen result.pass) }
     ensures memory { M.home result.pass ≡ M.id mem.now }
 {
     let Crew {
@@ -118,5 +121,7 @@ pub fn run_all<M: SharedMemory, C: Core, R: Threads + Wait + Sync>(
         jobs,
         ends,
     } = crew;
-    run_jobs(rt, mem, image, first_job, jobs, ends, budget)
+    let mut ran = run_jobs(rt, mem, image, first_job, jobs, ends, budget);
+    mem.vouch(&mut ran.pass);
+    ran
 }

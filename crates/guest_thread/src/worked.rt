@@ -3,7 +3,7 @@ ghost use Rattle.std.specs.Prelude.{◌≡◌, ◌∷◌, ◌++◌, [], false, t
 ghost use Rattle.llsc_base.specs.Images.{program_of};
 ghost use Rattle.history.specs.Monitor.{at_rest, monitor_after};
 ghost use Rattle.guest_thread.specs.Accesses.{access_by, monitor_of, tried_by};
-ghost use Rattle.guest_thread.specs.Counting.{AreCounts};
+ghost use Rattle.guest_thread.specs.Counting.{AreCounts, HaveGrownBy};
 ghost use Rattle.guest_thread.specs.Counts.{fails_in, fails_of, reads_in, reads_of, writes_in, writes_of};
 ghost use Rattle.guest_thread.specs.Worked.{access, machine_of, store_of, word};
 
@@ -64,4 +64,11 @@ pub fn counts_of_a_thread()
     ensures too_many_reads { ¬ AreCounts 0 (Entry.Read 0 word 0 true ∷ Entry.Read 1 word 0 false ∷ []) (record { reads = 2; writes = 0; fails = 0 }) }
     ensures too_few_writes { ¬ AreCounts 0 (store_of 0 word) (record { reads = 0; writes = 0; fails = 0 }) }
     ensures of_another { ¬ AreCounts 0 (Entry.Fail 1 word 9 Cause.Absent ∷ []) (record { reads = 0; writes = 0; fails = 1 }) }
+{}
+
+/// Counts grow by the thread's own accesses alone, whatever they were before.
+pub fn counts_that_grow()
+    ensures own { HaveGrownBy 0 (Entry.Read 0 word 0 true ∷ Entry.Read 1 word 0 false ∷ store_of 0 word) (record { reads = 5; writes = 0; fails = 7 }) (record { reads = 6; writes = 1; fails = 7 }) }
+    ensures too_many { ¬ HaveGrownBy 0 (Entry.Read 0 word 0 true ∷ []) (record { reads = 5; writes = 0; fails = 7 }) (record { reads = 7; writes = 0; fails = 7 }) }
+    ensures from_none { ¬ HaveGrownBy 0 (Entry.Read 0 word 0 true ∷ []) (record { reads = 5; writes = 0; fails = 7 }) (record { reads = 1; writes = 0; fails = 0 }) }
 {}

@@ -2,6 +2,7 @@
 ghost use Rattle.std.specs.Prelude.{◌≡◌, ◌<◌, ◌≤◌, ◌^◌, ℕ, IfOk, [], All, nat_lt, length, true};
 ghost use Rattle.llsc_base.specs.Limits.{most_budget};
 ghost use Rattle.history.specs.Parts.{entries_of};
+ghost use Rattle.shared_memory.specs.Origin.{IsLegalFrom};
 ghost use Rattle.shared_memory.specs.Seen.{IsFront, IsOneOf};
 ghost use Rattle.guest_thread.specs.Counting.{accesses_counted, counts_in};
 ghost use Rattle.guest_thread.specs.Crews.{IsReadyCrew};
@@ -23,6 +24,9 @@ pub type RvJob<'i, P> = Job<'i, P, RvCpu, RvInstr>;
 
 /// The jobs of all threads in order of number, with room for their ends.
 pub type RvCrew<'i, P> = Crew<'i, P, RvCpu, RvInstr>;
+
+/// The pass of all threads, and how each ended, in order of number.
+pub type RvRan<P> = Ran<P>;
 
 /// The jobs of all threads of a memory, each of which begins by itself, with what they need of memory, so that none is asked for
 /// while they run. The pass holds the numbers of all threads, none of which has made an access.
@@ -50,14 +54,15 @@ pub fn prepare_rv<'i, M: SharedMemory>(
 /// of their numbers. Memory has as many bytes as the image. The budget is at most 1,000,000,000,000 steps for each. No memory is
 /// taken from the allocator.
 ///
-/// What they did is in what the pass has seen of the history: a thread's accesses there are those of its run, with its end.
+/// What they did is in what the pass has seen of the history, which is legal: a thread's accesses there are those of its run, with its
+/// end.
 pub fn run_rv_all<M: SharedMemory, R: Threads + Wait + Sync>(
     rt: &R,
     mem: &M,
     image: &Image,
     crew: RvCrew<M::Pass>,
     budget: u64,
-) -> Ran<M::Pass>
+) -> RvRan<M::Pass>
     requires crew { IsReadyCrew rv32 (λ cpu. cpu) M.home M.numbers M.seen (M.id mem.now) (M.origin mem.now) image.now crew }
     requires whole { length image.now.bytes ≡ (M.origin mem.now).size.mem }
     requires budget { budget ≤ most_budget }
@@ -66,6 +71,7 @@ pub fn run_rv_all<M: SharedMemory, R: Threads + Wait + Sync>(
     ensures few { All (λ (end : GuestEnd). accesses_counted (counts_in end) < 2 ^ 45) result.ends.items }
     ensures numbers { (t : ℕ) → t < (M.origin mem.now).size.threads → IsOneOf t (M.numbers result.pass) }
     ensures begins { IsFront (M.seen crew.entry.first_job.pass) (M.seen result.pass) }
+    ensures legal { IsLegalFrom (M.origin mem.now) (M.seen result.pass) }
     ensures memory { M.home result.pass ≡ M.id mem.now }
 {
     run_all(rt, mem, image, crew, budget)

@@ -30,7 +30,7 @@ mod system;
 
 pub use calls::rv_call;
 pub use cpu::RvCpu;
-pub use crews::{RvCrew, RvJob, prepare_rv, run_rv_all};
+pub use crews::{RvCrew, RvJob, RvRan, prepare_rv, run_rv_all};
 pub use decoder::rv_decode;
 pub use guest_core::Wanted;
 pub use instructions::RvInstr;

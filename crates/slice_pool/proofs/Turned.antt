@@ -14,13 +14,14 @@ use Rattle.guest_calls.specs.Run.{first_point, Reaches, EndsOn}
 use Rattle.guest_thread.specs.Counting.{AreCounts, counts_in}
 use Rattle.guest_thread.specs.inner.Crews.{IsEndOf}
 use Rattle.guest_thread.specs.Outcome.{IsEndOn}
-use Rattle.guest_thread.specs.Pieces.{IsPiece}
+use Rattle.guest_thread.specs.Pieces.{IsPiece, counts_by}
 use Rattle.guest_thread.specs.Start.{thread_start}
 use Rattle.guest_thread.specs.declared.pieces.Part.{Part}
 use Rattle.guest_thread.specs.declared.pieces.Paused.TheVariants.{Ended, Pause}
 use Rattle.guest_thread.specs.declared.running.Finished.{Finished}
 use Rattle.a32_step.specs.Machine.{a32, Machine}
 use Rattle.a32_step.proofs.Tested.{next_room}
+use Rattle.guest_thread.proofs.Counted.{still_counts}
 use Rattle.guest_thread.proofs.FewAccesses.{few_counted, few_in_history}
 use Rattle.slice_pool.specs.inner.Hands.{key_of}
 use Rattle.slice_pool.specs.Over.{AreTurnsOf, last_step}
@@ -105,7 +106,7 @@ module _ {P : Type 0} (home : P → TableId) (numbers : P → ℕ → Bool) (see
         known = was.known;
         between = goes.stands.between;
         reached = subst (λ pairs. Reaches a32 program budget start pairs part.cpu part.steps part.out) (sym goes.added) comes;
-        counts = goes.counts was.counts;
+        counts = still_counts x.thread (seen x.part.pass) (seen part.pass) (counts_by x.part) (counts_by part) goes.front goes.counts was.counts;
         few = goes.stands.few;
         turns = steps ∙ ap (λ n. n + slice) was.turns ∙ sym (one_turn slice x.turns);
         within = let s = goes.stands.steps in let w = goes.stands.within in omega (arith, s, w);
@@ -124,7 +125,8 @@ module _ {P : Type 0} (home : P → TableId) (numbers : P → ℕ → Bool) (see
         ends = subst (λ u. EndsOn a32 program budget start (pairs_of u (seen done.pass)) done.end.stop done.end.steps done.end.out) thread
             (subst (λ pairs. EndsOn a32 program budget start pairs done.end.stop done.end.steps done.end.out) (sym goes.added) comes);
         spent = goes.stands.spent;
-        counts = subst (λ u. AreCounts u (seen done.pass) (counts_in done.end)) thread (goes.counts was.counts);
+        counts = subst (λ u. AreCounts u (seen done.pass) (counts_in done.end)) thread
+            (still_counts x.thread (seen x.part.pass) (seen done.pass) (counts_by x.part) (counts_in done.end) goes.front goes.counts was.counts);
       }
 
   ended_as : (x : Waiting P) (upto : ℕ) (done : Finished P) → origin.first ≡ origin.size.threads → budget ≤ most_budget → IsGuestUnderWay home numbers seen key x

@@ -8,6 +8,7 @@ ghost use Rattle.slice_pool.specs.Rule.{last_first};
 ghost use Rattle.slice_pool.specs.inner.Over.{AreAllGone, IsGone};
 ghost use Rattle.slice_pool.specs.AtWork.{IsFree};
 ghost use Rattle.slice_pool.specs.Pools.{IsFreshGuest, IsReadyPool};
+ghost use Rattle.shared_memory.specs.Origin.{IsLegalFrom};
 ghost use Rattle.shared_memory.specs.Seen.{IsOneOf};
 ghost use Rattle.guest_thread.specs.Counting.{accesses_counted, counts_in};
 ghost use Rattle.guest_thread.specs.Outcome.{AreEndsOn};
@@ -91,8 +92,8 @@ fn run_guests<'i, K: Knows + Send + Sync, M: SharedMemory, R: Threads + Wait + S
 /// in order of number, with a pass of all of their numbers. Memory has as many bytes as the image. The budget is at most
 /// 1,000,000,000,000 steps for each. No memory is taken from the allocator.
 ///
-/// What they did is in what the pass has seen of the history: a guest's accesses there are those of its run, with its end. Each
-/// slice of a guest but its last has all of its steps, and in the last it stops.
+/// What they did is in what the pass has seen of the history, which is legal: a guest's accesses there are those of its run, with its
+/// end. Each slice of a guest but its last has all of its steps, and in the last it stops.
 pub fn run_pool<M: SharedMemory, R: Threads + Wait + Sync>(
     rt: &R,
     mem: &M,
@@ -110,6 +111,7 @@ pub fn run_pool<M: SharedMemory, R: Threads + Wait + Sync>(
     ensures spends { All (λ (end : GuestEnd). (addr : ℕ) → end.stop ≡ Stop.TagLimit addr → (M.origin mem.now).spends ≡ true) result.ends.items }
     ensures few { All (λ (end : GuestEnd). accesses_counted (counts_in end) < 2 ^ 45) result.ends.items }
     ensures numbers { (t : ℕ) → t < (M.origin mem.now).size.threads → IsOneOf t (M.numbers result.pass) }
+    ensures legal { IsLegalFrom (M.origin mem.now) (M.seen result.pass) }
     ensures memory { M.home result.pass ≡ M.id mem.now }
 {
     let Pool {
@@ -125,5 +127,7 @@ pub fn run_pool<M: SharedMemory, R: Threads + Wait + Sync>(
     let done = run_guests::<Brand, M, R>(
         rt, mem, image, &line, seat, guests, desks, workers, own, slice, budget,
     );
-    in_order(mem, image, done, ends, turns, slice, budget)
+    let mut pooled = in_order(mem, image, done, ends, turns, slice, budget);
+    mem.vouch(&mut pooled.pass);
+    pooled
 }

@@ -9,7 +9,8 @@ use Rattle.shared_memory.specs.Origin.{Origin}
 use Rattle.shared_memory.specs.Seen.{IsFront}
 use Rattle.llsc_base.specs.declared.outside.Ask.{Ask}
 use Rattle.guest_calls.specs.Pairs.{pairs_of}
-use Rattle.guest_thread.specs.Counting.{AreCounts, accesses_counted}
+use Rattle.guest_thread.specs.Counting.{accesses_counted}
+use Rattle.guest_thread.specs.Counts.{reads_of, writes_of, fails_of}
 use Rattle.guest_thread.specs.Outcome.{IsSpent}
 use Rattle.guest_thread.specs.declared.counts.Counts.{Counts}
 
@@ -28,13 +29,20 @@ pub record HasGoneOn (old new : SharingState) : Type 0 where
   pub thread : new.thread ≡ old.thread
   pub front : IsFront old.seen new.seen
 
+-- the counts of a thread where its pass has seen one history, and where it has seen a longer one: they have grown by its accesses there
+-- that the first doesn't have
+pub record HaveGrown (thread : ℕ) (old new : List Entry) (before after : Counts) : Type 0 where
+  pub reads : after.reads + reads_of (entries_of thread old) ≡ before.reads + reads_of (entries_of thread new)
+  pub writes : after.writes + writes_of (entries_of thread old) ≡ before.writes + writes_of (entries_of thread new)
+  pub fails : after.fails + fails_of (entries_of thread old) ≡ before.fails + fails_of (entries_of thread new)
+
 -- the thread made an access for what it asked, and started no other: what was asked and the reply stand behind the thread's others,
 -- and it is counted
 pub record IsServedSharing (old : SharingState) (ask : Ask) (reply : ℕ) (new : SharingState) : Type 0 where
   pub goes_on : HasGoneOn old new
   pub pairs : pairs_of old.thread new.seen ≡ pairs_of old.thread old.seen ++ (ask, reply) ∷ []
   pub unstarted : starts_in old.thread new.seen ≡ starts_in old.thread old.seen
-  pub counts : AreCounts old.thread old.seen old.counts → AreCounts old.thread new.seen new.counts
+  pub counts : HaveGrown old.thread old.seen new.seen old.counts new.counts
   pub one : accesses_counted new.counts ≤ accesses_counted old.counts + 1
 
 -- it made none

@@ -6,6 +6,8 @@ use Rattle.guest_thread.specs.declared.ends.GuestEnd.{GuestEnd}
 use Rattle.guest_family.specs.Kin.{heads_of}
 use Rattle.guest_family.proofs.AllNumbers.{all_numbers}
 use Rattle.guest_family.proofs.Outcome.{all_hold, are_begun}
+use Rattle.guest_family.proofs.Unbegun.{unbegun}
+use Rattle.shared_memory.specs.Seen.{IsOneOf}
 use Rattle.guest_family.proofs.families.run_family.Goals as goal
 use Rattle.a32_step.specs.Machine.{a32}
 
@@ -45,9 +47,10 @@ returns-clause-ends g c =
     let origin = g.M.SharedMemory.origin c.args.mem.now in
     let history = g.M.SharedMemory.seen c.run_starters-pass.result.pass in
     let ended = c.run_starters-pass.ensures.ended in
-    subst (AreBegunEnds a32 c.args.image.now origin.size origin.first origin.spare c.args.budget history) (sym c.all_ends.ensures.items)
+    subst (λ seen. AreBegunEnds a32 c.args.image.now origin.size origin.first origin.spare c.args.budget seen c.all_ends.result.items) (sym c.vouch.ensures.seen)
+    (subst (AreBegunEnds a32 c.args.image.now origin.size origin.first origin.spare c.args.budget history) (sym c.all_ends.ensures.items)
     (are_begun c.args.image.now origin c.args.budget history (heads_of (c.args.kin.first ∷ c.args.kin.others.items)) c.run_starters-pass.result.ends.items c.run_starters-pass.result.children.items
-    c.requires.kin.threads ended.heads ended.children)
+    c.requires.kin.threads ended.heads ended.children))
 
 pub returns-clause-spends : goal.returns-clause-spends
 returns-clause-spends g c =
@@ -80,5 +83,11 @@ pub returns-clause-numbers : goal.returns-clause-numbers
 returns-clause-numbers g c u below =
     let origin = g.M.SharedMemory.origin c.args.mem.now in
     let ended = c.run_starters-pass.ensures.ended in
-    all_numbers (g.M.SharedMemory.numbers c.run_starters-pass.result.pass) origin.first origin.spare origin.size.threads u (heads_of (c.args.kin.first ∷ c.args.kin.others.items)) c.requires.kin.threads
-    ended.own ended.taken c.requires.kin.first.all below
+    subst (IsOneOf u) (sym c.vouch.ensures.numbers)
+    (all_numbers (g.M.SharedMemory.numbers c.run_starters-pass.result.pass) origin.first origin.spare origin.size.threads u (heads_of (c.args.kin.first ∷ c.args.kin.others.items)) c.requires.kin.threads
+    ended.own ended.taken c.requires.kin.first.all below)
+
+pub returns-clause-others : goal.returns-clause-others
+returns-clause-others g c t not_begun =
+    let origin = g.M.SharedMemory.origin c.args.mem.now in
+    unbegun origin.first origin.spare t (g.M.SharedMemory.seen c.vouch.new.pass) c.vouch.ensures.legal.born not_begun
