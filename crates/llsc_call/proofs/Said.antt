@@ -1,5 +1,5 @@
 -- What a call comes to, and how it ends once that is said.
-use Rattle.std.proofs.Common.{◌≡◌, ◌≢◌, ℕ, ◌⊎◌, inl, inr, List, Option, Some, None, Err, refl, sym, ◌∙◌, subst, ap, arith, codes}
+use Rattle.std.proofs.Common.{◌≡◌, ◌≢◌, ℕ, ◌-◌, ◌^◌, ◌<◌, ◌⊎◌, inl, inr, List, Option, Some, None, Err, refl, sym, ◌∙◌, subst, ap, arith, codes}
 use Rattle.version_memory.specs.declared.passes.VersionStory.{VersionStory}
 use Rattle.llsc_host.specs.declared.host.Host.{Ghosts}
 use Rattle.llsc_host.specs.declared.host.ReadFault.{ReadFault}
@@ -78,6 +78,7 @@ pub data Ends {S : Type 0} (host : Ghosts S) (old new : S) (request : Option Req
   done : IsDone status → (text : List ℕ) → IsAnswer (host.file old) request (told story) status text → Adds (host.written old) (host.written new) text
       → host.write_faults new ≡ host.write_faults old → host.read_faults new ≡ host.read_faults old → Ends host old new request story status
   cut : status ≡ 5 → Rose (host.write_faults old) (host.write_faults new)
+      → (ReadFailed (host.file old) request (host.read_faults old) (host.read_faults new) (host.lost new) → host.read_faults old < 2 ^ 64 - 1 → story ≡ None)
       → IsCut (host.file old) request (told story) (ReadFailed (host.file old) request (host.read_faults old) (host.read_faults new) (host.lost new)) (host.written old) (host.written new)
       → Ends host old new request story status
 
@@ -95,6 +96,11 @@ answer_of : (o : Outcome) (held : List ℕ → Option (List ℕ)) (request : Opt
 answer_of o held request story status same one =
     (subst IsDone (sym same) one.done, subst (λ s. IsAnswer held request (told story) s (text_of o)) (sym same) one.is)
 
+-- a count that is as it was has not risen, unless it stands at the end of its type
+unrisen : (old new : ℕ) → new ≡ old → old < 2 ^ 64 - 1 → Rose old new → ⊥
+unrisen old new same few (inl more) = omega (arith, same, more)
+unrisen old new same few (inr most) = omega (arith, same, few, most)
+
 -- what was said of it, from before it was read
 pub call_ends : {S : Type 0} (host : Ghosts S) (old mid new : S) (request : Option Request) (o : Outcome) (story : Option VersionStory) (status : ℕ)
     → Comes host old mid request o story → KeepsWrites host old mid → Says host mid new o status → (o ≡ outcome.NoMemory → (status ≡ 6) × KeepsWrites host mid new)
@@ -105,6 +111,7 @@ call_ends host old mid new request o story status (refused none is untold kept) 
     (whole.1.other ∙ unwritten.write_faults) (whole.1.reads.read_faults ∙ kept.read_faults)
 call_ends host old mid new request o story status (refused none is untold kept) unwritten (inr broke) alone =
     cut broke.0 (subst (λ n. Rose n (host.write_faults new)) unwritten.write_faults broke.1.cause)
+    (λ failed few. untold)
     (inl (none, ap told untold, subst (λ w. AddsFront w (host.written new) words_text) unwritten.written (subst (AddsFront (host.written mid) (host.written new)) (ap text_of is) broke.1.front)))
 call_ends host old mid new request o story status (unread failed is untold) unwritten (inl whole) alone =
     read (whole.0 ∙ ap status_of is) (failed_on host old mid new request whole.1.reads failed) untold
@@ -112,6 +119,7 @@ call_ends host old mid new request o story status (unread failed is untold) unwr
     (whole.1.other ∙ unwritten.write_faults)
 call_ends host old mid new request o story status (unread failed is untold) unwritten (inr broke) alone =
     cut broke.0 (subst (λ n. Rose n (host.write_faults new)) unwritten.write_faults broke.1.cause)
+    (λ again few. untold)
     (inr (inr (
       failed_on host old mid new request broke.1.reads failed,
       ap told untold,
@@ -129,6 +137,7 @@ call_ends host old mid new request o story status (answered one kept) unwritten 
     (whole.1.other ∙ unwritten.write_faults) (whole.1.reads.read_faults ∙ kept.read_faults)
 call_ends host old mid new request o story status (answered one kept) unwritten (inr broke) alone =
     cut broke.0 (subst (λ n. Rose n (host.write_faults new)) unwritten.write_faults broke.1.cause)
+    (λ failed few. absurd (unrisen (host.read_faults old) (host.read_faults new) (broke.1.reads.read_faults ∙ kept.read_faults) few failed.0))
     (inr (inl (status_of o, text_of o, (one.is, subst (λ w. AddsFront w (host.written new) (text_of o)) unwritten.written broke.1.front))))
 
 -- ---- what the contract of a call says of its ends
@@ -158,7 +167,7 @@ ends_told host old new asked request files story status is told_so whole no_faul
 ends_told host old new asked request files story status is told_so whole no_fault (memory six untold kept wf rf) = inl six
 ends_told host old new asked request files story status is told_so whole no_fault (done d text answer adds wf rf) =
     inr (text, (answered_told (host.file old) asked request files story status text is told_so answer, adds))
-ends_told host old new asked request files story status is told_so whole no_fault (cut five rose front) = absurd (whole rose)
+ends_told host old new asked request files story status is told_so whole no_fault (cut five rose quiet front) = absurd (whole rose)
 
 pub ends_one : {S : Type 0} (host : Ghosts S) (old new : S) (request : Option Request) (story : Option VersionStory) (status : ℕ) → Ends host old new request story status
     → IsDone status ⊎ ((status ≡ 2) ⊎ ((status ≡ 3) ⊎ ((status ≡ 5) ⊎ (status ≡ 6))))
@@ -166,7 +175,7 @@ ends_one host old new request story status (words two none untold adds wf rf) = 
 ends_one host old new request story status (read three failed untold adds wf) = inr (inr (inl three))
 ends_one host old new request story status (memory six untold kept wf rf) = inr (inr (inr (inr six)))
 ends_one host old new request story status (done d text answer adds wf rf) = inl d
-ends_one host old new request story status (cut five rose front) = inr (inr (inr (inl five)))
+ends_one host old new request story status (cut five rose quiet front) = inr (inr (inr (inl five)))
 
 pub ends_refused : {S : Type 0} (host : Ghosts S) (old new : S) (request : Option Request) (story : Option VersionStory) (status : ℕ) → Ends host old new request story status
     → request ≡ None → (status ≡ 2) ⊎ ((status ≡ 5) ⊎ (status ≡ 6))
@@ -174,7 +183,7 @@ ends_refused host old new request story status (words two none untold adds wf rf
 ends_refused host old new request story status (read three failed untold adds wf) is = absurd (cc (is, failed.1.1.0))
 ends_refused host old new request story status (memory six untold kept wf rf) is = inr (inr six)
 ends_refused host old new request story status (done d text answer adds wf rf) is = absurd (cc (is, answer.2.0))
-ends_refused host old new request story status (cut five rose front) is = inr (inl five)
+ends_refused host old new request story status (cut five rose quiet front) is = inr (inl five)
 
 pub ends_words : {S : Type 0} (host : Ghosts S) (old new : S) (request : Option Request) (story : Option VersionStory) (status : ℕ) → Ends host old new request story status
     → status ≡ 2 → (request ≡ None) × (story ≡ None) × Adds (host.written old) (host.written new) words_text
@@ -182,7 +191,7 @@ ends_words host old new request story status (words two none untold adds wf rf) 
 ends_words host old new request story status (read three failed untold adds wf) is = absurd (grind (arith, three, is))
 ends_words host old new request story status (memory six untold kept wf rf) is = absurd (grind (arith, six, is))
 ends_words host old new request story status (done d text answer adds wf rf) is = absurd (grind (arith, d, is))
-ends_words host old new request story status (cut five rose front) is = absurd (grind (arith, five, is))
+ends_words host old new request story status (cut five rose quiet front) is = absurd (grind (arith, five, is))
 
 pub ends_done : {S : Type 0} (host : Ghosts S) (old new : S) (request : Option Request) (story : Option VersionStory) (status : ℕ) → Ends host old new request story status
     → IsDone status → (text : List ℕ) × (IsAnswer (host.file old) request (told story) status text × Adds (host.written old) (host.written new) text)
@@ -190,7 +199,7 @@ ends_done host old new request story status (words two none untold adds wf rf) i
 ends_done host old new request story status (read three failed untold adds wf) is = absurd (grind (arith, three, is))
 ends_done host old new request story status (memory six untold kept wf rf) is = absurd (grind (arith, six, is))
 ends_done host old new request story status (done d text answer adds wf rf) is = (text, (answer, adds))
-ends_done host old new request story status (cut five rose front) is = absurd (grind (arith, five, is))
+ends_done host old new request story status (cut five rose quiet front) is = absurd (grind (arith, five, is))
 
 pub ends_read : {S : Type 0} (host : Ghosts S) (old new : S) (request : Option Request) (story : Option VersionStory) (status : ℕ) → Ends host old new request story status
     → status ≡ 3 → ReadFailed (host.file old) request (host.read_faults old) (host.read_faults new) (host.lost new) × (story ≡ None) × Adds (host.written old) (host.written new) read_text
@@ -198,7 +207,7 @@ ends_read host old new request story status (words two none untold adds wf rf) i
 ends_read host old new request story status (read three failed untold adds wf) is = (failed, untold, adds)
 ends_read host old new request story status (memory six untold kept wf rf) is = absurd (grind (arith, six, is))
 ends_read host old new request story status (done d text answer adds wf rf) is = absurd (grind (arith, d, is))
-ends_read host old new request story status (cut five rose front) is = absurd (grind (arith, five, is))
+ends_read host old new request story status (cut five rose quiet front) is = absurd (grind (arith, five, is))
 
 pub ends_write : {S : Type 0} (host : Ghosts S) (old new : S) (request : Option Request) (story : Option VersionStory) (status : ℕ) → Ends host old new request story status
     → status ≡ 5 → Rose (host.write_faults old) (host.write_faults new)
@@ -206,7 +215,7 @@ ends_write host old new request story status (words two none untold adds wf rf) 
 ends_write host old new request story status (read three failed untold adds wf) is = absurd (grind (arith, three, is))
 ends_write host old new request story status (memory six untold kept wf rf) is = absurd (grind (arith, six, is))
 ends_write host old new request story status (done d text answer adds wf rf) is = absurd (grind (arith, d, is))
-ends_write host old new request story status (cut five rose front) is = rose
+ends_write host old new request story status (cut five rose quiet front) is = rose
 
 pub ends_cut : {S : Type 0} (host : Ghosts S) (old new : S) (request : Option Request) (story : Option VersionStory) (status : ℕ) → Ends host old new request story status
     → status ≡ 5 → IsCut (host.file old) request (told story) (ReadFailed (host.file old) request (host.read_faults old) (host.read_faults new) (host.lost new)) (host.written old) (host.written new)
@@ -214,7 +223,7 @@ ends_cut host old new request story status (words two none untold adds wf rf) is
 ends_cut host old new request story status (read three failed untold adds wf) is = absurd (grind (arith, three, is))
 ends_cut host old new request story status (memory six untold kept wf rf) is = absurd (grind (arith, six, is))
 ends_cut host old new request story status (done d text answer adds wf rf) is = absurd (grind (arith, d, is))
-ends_cut host old new request story status (cut five rose front) is = front
+ends_cut host old new request story status (cut five rose quiet front) is = front
 
 pub ends_unwritten : {S : Type 0} (host : Ghosts S) (old new : S) (request : Option Request) (story : Option VersionStory) (status : ℕ) → Ends host old new request story status
     → status ≢ 5 → host.write_faults new ≡ host.write_faults old
@@ -222,7 +231,7 @@ ends_unwritten host old new request story status (words two none untold adds wf 
 ends_unwritten host old new request story status (read three failed untold adds wf) is = wf
 ends_unwritten host old new request story status (memory six untold kept wf rf) is = wf
 ends_unwritten host old new request story status (done d text answer adds wf rf) is = wf
-ends_unwritten host old new request story status (cut five rose front) is = absurd (is five)
+ends_unwritten host old new request story status (cut five rose quiet front) is = absurd (is five)
 
 pub ends_unread : {S : Type 0} (host : Ghosts S) (old new : S) (request : Option Request) (story : Option VersionStory) (status : ℕ) → Ends host old new request story status
     → status ≢ 3 → status ≢ 5 → host.read_faults new ≡ host.read_faults old
@@ -230,7 +239,7 @@ ends_unread host old new request story status (words two none untold adds wf rf)
 ends_unread host old new request story status (read three failed untold adds wf) not_read not_cut = absurd (not_read three)
 ends_unread host old new request story status (memory six untold kept wf rf) not_read not_cut = rf
 ends_unread host old new request story status (done d text answer adds wf rf) not_read not_cut = rf
-ends_unread host old new request story status (cut five rose front) not_read not_cut = absurd (not_cut five)
+ends_unread host old new request story status (cut five rose quiet front) not_read not_cut = absurd (not_cut five)
 
 pub ends_memory : {S : Type 0} (host : Ghosts S) (old new : S) (request : Option Request) (story : Option VersionStory) (status : ℕ) → Ends host old new request story status
     → status ≡ 6 → (host.written new ≡ host.written old) × (story ≡ None)
@@ -238,4 +247,12 @@ ends_memory host old new request story status (words two none untold adds wf rf)
 ends_memory host old new request story status (read three failed untold adds wf) is = absurd (grind (arith, three, is))
 ends_memory host old new request story status (memory six untold kept wf rf) is = (kept, untold)
 ends_memory host old new request story status (done d text answer adds wf rf) is = absurd (grind (arith, d, is))
-ends_memory host old new request story status (cut five rose front) is = absurd (grind (arith, five, is))
+ends_memory host old new request story status (cut five rose quiet front) is = absurd (grind (arith, five, is))
+
+pub ends_storyless : {S : Type 0} (host : Ghosts S) (old new : S) (request : Option Request) (story : Option VersionStory) (status : ℕ) → Ends host old new request story status
+    → status ≡ 5 → ReadFailed (host.file old) request (host.read_faults old) (host.read_faults new) (host.lost new) → host.read_faults old < 2 ^ 64 - 1 → story ≡ None
+ends_storyless host old new request story status (words two none untold adds wf rf) is failed few = untold
+ends_storyless host old new request story status (read three unhad untold adds wf) is failed few = untold
+ends_storyless host old new request story status (memory six untold kept wf rf) is failed few = untold
+ends_storyless host old new request story status (done d text answer adds wf rf) is failed few = absurd (grind (arith, d, is))
+ends_storyless host old new request story status (cut five rose quiet front) is failed few = quiet failed few

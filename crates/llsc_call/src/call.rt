@@ -1,5 +1,5 @@
 //! The top call: words and files in, a status and a text out.
-ghost use Rattle.std.specs.Prelude.{◌≡◌, ◌≢◌, ◌⊎◌, ℕ, List, map, string_bytes, None, Some};
+ghost use Rattle.std.specs.Prelude.{◌≡◌, ◌≢◌, ◌⊎◌, ◌-◌, ◌^◌, ◌<◌, ℕ, List, map, string_bytes, None, Some};
 ghost use Rattle.llsc_host.specs.Host.{Adds, Rose};
 ghost use Rattle.llsc_words.specs.Request.{Request, request_of, files_of};
 ghost use Rattle.llsc_host.specs.Said.{words_text, read_text};
@@ -51,6 +51,12 @@ pub fn llsc<H: Host, R: Threads + Wait + Sync>(
     ensures cut { result.status ≡ 5 → IsCut (H.file host.old) (request_of (map string_bytes words.now)) (told result.story)
         (ReadFailed (H.file host.old) (request_of (map string_bytes words.now)) (H.read_faults host.old) (H.read_faults host.new) (H.lost host.new))
         (H.written host.old) (H.written host.new) }
+
+    // Where a read of a file failed, no thread has run, whatever was written behind it. A count that stood at the end of its type
+    // doesn't tell of this call's reads.
+    ensures no_story { result.status ≡ 5
+        → ReadFailed (H.file host.old) (request_of (map string_bytes words.now)) (H.read_faults host.old) (H.read_faults host.new) (H.lost host.new)
+        → H.read_faults host.old < 2 ^ 64 - 1 → result.story ≡ None }
 
     // And each failure that the host had in this call is answered as one.
     ensures write_answered { result.status ≢ 5 → H.write_faults host.new ≡ H.write_faults host.old }

@@ -1,6 +1,6 @@
 use Rattle.std.proofs.Common.{map, string_bytes}
 use Rattle.llsc_words.specs.Request.{request_of}
-use Rattle.llsc_call.proofs.Said.{Ends, call_ends, ends_cut, ends_done, ends_memory, ends_one, ends_read, ends_refused, ends_told, ends_unread, ends_unwritten, ends_words, ends_write, sayable}
+use Rattle.llsc_call.proofs.Said.{Ends, call_ends, ends_cut, ends_done, ends_memory, ends_one, ends_read, ends_refused, ends_storyless, ends_told, ends_unread, ends_unwritten, ends_words, ends_write, sayable}
 use Rattle.llsc_call.proofs.call.llsc.Goals as goal
 
 pub say-status-requires : goal.say-status-requires
@@ -25,6 +25,7 @@ returns g c =
       read = ends_read g.H.Host old new request made.story status ends;
       write = ends_write g.H.Host old new request made.story status ends;
       cut = ends_cut g.H.Host old new request made.story status ends;
+      no_story = ends_storyless g.H.Host old new request made.story status ends;
       write_answered = ends_unwritten g.H.Host old new request made.story status ends;
       read_answered = ends_unread g.H.Host old new request made.story status ends;
       memory = ends_memory g.H.Host old new request made.story status ends;
