@@ -1,5 +1,5 @@
 //! What the program asks of the world outside: files to read and an output to write.
-ghost use Rattle.std.specs.Prelude.{◌≡◌, ◌⊎◌, ℕ, ◌<◌, ◌≤◌, List, length, Option, Some, IfOk, OnOk, OnErr, string_bytes};
+ghost use Rattle.std.specs.Prelude.{◌≡◌, ◌⊎◌, ℕ, ◌<◌, ◌≤◌, List, length, Option, Some, IfOk, OnOk, OnErr, codes, string_bytes};
 ghost use Rattle.llsc_host.specs.Host.{Adds, AddsFront, AreBytes, Rose, read_fault_name};
 
 use std::alloc::Global;
@@ -36,6 +36,15 @@ impl ReadFault {
 #[derive(Clone, Copy, Debug, PartialEq, Eq, Error)]
 #[error("the write failed")]
 pub struct Failed;
+
+impl Failed {
+    /// The fault's name.
+    pub fn name(&self) -> &str
+        ensures { result.now ≡ codes "Failed" }
+    {
+        "Failed"
+    }
+}
 
 /// The outside of the program. Two counts, of the reads and of the writes that failed, say when a
 /// failure came; each stays at 2^64 - 1 once it is there.

@@ -6,7 +6,7 @@ ghost use Rattle.history.specs.Parts.{accesses_of};
 ghost use Rattle.version_memory.specs.Memory.{pass_seen};
 ghost use Rattle.run_record.specs.Limits.{most_accesses};
 ghost use Rattle.run_merge.specs.Logs.{access_of};
-ghost use Rattle.run_merge.specs.Merge.{IsMerge};
+ghost use Rattle.run_merge.specs.Merge.{IsMerge, merge_fault_name};
 ghost use Rattle.run_merge.specs.inner.Merging.{AreLogs};
 
 use crate::filling::begun;
@@ -27,6 +27,18 @@ pub enum MergeFault {
     /// Want of memory.
     #[error("out of memory")]
     Memory,
+}
+
+impl MergeFault {
+    /// The variant's name.
+    pub fn name(&self) -> &str
+        ensures { result.now ≡ merge_fault_name self.now }
+    {
+        match self {
+            MergeFault::TooLong => "TooLong",
+            MergeFault::Memory => "Memory",
+        }
+    }
 }
 
 /// How many accesses logs count together, unless that is more than a record may have.

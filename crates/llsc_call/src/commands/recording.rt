@@ -73,7 +73,7 @@ fn told(
             let text = print(alloc, size, budget, merged).ok()?;
             Some(Outcome::Recorded { text, ends })
         }
-        Err(MergeFault::TooLong) => match refuse(alloc, "TooLong") {
+        Err(MergeFault::TooLong) => match refuse(alloc, MergeFault::TooLong.name()) {
             Refusal::Said(text) => Some(Outcome::Refused(text)),
             Refusal::Memory => None,
         },
