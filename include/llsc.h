@@ -1,10 +1,11 @@
 /* llsc.h: a memory with Arm's load-exclusive and store-exclusive, for emulators that have a CPU and lack the memory. C11 or
    C++11, x86-64 with glibc.
 
-   The threads of a guest share one memory of bytes. Each loads and stores 1, 2, 4 or 8 of them, plainly or exclusively, and all
-   that they do stands in one order. A store-exclusive succeeds only where no other thread has stored to its row since its
-   load-exclusive. A store counts even if it left the very bytes that were there: bytes that are changed and changed back deceive
-   nobody.
+   The threads of a guest share one memory of bytes. Each loads and stores 1, 2, 4 or 8 of them, plainly or exclusively. What a
+   thread has seen of all accesses is one order, which Arm's memory allows. The orders of threads that are joined are one, and so
+   are those of all threads once the memory is closed. A store-exclusive succeeds only where no other thread has stored to its row
+   since its load-exclusive. A store counts even if it left the very bytes that were there: bytes that are changed and changed back
+   deceive nobody.
    The functions are those of `libllsc_c.a`, which is proved up to these calls. `docs/EMBEDDING.md` says what that means.
 
        llsc_thread t[4] = {0};   // in C++: = {}
@@ -47,8 +48,9 @@ extern "C" {
 #define LLSC_MAX_LIMIT (UINT64_C(1) << 62)   /* writes that a class takes: 1 to 2 to the 62 */
 #define LLSC_MAX_GRANULE 8                   /* a row has 8 << granule bytes: 0 to 8 */
 
-/* What calls answer. An answer other than LLSC_DONE is a refusal: the call has then changed nothing, neither in memory nor in a
-   thread nor where its pointers lead. */
+/* What calls answer. An answer other than LLSC_DONE is a refusal: the call has then changed nothing in memory, and nothing where
+   its pointers lead. Its thread has done nothing. After LLSC_BUSY and LLSC_SPENT the thread may have seen more of what others did.
+   After any other refusal it has seen no more than before. */
 enum {
     LLSC_DONE = 0,         /* the call is done */
     LLSC_NO_THREAD = 1,    /* there is no thread: it was never opened, or is closed, ended, or taken in by another */
