@@ -5,16 +5,17 @@ use Rattle.llsc_base.specs.Sizes.{Numbers}
 use Rattle.history.specs.Operation.{load_missed, load_watched}
 use Rattle.shared_memory.specs.Seen.{IsFront, longer}
 use Rattle.memory_handle.specs.Accesses.{Makes}
-use Rattle.memory_handle.specs.Handles.{SaysAllOfThreads, handle_origin, handle_seen}
+use Rattle.memory_handle.specs.Handles.{AreAlike, SaysAllOfThreads, handle_origin, handle_seen}
 use Rattle.memory_handle.specs.Left.{IsLeft}
 use Rattle.memory_handle.specs.declared.handles.Handle.{Handle}
 
--- a struct that held a handle holds one still, to which this was done
+-- a struct that held a handle holds one still, of the same memory and with the same threads, to which this was done
 pub record Becomes (did : Handle → Handle → Type 0) (old new : Option Handle) : Type 0 where
   pub from : Handle
   pub to : Handle
   pub was : old ≡ Some from
   pub is : new ≡ Some to
+  pub alike : AreAlike from to
   pub does : did from to
 
 -- a load-exclusive was made, by which its thread holds a reservation, or none

@@ -7,15 +7,17 @@ ghost use Rattle.history.specs.Operation.{load, load_missed, load_watched};
 ghost use Rattle.history.specs.Parts.{entries_of};
 ghost use Rattle.shared_memory.specs.Seen.{IsFront, longer};
 ghost use Rattle.memory_handle.specs.Accesses.{Makes};
-ghost use Rattle.memory_handle.specs.Handles.{handle_origin, handle_seen};
+ghost use Rattle.memory_handle.specs.Handles.{AreAlike, handle_origin, handle_seen};
 ghost use Rattle.memory_handle.specs.Left.{IsLeft};
 ghost use Rattle.memory_handle.specs.declared.handles.Handle.{Handle};
 ghost use Rattle.llsc_c.specs.Threads.{Becomes, IsAsBefore, IsClosed, IsJoined, IsOpened, IsSplit, MakesLoadEx};
 
-/// A struct that held a handle holds one still, to which just that was done; one that held none has come to none, and none is left of one.
+/// A struct that held a handle holds one still, to which just that was done, of the same memory and with the same threads; one that held
+/// none has come to none, and none is left of one.
 pub fn handles_that_are_held_still()
     ensures done { (value : ℕ) (old new : Handle) → Becomes (Makes 8 4 (λ place. load place value)) (Some old) (Some new) →
         Makes 8 4 (λ place. load place value) old new }
+    ensures alike { (value : ℕ) (old new : Handle) → Becomes (Makes 8 4 (λ place. load place value)) (Some old) (Some new) → AreAlike old new }
     ensures none_before { (value : ℕ) (new : Option Handle) → ¬ Becomes (Makes 8 4 (λ place. load place value)) None new }
     ensures none_after { (value : ℕ) (old : Option Handle) → ¬ Becomes (Makes 8 4 (λ place. load place value)) old None }
 {}

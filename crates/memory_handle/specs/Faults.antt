@@ -1,8 +1,8 @@
 -- Which calls are refused, and why: the first misuse that stands against each. This project's own.
-use Rattle.std.specs.Prelude.{◌≡◌, ◌⊎◌, ℕ, Bool, Option, Some, None, ◌+◌, ◌-◌, ◌%◌, ◌^◌, ◌==◌, ◌||◌, nat_lt, if◌then◌else◌}
+use Rattle.std.specs.Prelude.{◌≡◌, ◌⊎◌, ℕ, Bool, Option, Some, None, List, codes, ◌+◌, ◌-◌, ◌%◌, ◌^◌, ◌==◌, ◌||◌, nat_lt, if◌then◌else◌}
 use Rattle.memory_handle.specs.declared.handles.Handle.{Handle}
 use Rattle.memory_handle.specs.declared.misuse.Misuse.{Misuse}
-use Rattle.memory_handle.specs.declared.misuse.Misuse.TheVariants.{Width, Alignment, Outside, Value, Several, One, Used, Busy, Spent}
+use Rattle.memory_handle.specs.declared.misuse.Misuse.TheVariants.{Width, Alignment, Outside, Value, Several, One, Used, Busy, Spent, NoMemory}
 
 -- how many bytes an access may have
 abbrev pub is_width : ℕ → Bool
@@ -42,3 +42,16 @@ pub record IsRefused (handle : Handle) (addr width value : ℕ) (misuse : Misuse
 -- what stands against a split
 abbrev pub split_fault : Handle → Option Misuse
 split_fault handle = if handle.upto - handle.first == 1 then Some One else (if handle.fresh then None else Some Used)
+
+-- a misuse's name
+abbrev pub misuse_name : Misuse → List ℕ
+misuse_name Width = codes "Width"
+misuse_name Alignment = codes "Alignment"
+misuse_name Outside = codes "Outside"
+misuse_name Value = codes "Value"
+misuse_name Several = codes "Several"
+misuse_name One = codes "One"
+misuse_name Used = codes "Used"
+misuse_name Busy = codes "Busy"
+misuse_name Spent = codes "Spent"
+misuse_name NoMemory = codes "NoMemory"

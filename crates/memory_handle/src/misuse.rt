@@ -1,4 +1,7 @@
 //! What was wrong with a call.
+ghost use Rattle.std.specs.Prelude.{◌≡◌};
+ghost use Rattle.memory_handle.specs.Faults.{misuse_name};
+
 use thiserror::Error;
 
 /// Why a call was refused.
@@ -35,4 +38,24 @@ pub enum Misuse {
     /// No memory is left; at a split, that the memory can't have another owner.
     #[error("no memory is left")]
     NoMemory,
+}
+
+impl Misuse {
+    /// The variant's name.
+    pub fn name(&self) -> &str
+        ensures { result.now ≡ misuse_name self.now }
+    {
+        match self {
+            Misuse::Width => "Width",
+            Misuse::Alignment => "Alignment",
+            Misuse::Outside => "Outside",
+            Misuse::Value => "Value",
+            Misuse::Several => "Several",
+            Misuse::One => "One",
+            Misuse::Used => "Used",
+            Misuse::Busy => "Busy",
+            Misuse::Spent => "Spent",
+            Misuse::NoMemory => "NoMemory",
+        }
+    }
 }

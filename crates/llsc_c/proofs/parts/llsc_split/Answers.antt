@@ -4,6 +4,7 @@ use Rattle.std.specs.Arc.{arc_value}
 use Rattle.memory_handle.specs.Handles.{IsUnused, handle_seen}
 use Rattle.memory_handle.specs.declared.handles.Handle.{Handle}
 use Rattle.llsc_c.proofs.Cases.{either-same, misuse-not_done, split-refused, splits-fresh}
+use Rattle.llsc_c.proofs.Same.{as_before}
 use Rattle.llsc_c.proofs.parts.llsc_split.Goals as goal
 
 pub returns-in-Ok-new-clause-split : goal.returns-in-Ok-new-clause-split
@@ -28,36 +29,24 @@ returns-in-Err-clause-split c z = absurd (misuse-not_done c.in-Err.misuse (sym c
 pub returns-in-Err-clause-wanting : goal.returns-in-Err-clause-wanting
 returns-in-Err-clause-wanting c z =
     let same = c.in-Err.ensures.refused in
-    record {
-      from = c.deref_mut.result.now;
-      to = c.split.new.self;
-      was = search rules;
-      is = search rules;
-      does = record {
-        memory = ap (λ (h : Handle). arc_value h.memory) same;
-        numbers = (ap (λ (h : Handle). h.first) same, ap (λ (h : Handle). h.upto) same);
-        seen = ap handle_seen same;
-        fresh = ap (λ (h : Handle). h.fresh) same;
-      };
-    }
+    as_before _ _ c.deref_mut.result.now c.split.new.self (search rules) (search rules) (record {
+      memory = ap (λ (h : Handle). arc_value h.memory) same;
+      numbers = (ap (λ (h : Handle). h.first) same, ap (λ (h : Handle). h.upto) same);
+      seen = ap handle_seen same;
+      fresh = ap (λ (h : Handle). h.fresh) same;
+    })
 
 pub returns-in-Err-new-clause-wanting : goal.returns-in-Err-new-clause-wanting
 returns-in-Err-new-clause-wanting c z =
     let told = c.in-Ok.ensures in
     let mine = c.deref_mut-in-Err-new.ensures.value in
     let back = c.in-Err-new.ensures.value_returned in
-    record {
-      from = c.deref_mut.result.now;
-      to = c.put_back.new.self;
-      was = search rules;
-      is = search rules;
-      does = record {
-        memory = c.put_back.ensures.memory ∙ ap (λ (h : Handle). arc_value h.memory) mine ∙ told.same.1;
-        numbers = (c.put_back.ensures.numbers.0 ∙ ap (λ (h : Handle). h.first) mine ∙ told.rest.0, c.put_back.ensures.numbers.1 ∙ ap (λ (h : Handle). h.upto) back ∙ told.last.1);
-        seen = c.put_back.ensures.seen ∙ either-same _ _ _ _ (ap handle_seen mine ∙ told.seen.1) (ap handle_seen back ∙ told.seen.0);
-        fresh = c.put_back.ensures.fresh ∙ sym (splits-fresh (c.deref_mut.result.now.upto - c.deref_mut.result.now.first == 1) c.deref_mut.result.now.fresh told.fault);
-      };
-    }
+    as_before _ _ c.deref_mut.result.now c.put_back.new.self (search rules) (search rules) (record {
+      memory = c.put_back.ensures.memory ∙ ap (λ (h : Handle). arc_value h.memory) mine ∙ told.same.1;
+      numbers = (c.put_back.ensures.numbers.0 ∙ ap (λ (h : Handle). h.first) mine ∙ told.rest.0, c.put_back.ensures.numbers.1 ∙ ap (λ (h : Handle). h.upto) back ∙ told.last.1);
+      seen = c.put_back.ensures.seen ∙ either-same _ _ _ _ (ap handle_seen mine ∙ told.seen.1) (ap handle_seen back ∙ told.seen.0);
+      fresh = c.put_back.ensures.fresh ∙ sym (splits-fresh (c.deref_mut.result.now.upto - c.deref_mut.result.now.first == 1) c.deref_mut.result.now.fresh told.fault);
+    })
 
 pub put_back-requires-clause-unused : goal.put_back-requires-clause-unused
 put_back-requires-clause-unused c = subst IsUnused (sym c.deref_mut-in-Err-new.ensures.value) c.in-Ok.ensures.unused.1

@@ -5,7 +5,7 @@ use Rattle.llsc_c.proofs.Cases.{misuse-busy, misuse-not_done, misuse-spent}
 use Rattle.llsc_c.proofs.plain.llsc_store_now.Goals as goal
 
 pub returns-in-Ok-clause-stored : goal.returns-in-Ok-clause-stored
-returns-in-Ok-clause-stored c z = record { from = c.deref_mut.result.now; to = c.store.new.self; was = search rules; is = search rules; does = search rules }
+returns-in-Ok-clause-stored c z = record { from = c.deref_mut.result.now; to = c.store.new.self; was = search rules; is = search rules; alike = search rules; does = search rules }
 
 pub returns-in-Err-clause-stored : goal.returns-in-Err-clause-stored
 returns-in-Err-clause-stored c z = absurd (misuse-not_done c.in-Err.misuse (sym c.answer_to.ensures ∙ z))
@@ -13,12 +13,12 @@ returns-in-Err-clause-stored c z = absurd (misuse-not_done c.in-Err.misuse (sym 
 pub returns-in-Err-clause-busy : goal.returns-in-Err-clause-busy
 returns-in-Err-clause-busy c z =
     let met = c.in-Err.ensures.busy (misuse-busy c.in-Err.misuse (sym c.answer_to.ensures ∙ z)) in
-    record { from = c.deref_mut.result.now; to = c.store.new.self; was = search rules; is = search rules; does = met }
+    record { from = c.deref_mut.result.now; to = c.store.new.self; was = search rules; is = search rules; alike = search rules; does = met }
 
 pub returns-in-Err-clause-spent : goal.returns-in-Err-clause-spent
 returns-in-Err-clause-spent c z =
     let found = c.in-Err.ensures.spent (misuse-spent c.in-Err.misuse (sym c.answer_to.ensures ∙ z)) in
-    record { from = c.deref_mut.result.now; to = c.store.new.self; was = search rules; is = search rules; does = found }
+    record { from = c.deref_mut.result.now; to = c.store.new.self; was = search rules; is = search rules; alike = search rules; does = found }
 
 pub returns-in-Err-clause-kept : goal.returns-in-Err-clause-kept
 returns-in-Err-clause-kept c done busy spent = elim c.in-Err.ensures.fault [
