@@ -1,3 +1,7 @@
 mod Cases
 mod Same
 pub mod Values
+mod Writes
+mod LeftBytes
+mod Done
+mod Histories

@@ -1,7 +1,7 @@
 -- What a call does with the handle that a struct of C's holds. This project's own.
-use Rattle.std.specs.Prelude.{◌≡◌, ◌⊎◌, ◌+◌, ℕ, true, false, List, [], Option, Some}
+use Rattle.std.specs.Prelude.{◌≡◌, ◌⊎◌, ◌+◌, ℕ, true, false, List, [], length, Option, Some}
 use Rattle.std.specs.Arc.{arc_value}
-use Rattle.llsc_base.specs.Sizes.{Numbers}
+use Rattle.llsc_base.specs.Sizes.{AreInRange, Numbers}
 use Rattle.history.specs.Operation.{load_missed, load_watched}
 use Rattle.shared_memory.specs.Seen.{IsFront, longer}
 use Rattle.memory_handle.specs.Accesses.{Makes}
@@ -29,11 +29,13 @@ pub record IsAsBefore (old new : Handle) : Type 0 where
   pub seen : handle_seen new ≡ handle_seen old
   pub fresh : new.fresh ≡ old.fresh
 
--- a memory was made of these numbers and bytes, and the handle has all of its threads, which begin by themselves, have seen
--- nothing and may be split
+-- a memory was made of these numbers, each in its range, and of so many bytes, and the handle has all of its threads, which begin
+-- by themselves, have seen nothing and may be split
 pub record IsOpened (size : Numbers) (bytes : List ℕ) (new : Option Handle) : Type 0 where
   pub handle : Handle
   pub is : new ≡ Some handle
+  pub range : AreInRange size
+  pub sized : length bytes ≡ size.mem
   pub origin : handle_origin handle ≡ record { size = size; first = size.threads; spare = 0; bytes = bytes; spends = true; steady = true }
   pub seen : handle_seen handle ≡ []
   pub all : (handle.first ≡ 0) × (handle.upto ≡ size.threads)

@@ -1,8 +1,8 @@
 //! Laws of what a call from C has done with the handles that structs hold, each a function of no effect whose contract is the law.
 //!
 //! Of the accesses they are about one of four bytes at address 8, which stands for any other.
-ghost use Rattle.std.specs.Prelude.{◌≡◌, ◌≤◌, ◌<◌, ◌+◌, ◌⊎◌, [], true, false, ℕ, List, Option, Some, None};
-ghost use Rattle.llsc_base.specs.Sizes.{Numbers};
+ghost use Rattle.std.specs.Prelude.{◌≡◌, ◌≤◌, ◌<◌, ◌+◌, ◌⊎◌, [], true, false, ℕ, List, length, Option, Some, None};
+ghost use Rattle.llsc_base.specs.Sizes.{AreInRange, Numbers};
 ghost use Rattle.history.specs.Operation.{load, load_missed, load_watched};
 ghost use Rattle.history.specs.Parts.{entries_of};
 ghost use Rattle.shared_memory.specs.Seen.{IsFront, longer};
@@ -28,9 +28,9 @@ pub fn load_exclusives_are_made()
         Makes 8 4 (λ place. load_watched place value) old new ⊎ Makes 8 4 (λ place. load_missed place value) old new }
 {}
 
-/// A memory that is opened has the numbers and the bytes that were given; all of its threads begin by themselves, and a class may have
-/// had all of its writes, and a store-exclusive loses to nothing but writes; the handle has all threads, which have seen nothing and may
-/// be split.
+/// A memory that is opened has the numbers and the bytes that were given, the numbers in their ranges and the bytes as many as they say.
+/// All of its threads begin by themselves, and a class may have had all of its writes, and a store-exclusive loses to nothing but writes.
+/// The handle has all threads, which have seen nothing and may be split.
 pub fn memories_that_are_opened()
     ensures numbers { (size : Numbers) (bytes : List ℕ) (handle : Handle) → IsOpened size bytes (Some handle) → (handle_origin handle).size ≡ size }
     ensures memory { (size : Numbers) (bytes : List ℕ) (handle : Handle) → IsOpened size bytes (Some handle) → (handle_origin handle).bytes ≡ bytes }
@@ -40,6 +40,7 @@ pub fn memories_that_are_opened()
         ((handle_origin handle).spends ≡ true) × ((handle_origin handle).steady ≡ true) }
     ensures all { (size : Numbers) (bytes : List ℕ) (handle : Handle) → IsOpened size bytes (Some handle) →
         (handle.first ≡ 0) × (handle.upto ≡ size.threads) × (handle_seen handle ≡ []) × (handle.fresh ≡ true) }
+    ensures range { (size : Numbers) (bytes : List ℕ) (handle : Handle) → IsOpened size bytes (Some handle) → AreInRange size × (length bytes ≡ size.mem) }
     ensures none { (size : Numbers) (bytes : List ℕ) → ¬ IsOpened size bytes None }
 {}
 

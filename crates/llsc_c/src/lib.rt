@@ -21,4 +21,5 @@ pub mod laws;
 mod opening;
 mod parts;
 mod plain;
+pub mod sequences;
 mod threads;

@@ -33,5 +33,8 @@ returns-clause-all c = λ size bytes handle opened.
     subst (λ (h : Handle). (h.first ≡ 0) × (h.upto ≡ size.threads) × (handle_seen h ≡ []) × (h.fresh ≡ true)) (same_handle handle opened.handle opened.is)
     (opened.all.0, opened.all.1, opened.seen, opened.fresh)
 
+pub returns-clause-range : goal.returns-clause-range
+returns-clause-range c = λ size bytes handle opened. (opened.range, opened.sized)
+
 pub returns-clause-none : goal.returns-clause-none
 returns-clause-none c = λ size bytes opened. let wrong : None ≡ Some opened.handle = opened.is in cc

@@ -1,6 +1,6 @@
 -- The handle of the memory that was made, whose numbers are those that were asked for.
 use Rattle.std.proofs.Common.{rules, ◌≡◌, inl, inr, true, length, ap, refl, sym, ◌∙◌}
-use Rattle.llsc_base.specs.Sizes.{Numbers}
+use Rattle.llsc_base.specs.Sizes.{Numbers, size_fault}
 use Rattle.shared_memory.specs.Origin.{Origin}
 use Rattle.llsc_c.proofs.Cases.{open-empty}
 use Rattle.llsc_c.proofs.opening.llsc_open.Goals as goal
@@ -15,6 +15,8 @@ returns-clause-opened c z =
     record {
       handle = c.in-Ok-open.handle;
       is = search rules;
+      range = ap size_fault (sym (ap (λ (s : Numbers). record s { granule = a.granule }) c.in-Ok.ensures.1)) ∙ c.in-Ok-with_granule.ensures.kinds;
+      sized = refl;
       origin = told.origin ∙ ap made same;
       seen = told.seen;
       fresh = told.fresh;
