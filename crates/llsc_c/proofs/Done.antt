@@ -51,6 +51,11 @@ stored_once t addr width value old new first seen stores =
           ∙ ap (λ (entries : List Entry). entries_of old.first entries ++ entries_of_operation old.first (store stores.place value false)) seen;
     })
 
+-- a longer history that says no more of the thread
+pub said_once : (t addr width value : ℕ) (history whole : List Entry) → entries_of t whole ≡ entries_of t history
+    → HasStoredOnce t addr width value history → HasStoredOnce t addr width value whole
+said_once t addr width value history whole same once = record { place = once.place; place_is = once.place_is; own = same ∙ once.own }
+
 -- all that it has done is a store, and a load of the same place
 pub record HasLoadedBack (t addr width value got : ℕ) (history : List Entry) : Type 0 where
   pub place : Place

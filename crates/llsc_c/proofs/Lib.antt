@@ -5,3 +5,4 @@ mod Writes
 mod LeftBytes
 mod Done
 mod Histories
+mod Halves

@@ -1,7 +1,7 @@
 //! Laws of calls from C behind each other, from a memory's opening to its end, each a function of no effect whose contract is the law.
 //!
-//! They are of any address, width and value: that a store was done says that these were right. Each asks that the bytes of the opening
-//! are bytes, which those of C always are.
+//! They are of any address, width and value: that a store was done says that these were right. Where one speaks of the bytes that are
+//! left, it asks that those of the opening are below 256. Those of C always are.
 ghost use Rattle.std.specs.Prelude.{◌≡◌, ◌<◌, ◌∷◌, [], ℕ, List, Option, All};
 ghost use Rattle.llsc_base.specs.Sizes.{Numbers};
 ghost use Rattle.history.specs.Operation.{load};
@@ -10,7 +10,7 @@ ghost use Rattle.memory_handle.specs.declared.handles.Handle.{Handle};
 ghost use Rattle.llsc_c.specs.Sequences.{AreApart, with_value};
 ghost use Rattle.llsc_c.specs.Threads.{Becomes, IsClosed, IsJoined, IsOpened, IsSplit};
 
-/// One thread has stored a value, and then loaded the same place: it got the value, and the bytes that are left are those of the opening
+/// One thread has stored a value, and then loaded the same place. It got the value, and the bytes that are left are those of the opening
 /// with the value in them.
 pub fn one_thread_that_stores_and_loads()
     ensures got { (size : Numbers) (bytes : List ℕ) (addr width value got : ℕ) (opened stored loaded : Option Handle) → size.threads ≡ 1
@@ -25,6 +25,32 @@ pub fn one_thread_that_stores_and_loads()
         → Becomes (Makes addr width (λ place. load place got)) stored loaded
         → IsClosed loaded left
         → left ≡ with_value bytes addr width value }
+{}
+
+/// Two threads were split, and each has stored a value at a place of its own, in whichever order. The bytes that are left are those of the
+/// opening with both values in them, and a thread that loads its place behind its store gets its value.
+pub fn two_threads_that_store_apart()
+    ensures left { (size : Numbers) (bytes left : List ℕ) (addr width value other_addr other_width other_value : ℕ)
+        (opened first last first_stored last_stored both : Option Handle) → size.threads ≡ 2
+        → All (λ byte. byte < 256) bytes
+        → IsOpened size bytes opened
+        → IsSplit opened first last
+        → Becomes (HasStored addr width value) first first_stored
+        → Becomes (HasStored other_addr other_width other_value) last last_stored
+        → AreApart addr width other_addr other_width
+        → IsJoined first_stored last_stored both
+        → IsClosed both left
+        → left ≡ with_value (with_value bytes addr width value) other_addr other_width other_value }
+    ensures got { (size : Numbers) (bytes : List ℕ) (addr width value got other_addr other_width other_value : ℕ)
+        (opened first last first_stored first_loaded last_stored both : Option Handle) → size.threads ≡ 2
+        → IsOpened size bytes opened
+        → IsSplit opened first last
+        → Becomes (HasStored addr width value) first first_stored
+        → Becomes (Makes addr width (λ place. load place got)) first_stored first_loaded
+        → Becomes (HasStored other_addr other_width other_value) last last_stored
+        → AreApart addr width other_addr other_width
+        → IsJoined first_loaded last_stored both
+        → got ≡ value }
 {}
 
 /// A value is put in low byte first, over as many bytes as it has, and all others are as they were.
