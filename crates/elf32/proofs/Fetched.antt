@@ -1,16 +1,16 @@
 -- The words of an assembled program, as they are fetched from its image.
-use Rattle.std.proofs.Common.{◌≡◌, ℕ, zero, suc, ◌+◌, ◌-◌, ◌*◌, ◌^◌, ◌<◌, ◌≤◌, ◌&&◌, ◌||◌, Bool, true, false, nat_le, nat_lt, if◌then◌else◌, List, [], ◌∷◌, length, take, drop, slice_index, Some, None, refl, sym, ap, ◌∙◌, arith, length-take, length-drop}
-use Rattle.std.proofs.lemmas.List.{get_or-take, get_or-drop, get_or_append_left, get_or-append_right, ext_get_or}
+use Rattle.std.proofs.Common.{◌≡◌, ℕ, zero, suc, ◌+◌, ◌-◌, ◌*◌, ◌^◌, ◌<◌, ◌≤◌, ◌&&◌, ◌||◌, Bool, true, false, nat_le, nat_lt, if◌then◌else◌, List, [], ◌∷◌, length, slice_index, Some, None, refl, ap, ◌∙◌, arith}
+use Rattle.std.proofs.lemmas.List.{get_or_append_left, get_or-append_right}
 use Rattle.std.proofs.Math.Nat.{mod-eq_of_lt}
-use Rattle.llsc_base.specs.Memory.{number_of, bytes_of, value_at}
+use Rattle.llsc_base.specs.Memory.{bytes_of, value_at}
 use Rattle.llsc_base.specs.Flat.{values_below}
 use Rattle.llsc_base.specs.Images.{runs_at, word_at}
 use Rattle.llsc_base.specs.Sizes.{Numbers}
 use Rattle.llsc_base.specs.declared.access.Size.TheVariants.{B4}
 use Rattle.llsc_base.proofs.Bytes.{length-bytes_of, number_of-bytes_of}
-use Rattle.llsc_base.proofs.Values.{length-values_below, slice_index-values_below}
 use Rattle.elf32.specs.Units.{code_bytes, unit_byte, unit_image}
 use Rattle.elf32.specs.declared.units.Unit.{Unit}
+use Rattle.elf32.proofs.FirstWords.{word-is}
 
 -- the bytes of the code are those of its words
 code-slice : (words : List ℕ) (k j : ℕ) → k < length words → j < 4
@@ -42,16 +42,9 @@ word-value : (unit : Unit) (mem k : ℕ) → k < length unit.words → 4096 + 4 
     → slice_index unit.words k < 2 ^ 32
     → value_at (values_below mem (unit_byte unit)) (record { addr = 4096 + 4 * k; size = B4 }) ≡ slice_index unit.words k
 word-value unit mem k known room small =
-    let bytes = values_below mem (unit_byte unit) in
     let word = slice_index unit.words k in
-    let long : length (take 4 (drop (4096 + 4 * k) bytes)) ≡ 4 = omega (arith, length-take 4 (drop (4096 + 4 * k) bytes), length-drop (4096 + 4 * k) bytes, length-values_below mem (unit_byte unit)) in
-    ap number_of (ext_get_or 0 (take 4 (drop (4096 + 4 * k) bytes)) (bytes_of 4 word) (long ∙ sym (length-bytes_of 4 word))
-    (λ j below.
-    let h : j < 4 = omega (arith, below, long) in
-    get_or-take 4 (drop (4096 + 4 * k) bytes) j 0 h
-    ∙ get_or-drop (4096 + 4 * k) bytes j 0
-    ∙ slice_index-values_below mem (unit_byte unit) (4096 + 4 * k + j) (omega (arith, known, room, h))
-    ∙ unit-byte unit k j known h))
+    word-is mem (unit_byte unit) (4096 + 4 * k) (bytes_of 4 word) (omega (arith, known, room)) (length-bytes_of 4 word)
+    (λ j below. unit-byte unit k j known below)
     ∙ number_of-bytes_of 4 word
     ∙ mod-eq_of_lt small
 

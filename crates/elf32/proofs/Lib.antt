@@ -7,5 +7,6 @@ pub mod Stored
 pub mod WrittenFaults
 pub mod WrittenHeaders
 pub mod WrittenImage
+pub mod FirstWords
 pub mod Fetched
 pub mod Unbarred

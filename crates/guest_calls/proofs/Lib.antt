@@ -4,7 +4,9 @@ pub mod FewAccesses
 pub mod Listed
 pub mod Written
 pub mod OwnAccesses
+pub mod PlainAccesses
 pub mod Pieces
+pub mod Protocols
 pub mod Retries
 pub mod Splits
 pub mod AskedBefore

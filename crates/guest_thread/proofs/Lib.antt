@@ -20,4 +20,5 @@ pub mod Prepared
 pub mod Going
 pub mod Answered
 pub mod Unstarted
+pub mod Unspared
 pub mod Ways

@@ -1,7 +1,7 @@
 -- What the load-exclusive that set a mark read is still what memory has there.
-use Rattle.std.proofs.Common.{◌≡◌, ℕ, ◌==◌, ◌&&◌, ◌||◌, Bool, true, false, List, [], ◌∷◌, ◌++◌, refl, sym, ap, subst, ◌∙◌, arith, append_assoc, eq-eqb, inl, inr}
+use Rattle.std.proofs.Common.{◌≡◌, ◌≢◌, ℕ, ◌==◌, ◌&&◌, ◌||◌, Bool, true, false, List, [], ◌∷◌, ◌++◌, refl, sym, ap, subst, ◌∙◌, arith, append_assoc, eq-eqb, inl, inr}
 use Rattle.std.specs.List.{filter, list_any}
-use Rattle.std.proofs.lemmas.Bool.{cases_Bool}
+use Rattle.std.proofs.lemmas.Bool.{cases_Bool, ne_eqb}
 use Rattle.std.proofs.lemmas.List.{same_from_push}
 use Rattle.std.proofs.lemmas.List.Folds.{list_any-append}
 use Rattle.llsc_base.specs.Memory.{row_of, value_at}
@@ -81,6 +81,10 @@ same_read t u place other value v same = (cc, cc)
 -- the entries of a thread that begin with one of its own
 pub own_entry : (t : ℕ) (entry : Entry) (entries : List Entry) → thread_of entry ≡ t → entries_of t (entry ∷ entries) ≡ entry ∷ entries_of t entries
 own_entry t entry entries own = rw (eq-eqb (thread_of entry) t own) refl
+
+-- and with one of another thread
+pub other_entry : (t : ℕ) (entry : Entry) (entries : List Entry) → thread_of entry ≢ t → entries_of t (entry ∷ entries) ≡ entries_of t entries
+other_entry t entry entries other = rw (ne_eqb (thread_of entry) t other) refl
 
 -- Where the last of a thread's own entries is a load-exclusive, memory holds at its place what it read.
 pub holds_last_read : (start : Monitor) (t row held : ℕ) (place : Place) (front earlier : List Entry) → HoldsWhatWasRead start front t row

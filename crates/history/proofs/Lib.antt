@@ -21,3 +21,4 @@ pub mod Held
 pub mod SumsBelow
 pub mod WritesByThread
 pub mod Additions
+pub mod Marking

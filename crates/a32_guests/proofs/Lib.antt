@@ -1,0 +1,4 @@
+pub mod Listing
+pub mod Branching
+pub mod Onward
+pub mod ThreadRuns
