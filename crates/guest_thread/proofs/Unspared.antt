@@ -1,38 +1,28 @@
 -- Where none is spare, an outcome of threads that may start others is one of threads that begin by themselves: what `Unstarted` has, the
 -- other way round.
-use Rattle.std.proofs.Common.{◌≡◌, ℕ, ◌+◌, Some, List, [], ◌∷◌, ◌++◌, length, map, take, drop, get_or, slice_get, arith, refl, sym, subst, ap, ◌∙◌, append-nil}
-use Rattle.std.specs.List.{Contains, flat_map, range_with_len}
+use Rattle.std.proofs.Common.{◌≡◌, ℕ, ◌+◌, Some, List, [], ◌∷◌, ◌++◌, length, map, take, drop, get_or, slice_get, arith, refl, sym, subst, ap, ◌∙◌}
+use Rattle.std.specs.List.{Contains, range_with_len}
 use Rattle.std.proofs.lemmas.List.{drop_more, get_or-map, length-map, take-append-drop}
 use Rattle.std.proofs.lemmas.List.FromFn.{get_or-range_with_len, length-range_with_len}
 use Rattle.std.proofs.lemmas.Option.{get_or_from_slice_get, slice_get_within}
 use Rattle.llsc_base.specs.Images.{Program}
 use Rattle.llsc_base.specs.Sizes.{Numbers}
 use Rattle.history.specs.Started.{AreBorn, MayStand}
-use Rattle.history.specs.Starts.{Started}
 use Rattle.history.specs.declared.entry.Entry.{Entry}
 use Rattle.history.specs.declared.entry.Entry.TheVariants.{Start}
 use Rattle.guest_calls.specs.Pairs.{pairs_of}
 use Rattle.guest_calls.specs.Run.{EndsOn}
 use Rattle.guest_core.specs.Machine.{InstructionSet, MachineOf}
-use Rattle.guest_thread.specs.Begun.{BeginsAs, begun_in, by_itself, by_start, children_of}
+use Rattle.guest_thread.specs.Begun.{BeginsAs, by_itself, by_start}
 use Rattle.guest_thread.specs.BegunOutcome.{IsBegunEnd, IsOutcomeFrom}
 use Rattle.guest_thread.specs.Outcome.{IsEndOn, IsOutcome}
 use Rattle.guest_thread.specs.Start.{thread_start}
 use Rattle.guest_thread.specs.declared.ends.GuestEnd.{GuestEnd}
 use Rattle.guest_thread.proofs.StockRun.{stockless_run}
-use Rattle.guest_thread.proofs.Unstarted.{none_started}
+use Rattle.guest_thread.proofs.Unstarted.{first_begun}
 
 module _ {I S : Type 0} (set : InstructionSet I S) where
   -- ---- nobody is started
-
-  no_children : (first : ℕ) (history : List Entry) (ts : List ℕ) → AreBorn first 0 history → flat_map (λ t. children_of t history) ts ≡ []
-  no_children first history [] born = refl
-  no_children first history (t ∷ ts) born =
-      ap (λ (ss : List Started). map (λ s. s.child) ss ++ flat_map (λ u. children_of u history) ts) (none_started set first t history born) ∙ no_children first history ts born
-
-  first_begun : (first : ℕ) (history : List Entry) → AreBorn first 0 history → begun_in first history ≡ range_with_len 0 first
-  first_begun first history born =
-      ap (λ (us : List ℕ). range_with_len 0 first ++ us) (no_children first history (range_with_len 0 first) born) ∙ append-nil (range_with_len 0 first)
 
   not_started : (first starter child entry arg : ℕ) (history : List Entry) → AreBorn first 0 history → Contains history (Start starter child entry arg) → ⊥
   not_started first starter child entry arg history born there =
@@ -80,7 +70,7 @@ module _ {I S : Type 0} (set : InstructionSet I S) where
   pub outcome_unspared : (program : Program) (size : Numbers) (budget : ℕ) (history : List Entry) (ends : List GuestEnd)
       → IsOutcomeFrom set program size size.threads 0 budget history ends → IsOutcome set program size budget history ends
   outcome_unspared program size budget history ends is =
-      let all : map (λ end. end.thread) ends ≡ range_with_len 0 size.threads = is.ends.threads ∙ first_begun size.threads history is.born in
+      let all : map (λ end. end.thread) ends ≡ range_with_len 0 size.threads = is.ends.threads ∙ first_begun set size.threads history is.born in
       let many : length ends ≡ size.threads =
       sym (length-map ends (λ (end : GuestEnd). end.thread)) ∙ ap length all ∙ length-range_with_len 0 size.threads in
       record {

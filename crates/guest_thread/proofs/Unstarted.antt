@@ -58,7 +58,7 @@ module _ {I S : Type 0} (set : InstructionSet I S) where
   no_children first history (t ∷ ts) born =
       ap (λ (ss : List Started). map (λ s. s.child) ss ++ flat_map (λ u. children_of u history) ts) (none_started first t history born) ∙ no_children first history ts born
 
-  first_begun : (first : ℕ) (history : List Entry) → AreBorn first 0 history → begun_in first history ≡ range_with_len 0 first
+  pub first_begun : (first : ℕ) (history : List Entry) → AreBorn first 0 history → begun_in first history ≡ range_with_len 0 first
   first_begun first history born =
       ap (λ (us : List ℕ). range_with_len 0 first ++ us) (no_children first history (range_with_len 0 first) born) ∙ append-nil (range_with_len 0 first)
 
