@@ -29,8 +29,8 @@ pub record IsAsBefore (old new : Handle) : Type 0 where
   pub seen : handle_seen new ≡ handle_seen old
   pub fresh : new.fresh ≡ old.fresh
 
--- a memory was made of these numbers, each in its range, and of so many bytes, and the handle has all of its threads, which begin
--- by themselves, have seen nothing and may be split
+-- a memory was made of these numbers, which are in their ranges, and of these bytes, as many as they say; the handle has all of
+-- its threads, which begin by themselves, have seen nothing and may be split
 pub record IsOpened (size : Numbers) (bytes : List ℕ) (new : Option Handle) : Type 0 where
   pub handle : Handle
   pub is : new ≡ Some handle

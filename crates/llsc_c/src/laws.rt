@@ -12,7 +12,7 @@ ghost use Rattle.memory_handle.specs.Left.{IsLeft};
 ghost use Rattle.memory_handle.specs.declared.handles.Handle.{Handle};
 ghost use Rattle.llsc_c.specs.Threads.{Becomes, IsAsBefore, IsClosed, IsJoined, IsOpened, IsSplit, MakesLoadEx};
 
-/// A struct that held a handle holds one still, to which just that was done, of the same memory and with the same threads; one that held
+/// A struct that held a handle holds one still, of the same memory and with the same threads, to which just that was done. One that held
 /// none has come to none, and none is left of one.
 pub fn handles_that_are_held_still()
     ensures done { (value : ℕ) (old new : Handle) → Becomes (Makes 8 4 (λ place. load place value)) (Some old) (Some new) →
@@ -28,9 +28,9 @@ pub fn load_exclusives_are_made()
         Makes 8 4 (λ place. load_watched place value) old new ⊎ Makes 8 4 (λ place. load_missed place value) old new }
 {}
 
-/// A memory that is opened has the numbers and the bytes that were given, the numbers in their ranges and the bytes as many as they say.
-/// All of its threads begin by themselves, and a class may have had all of its writes, and a store-exclusive loses to nothing but writes.
-/// The handle has all threads, which have seen nothing and may be split.
+/// A memory that is opened has the numbers and the bytes that were given. The numbers are in their ranges, and the bytes are as many as
+/// they say. All of its threads begin by themselves, and a class may have had all of its writes, and a store-exclusive loses to nothing
+/// but writes. The handle has all threads, which have seen nothing and may be split.
 pub fn memories_that_are_opened()
     ensures numbers { (size : Numbers) (bytes : List ℕ) (handle : Handle) → IsOpened size bytes (Some handle) → (handle_origin handle).size ≡ size }
     ensures memory { (size : Numbers) (bytes : List ℕ) (handle : Handle) → IsOpened size bytes (Some handle) → (handle_origin handle).bytes ≡ bytes }

@@ -28,7 +28,7 @@ pub fn one_thread_that_stores_and_loads()
 {}
 
 /// Two threads were split, and each has stored a value at a place of its own, in whichever order. The bytes that are left are those of the
-/// opening with both values in them, and a thread that loads its place behind its store gets its value.
+/// opening with both values in them. A thread that loads its place behind its store gets its value.
 pub fn two_threads_that_store_apart()
     ensures left { (size : Numbers) (bytes left : List ℕ) (addr width value other_addr other_width other_value : ℕ)
         (opened first last first_stored last_stored both : Option Handle) → size.threads ≡ 2
