@@ -5,14 +5,14 @@
 //! to the first one; each goes to a host thread, and the memory is shared by reference. At the end [`SharedMemory::join`] puts
 //! both numbers into one pass again, with which the memory can be closed.
 //!
-//! What the memory promises: all accesses stand in one history, legal by Arm's memory and monitors, of which a pass has seen a
-//! front. What a call adds to that is the thread's own operation, once, and entries of other threads. So the contracts say what
-//! each thread has done by what its pass has seen: [`add_one`] adds one more addition to the thread's accesses (`HasAdded`,
-//! `specs/inner/Counting`), [`add_all`] makes them [`ROUNDS`], and both threads' stand in the history with which memory is closed. A
-//! store-exclusive that succeeds finds in memory what the load-exclusive before it read, whatever came in between: a law of every
-//! legal history. So no addition is lost, and that [`count`] gives 2000 is proved (`proofs/Sums`, by `Additions` of `history`), for
-//! every order in which the two threads' accesses may come. Nobody promises that a loop of exclusive accesses ends, so that it is
-//! one by `rt.forever()`, which a bound `Wait` allows.
+//! What the memory promises: what a pass has seen is a history, legal by Arm's memory and monitors, and of two passes that are
+//! joined the one has seen a front of what the other has. What a call adds is the thread's own operation, once, and entries of
+//! other threads. So the contracts say what each thread has done by what its pass has seen: [`add_one`] adds one more addition to
+//! the thread's accesses (`HasAdded`, `specs/inner/Counting`), [`add_all`] makes them [`ROUNDS`], and both threads' stand in the
+//! history with which memory is closed. A store-exclusive that succeeds finds in memory what the load-exclusive before it read,
+//! whatever came in between: a law of every legal history. So no addition is lost, and that [`count`] gives 2000 is proved
+//! (`proofs/Sums`, by `Additions` of `history`), for every order in which the two threads' accesses may come. Nobody promises
+//! that a loop of exclusive accesses ends, so that it is one by `rt.forever()`, which a bound `Wait` allows.
 ghost use Rattle.std.specs.Prelude.{◌≡◌, ◌+◌, ◌<◌, ℕ, List, [], IfOk, nat_lt};
 ghost use Rattle.history.specs.declared.entry.Entry.{Entry};
 ghost use Rattle.shared_memory.specs.Origin.{Origin};

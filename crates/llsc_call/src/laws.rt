@@ -111,7 +111,7 @@ pub fn records_have_one_history()
 {}
 
 /// A merge of a legal history of a program's threads is a good record, where none of them was stopped at a store since a class of rows
-/// had had all of its writes: so `check` says `good` of what `record` printed.
+/// had had all of its writes.
 pub fn merges_are_good()
     ensures { (program : Program) (size : Numbers) (budget : ℕ) (history : List Entry) (ends : List GuestEnd) (merged : List Access) →
         IsLegal size program.bytes history → AreEndsOn a32 program size budget history ends →

@@ -7,7 +7,7 @@
 //! handle of all threads, the bytes that are left.
 //!
 //! Widths, addresses, values and whether a handle may be split are tested at run time: a call that is refused says by a [`Misuse`]
-//! what was wrong, and has changed nothing. `specs/Faults` says when each comes, `specs/Accesses` what has come of an access that
+//! what was wrong, and has changed nothing; only a store that memory refused may have seen what others did. `specs/Faults` says when each comes, `specs/Accesses` what has come of an access that
 //! was made, `specs/Handles` what a handle holds, and `specs/Left` what is left at the end. The [`laws`] say it of one access in the
 //! history's entries.
 #![tactic(auto)]

@@ -40,8 +40,9 @@ impl Spent {
 
 /// A memory that threads share while they run on host threads.
 ///
-/// Its accesses make one history, legal by Arm's memory and monitors (DDI 0406C A3.4), and a pass of the memory has seen a
-/// front of it. Each access takes a pass that holds the number alone of a thread that may act: one that begins by itself, or that
+/// What a pass of the memory has seen is a history of accesses, legal by Arm's memory and monitors (DDI 0406C A3.4). Of what two
+/// passes have seen the one is a front of the other, as [`join`](SharedMemory::join) says; at [`close`](SharedMemory::close) one
+/// pass has seen the whole. Each access takes a pass that holds the number alone of a thread that may act: one that begins by itself, or that
 /// was started in what the pass has seen. What it adds to what the pass has seen is the access's own operation, in full, and
 /// entries of other threads between.
 pub trait SharedMemory: Sync + Drop {
