@@ -1,6 +1,6 @@
 -- A thread that has not begun has no entries.
-use Rattle.std.proofs.Common.{◌≡◌, ◌⊎◌, ◌<◌, ◌||◌, ℕ, Bool, true, false, Contains, List, [], ◌∷◌, ◌++◌, map, nat_eq, ⊎_elim, inl, inr, refl, sym, ap, subst, ◌∙◌, zero-add, eq-eqb, arith}
-use Rattle.std.specs.List.{flat_map, list_any, range_with_len}
+use Rattle.std.proofs.Common.{◌≡◌, ◌⊎◌, ◌<◌, ◌||◌, ℕ, Bool, true, Contains, List, [], ◌∷◌, ◌++◌, map, nat_eq, ⊎_elim, inl, inr, refl, sym, ap, subst, ◌∙◌, zero-add, eq-eqb, arith}
+use Rattle.std.specs.List.{flat_map, range_with_len}
 use Rattle.std.proofs.lemmas.Bool.{cases_Bool, cases_eq, eqb-true}
 use Rattle.std.proofs.lemmas.List.{map-append}
 use Rattle.std.proofs.lemmas.Map.Made.{Contains-tail}

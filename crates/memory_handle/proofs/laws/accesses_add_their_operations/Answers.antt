@@ -1,4 +1,4 @@
-use Rattle.std.proofs.Common.{◌≡◌, ℕ, true, false, subst}
+use Rattle.std.proofs.Common.{◌≡◌, true, false, subst}
 use Rattle.llsc_base.specs.declared.access.Place.{Place}
 use Rattle.history.specs.Operation.{Operation, entries_of_operation, fail, load, load_missed, load_watched, store}
 use Rattle.history.specs.Worked.{word}
