@@ -18,8 +18,8 @@ use Rattle.a32_instr.specs.Shift.{shifted_left, shifted_right, turned}
 use Rattle.a32_instr.specs.Sum.{sum_of}
 use Rattle.elf32.proofs.Unbarred.{unbarred}
 use Rattle.guest_calls.specs.Run.{Pair}
-use Rattle.counter_runs.proofs.Branching.{beq-falls, bne-falls, bne-jumps, other_clears, zero_sets}
-use Rattle.counter_runs.proofs.Onward.{calls_exit, does, tries}
+use Rattle.a32_guests.proofs.Branching.{beq-falls, bne-falls, bne-jumps, other_clears, zero_sets}
+use Rattle.a32_guests.proofs.Onward.{calls_exit, does, in_full, tries_freely}
 use Rattle.guest_gen.specs.Counters.{counter_at, counter_place, counter_unit, high_half, low_half}
 use Rattle.guest_gen.specs.Namings.{drawn_after, first_draw, named_by}
 use Rattle.counter_runs.specs.Tries.{one_more}
@@ -27,13 +27,17 @@ use Rattle.counter_runs.proofs.States.{CounterGuest, From, at, looped_at, no_fla
 
 -- ---- from the start to the loop
 
-begun : (g : CounterGuest) (pairs : List Pair) → From g (state_at g 4096 no_flags 0 0 0 0 0 0 0 0) pairs
-    → From g (looped_at g 4136 no_flags ((high_half (g.seed % 2 ^ 32) * 65536 + low_half (g.seed % 2 ^ 32) % 65536 + g.t + 0) % 2 ^ 32) (high_half g.rounds * 65536 + low_half g.rounds % 65536) 0 0 0) pairs
+pub to_loop : (g : CounterGuest) (pairs : List Pair) → From g (state_at g 4096 no_flags 0 0 0 0 0 0 0 0) pairs
+    → From g (looped_at g 4136 no_flags (first_draw g.seed g.t) g.rounds 0 0 0) pairs
 unfolding passes sum_of turned
-begun g pairs on =
+to_loop g pairs on =
     let z = g.seed % 2 ^ 32 in
     let p = program_of g in
-    does p (Exit 0) _ _ (Alu 14 Mov false 9 0 (Imm 10 2)) pairs (at g 9 _ refl) refl
+    let draw : (high_half z * 65536 + low_half z % 65536 + g.t + 0) % 2 ^ 32 ≡ first_draw g.seed g.t = omega arith in
+    let rounds : high_half g.rounds * 65536 + low_half g.rounds % 65536 ≡ g.rounds = omega arith in
+    subst (λ (x : ℕ). From g (looped_at g 4136 no_flags x g.rounds 0 0 0) pairs) draw
+    (subst (λ (q : ℕ). From g (looped_at g 4136 no_flags ((high_half z * 65536 + low_half z % 65536 + g.t + 0) % 2 ^ 32) q 0 0 0) pairs) rounds
+    (does p (Exit 0) _ _ (Alu 14 Mov false 9 0 (Imm 10 2)) pairs (at g 9 _ refl) refl
     (does p (Exit 0) _ _ (Movt 14 8 (high_half g.rounds)) pairs (at g 8 _ refl) refl
     (does p (Exit 0) _ _ (Movw 14 8 (low_half g.rounds)) pairs (at g 7 _ refl) refl
     (does p (Exit 0) _ _ (Movt 14 6 15470) pairs (at g 6 _ refl) refl
@@ -42,17 +46,7 @@ begun g pairs on =
     (does p (Exit 0) _ _ (Movw 14 5 26125) pairs (at g 3 _ refl) refl
     (does p (Exit 0) _ _ (Alu 14 Add false 4 4 (ByNum 0 Lsl 0)) pairs (at g 2 _ refl) refl
     (does p (Exit 0) _ _ (Movt 14 4 (high_half z)) pairs (at g 1 _ refl) refl
-    (does p (Exit 0) (state_at g 4096 no_flags 0 0 0 0 0 0 0 0) _ (Movw 14 4 (low_half z)) pairs (at g 0 _ refl) refl on)))))))))
-
-pub to_loop : (g : CounterGuest) (pairs : List Pair) → From g (state_at g 4096 no_flags 0 0 0 0 0 0 0 0) pairs
-    → From g (looped_at g 4136 no_flags (first_draw g.seed g.t) g.rounds 0 0 0) pairs
-to_loop g pairs on =
-    let z = g.seed % 2 ^ 32 in
-    let draw : (high_half z * 65536 + low_half z % 65536 + g.t + 0) % 2 ^ 32 ≡ first_draw g.seed g.t = omega arith in
-    let rounds : high_half g.rounds * 65536 + low_half g.rounds % 65536 ≡ g.rounds = omega arith in
-    subst (λ (x : ℕ). From g (looped_at g 4136 no_flags x g.rounds 0 0 0) pairs) draw
-    (subst (λ (q : ℕ). From g (looped_at g 4136 no_flags ((high_half z * 65536 + low_half z % 65536 + g.t + 0) % 2 ^ 32) q 0 0 0) pairs) rounds
-    (begun g pairs on))
+    (does p (Exit 0) (state_at g 4096 no_flags 0 0 0 0 0 0 0 0) _ (Movw 14 4 (low_half z)) pairs (at g 0 _ refl) refl on)))))))))))
 
 -- ---- the end
 
@@ -61,11 +55,12 @@ pub left : (g : CounterGuest) (flags : Flags) (x r10 r11 r12 : ℕ) (pairs : Lis
 unfolding passes sum_of turned target_of
 left g flags x r10 r11 r12 pairs on =
     let p = program_of g in
-    calls_exit p (Exit 0) _ (Svc 14 0) (record { imm = 0; number = 1; a = 0; b = g.n; c = 0 }) 0 pairs (at g 24 _ refl) refl (λ written. refl)
+    let stopped = calls_exit p (Exit 0) _ (Svc 14 0) (record { imm = 0; number = 1; a = 0; b = g.n; c = 0 }) 0 pairs (at g 24 _ refl) refl (λ written. refl)
     (does p (Exit 0) _ _ (Alu 14 Mov false 7 0 (Imm 0 1)) pairs (at g 23 _ refl) refl
     (does p (Exit 0) _ _ (Alu 14 Mov false 0 0 (Imm 0 0)) pairs (at g 22 _ refl) refl
     (does p (Exit 0) _ _ (Branch 0 false (pos 9)) pairs (at g 11 _ refl) refl
-    (does p (Exit 0) (looped_at g 4136 flags x 0 r10 r11 r12) _ (Alu 14 Cmp true 0 8 (Imm 0 0)) pairs (at g 10 _ refl) refl on))))
+    (does p (Exit 0) (looped_at g 4136 flags x 0 r10 r11 r12) _ (Alu 14 Cmp true 0 8 (Imm 0 0)) pairs (at g 10 _ refl) refl on)))) in
+    stopped.none
 
 -- ---- the draw of a round
 
@@ -85,27 +80,21 @@ multiplied x = (x * 1664525 + 1013904223) % 2 ^ 32
 abbrev address : ℕ → ℕ
 address y = (8192 + y / 2 ^ 28 * 2 ^ 3 % 2 ^ 32 + 0) % 2 ^ 32
 
-drawn : (g : CounterGuest) (flags : Flags) (x q r10 r11 r12 : ℕ) (pairs : List Pair) → suc q < 2 ^ 32
-    → From g (looped_at g 4136 flags x (suc q) r10 r11 r12) pairs
-    → From g (looped_at g 4156 (compared (suc q)) (multiplied x) (suc q) (address (multiplied x)) r11 r12) pairs
-unfolding passes sum_of turned shifted_left shifted_right
-drawn g flags x q r10 r11 r12 pairs few on =
-    let p = program_of g in
-    does p (Exit 0) _ _ (Alu 14 Add false 10 9 (ByNum 10 Lsl 3)) pairs (at g 14 _ refl) refl
-    (does p (Exit 0) _ _ (Alu 14 Mov false 10 0 (ByNum 4 Lsr 28)) pairs (at g 13 _ refl) refl
-    (does p (Exit 0) _ _ (Mla 14 false 4 4 5 6) pairs (at g 12 _ refl) refl
-    (does p (Exit 0) _ _ (Branch 0 false (pos 9)) pairs (at g 11 _ refl) (beq-falls p _ (pos 9) (other_clears (suc q) (λ same. absurd (omega (arith, same))) few))
-    (does p (Exit 0) (looped_at g 4136 flags x (suc q) r10 r11 r12) _ (Alu 14 Cmp true 0 8 (Imm 0 0)) pairs (at g 10 _ refl) refl on))))
-
 pub to_try : (g : CounterGuest) (flags : Flags) (x q r10 r11 r12 : ℕ) (pairs : List Pair) → suc q < 2 ^ 32
     → From g (looped_at g 4136 flags x (suc q) r10 r11 r12) pairs
     → From g (looped_at g 4156 (compared (suc q)) (drawn_after x) (suc q) (counter_at (named_by (drawn_after x))) r11 r12) pairs
+unfolding passes sum_of turned shifted_left shifted_right
 to_try g flags x q r10 r11 r12 pairs few on =
+    let p = program_of g in
     let same : multiplied x ≡ drawn_after x = omega arith in
-    let at : address (drawn_after x) ≡ counter_at (named_by (drawn_after x)) = omega arith in
-    subst (λ (a : ℕ). From g (looped_at g 4156 (compared (suc q)) (drawn_after x) (suc q) a r11 r12) pairs) at
+    let there : address (drawn_after x) ≡ counter_at (named_by (drawn_after x)) = omega arith in
+    subst (λ (a : ℕ). From g (looped_at g 4156 (compared (suc q)) (drawn_after x) (suc q) a r11 r12) pairs) there
     (subst (λ (y : ℕ). From g (looped_at g 4156 (compared (suc q)) y (suc q) (address y) r11 r12) pairs) same
-    (drawn g flags x q r10 r11 r12 pairs few on))
+    (does p (Exit 0) _ _ (Alu 14 Add false 10 9 (ByNum 10 Lsl 3)) pairs (at g 14 _ refl) refl
+    (does p (Exit 0) _ _ (Alu 14 Mov false 10 0 (ByNum 4 Lsr 28)) pairs (at g 13 _ refl) refl
+    (does p (Exit 0) _ _ (Mla 14 false 4 4 5 6) pairs (at g 12 _ refl) refl
+    (does p (Exit 0) _ _ (Branch 0 false (pos 9)) pairs (at g 11 _ refl) (beq-falls p _ (pos 9) (other_clears (suc q) (λ none. absurd (omega (arith, none))) few))
+    (does p (Exit 0) (looped_at g 4136 flags x (suc q) r10 r11 r12) _ (Alu 14 Cmp true 0 8 (Imm 0 0)) pairs (at g 10 _ refl) refl on))))))
 
 -- ---- a try
 
@@ -129,11 +118,11 @@ pub loaded : (g : CounterGuest) (flags : Flags) (x left index r11 r12 : ℕ) (pa
 unfolding passes sum_of turned
 loaded g flags x left index r11 r12 pairs known on =
     let p = program_of g in
-    let loads = tries p (Exit 0) (looped_at g 4156 flags x left (counter_at index) r11 r12)
+    let loads = in_full 0 pairs (tries_freely p (Exit 0) (looped_at g 4156 flags x left (counter_at index) r11 r12)
     (λ v. looped_at g 4160 flags x left (counter_at index) (v % 2 ^ 32) r12)
     (LoadEx 14 B4 10 11) (ask.LoadEx (counter_place index)) pairs (at g 15 _ refl)
     (ap (λ b. asks_unless b (counter_at index) (ask.LoadEx (counter_place index))) (free g index false known))
-    (λ reply. refl) on in
+    (λ reply. refl) on) in
     record {
       value = loads.reply;
       rest = loads.rest;
@@ -163,11 +152,11 @@ pub stored_so : (g : CounterGuest) (flags : Flags) (x left index value r12 : ℕ
 unfolding passes sum_of turned
 stored_so g flags x left index value r12 pairs known on =
     let p = program_of g in
-    let stores = tries p (Exit 0) (looped_at g 4164 flags x left (counter_at index) value r12)
+    let stores = in_full 0 pairs (tries_freely p (Exit 0) (looped_at g 4164 flags x left (counter_at index) value r12)
     (λ r. looped_at g 4168 flags x left (counter_at index) value (r % 2 ^ 32))
     (StoreEx 14 B4 10 12 11) (ask.StoreEx (counter_place index) value) pairs (at g 17 _ refl)
     (ap (λ b. asks_unless b (counter_at index) (ask.StoreEx (counter_place index) value)) (free g index true known))
-    (λ reply. refl) on in
+    (λ reply. refl) on) in
     record {
       reply = stores.reply;
       rest = stores.rest;

@@ -1,11 +1,12 @@
 -- What the counters hold where all threads of the counter guest have left.
-use Rattle.std.proofs.Common.{◌≡◌, ℕ, zero, suc, ◌+◌, ◌*◌, ◌^◌, ◌<◌, ◌≤◌, ◌==◌, ◌&&◌, Bool, true, false, nat_le, nat_lt, if◌then◌else◌, List, length, replicate, take, drop, refl, sym, ap, ◌∙◌, subst, arith, length-take, length-drop, suc-mul, mul-le-mul}
-use Rattle.std.proofs.lemmas.List.{ext_get_or, get_or-drop, get_or-replicate, get_or-take, length-replicate}
+use Rattle.std.proofs.Common.{◌≡◌, ℕ, zero, suc, ◌+◌, ◌*◌, ◌^◌, ◌<◌, ◌≤◌, ◌==◌, ◌&&◌, Bool, true, false, nat_le, nat_lt, if◌then◌else◌, List, replicate, refl, sym, ap, ◌∙◌, subst, arith, suc-mul, mul-le-mul}
+use Rattle.std.proofs.lemmas.List.{get_or-replicate, length-replicate}
 use Rattle.llsc_base.specs.Memory.{number_of, value_at}
 use Rattle.llsc_base.specs.Flat.{values_below}
 use Rattle.llsc_base.specs.Sizes.{Numbers, room_of}
-use Rattle.llsc_base.proofs.Values.{length-values_below, slice_index-values_below}
+use Rattle.llsc_base.proofs.Values.{length-values_below}
 use Rattle.elf32.specs.Units.{unit_byte}
+use Rattle.elf32.proofs.FirstWords.{word-is}
 use Rattle.guest_gen.specs.Counters.{AreInRange, counter_at, counter_image, counter_place, counter_unit}
 use Rattle.history.specs.Monitor.{at_rest_by, monitor_after}
 use Rattle.history.specs.Parts.{accesses_of, entries_of}
@@ -18,12 +19,12 @@ use Rattle.guest_thread.specs.Start.{thread_start}
 use Rattle.guest_thread.specs.declared.ends.GuestEnd.{GuestEnd}
 use Rattle.guest_gen.specs.Namings.{first_draw, drawn_after, named_by, named_in, namings_in, namings_of, one_at}
 use Rattle.counter_runs.specs.Tries.{AreTries}
-use Rattle.counter_runs.proofs.Onward.{RunsOn, exits_on}
+use Rattle.a32_guests.proofs.Onward.{RunsOn, runs_on}
 use Rattle.guest_calls.proofs.OwnAccesses.{own_accesses}
 use Rattle.history.proofs.Additions.{AreAdditions, AreCounted, additions-times, holds_writes, is_at, own_first}
 use Rattle.history.proofs.SumsBelow.{sum_below, sum_below-same}
 use Rattle.history.proofs.WritesByThread.{writes_by_threads, writes_of}
-use Rattle.counter_runs.proofs.LeftRuns.{left_run}
+use Rattle.a32_guests.proofs.ThreadRuns.{left_run}
 use Rattle.counter_runs.proofs.Rounds.{starts_so}
 use Rattle.counter_runs.proofs.States.{CounterGuest}
 use Rattle.counter_runs.proofs.Stores.{stores_of}
@@ -43,17 +44,8 @@ empty-byte seed rounds addr from = no_byte (nat_le 4096 addr && nat_lt addr 4196
 first_value : (seed rounds mem index : ℕ) → 8320 ≤ mem → index < 16 → value_at (values_below mem (unit_byte (counter_unit seed rounds))) (counter_place index) ≡ 0
 unfolding number_of
 first_value seed rounds mem index room known =
-    let f = unit_byte (counter_unit seed rounds) in
-    let bytes = values_below mem f in
-    let long : length (take 4 (drop (counter_at index) bytes)) ≡ 4 = omega (arith, room, known, length-take 4 (drop (counter_at index) bytes), length-drop (counter_at index) bytes, length-values_below mem f) in
-    ap number_of (ext_get_or 0 (take 4 (drop (counter_at index) bytes)) (replicate 4 0) long
-    (λ j below.
-    let h : j < 4 = omega (arith, below, long) in
-    get_or-take 4 (drop (counter_at index) bytes) j 0 h
-    ∙ get_or-drop (counter_at index) bytes j 0
-    ∙ slice_index-values_below mem f (counter_at index + j) (omega (arith, room, known, h))
-    ∙ empty-byte seed rounds (counter_at index + j) (omega arith)
-    ∙ sym (get_or-replicate 4 j 0 0 h)))
+    word-is mem (unit_byte (counter_unit seed rounds)) (counter_at index) (replicate 4 0) (omega (arith, room, known)) refl
+    (λ j below. empty-byte seed rounds (counter_at index + j) (omega arith) ∙ sym (get_or-replicate 4 j 0 0 below))
 
 -- ---- each thread's run
 
@@ -72,7 +64,7 @@ pub tries_of_run : (seed rounds budget t steps : ℕ) (size : Numbers) (pairs : 
 tries_of_run seed rounds budget t steps size pairs output room few ends =
     let program = counter_image seed rounds size in
     tries_from_start seed rounds size t pairs room (omega (arith, few))
-    (exits_on program budget (thread_start a32 program size size.threads t) pairs (Exit 0) 0 steps output refl ends)
+    (runs_on program budget (thread_start a32 program size size.threads t) pairs (Exit 0) steps output ends)
 
 -- the accesses of each thread
 own_stores : (seed rounds budget : ℕ) (size : Numbers) (history : List Entry) (ends : List GuestEnd) → 65536 ≤ size.mem → rounds < 2 ^ 32

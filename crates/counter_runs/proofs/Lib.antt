@@ -1,8 +1,4 @@
-pub mod Listing
 pub mod Words
-pub mod Onward
-pub mod Branching
-pub mod LeftRuns
 pub mod States
 pub mod Blocks
 pub mod Rounds

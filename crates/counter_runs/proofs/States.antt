@@ -9,7 +9,7 @@ use Rattle.a32_instr.specs.State.{State}
 use Rattle.guest_core.specs.Machine.{between}
 use Rattle.a32_step.specs.Machine.{instr_at}
 use Rattle.guest_calls.specs.Run.{Pair}
-use Rattle.counter_runs.proofs.Onward.{RunsOn}
+use Rattle.a32_guests.proofs.Onward.{RunsOn}
 use Rattle.guest_gen.specs.Counters.{counter_image}
 use Rattle.counter_runs.proofs.Words.{counter_instr_at, counter_instrs}
 

@@ -12,7 +12,7 @@ use Rattle.a32_instr.specs.declared.instructions.ShiftKind.TheVariants.{Lsl, Lsr
 use Rattle.a32_instr.proofs.WideMoves.{movt_word, movw_word}
 use Rattle.a32_step.specs.Machine.{instr_at}
 use Rattle.guest_gen.specs.Counters.{counter_image, counter_unit, counter_words, high_half, low_half}
-use Rattle.counter_runs.proofs.Listing.{Mean, none, word, instr_listed}
+use Rattle.a32_guests.proofs.Listing.{Mean, none, word, instr_listed}
 
 -- the counter guest as instructions, of so many rounds, where the draws begin at this number
 abbrev pub counter_instrs : (start rounds : ℕ) → List Instr

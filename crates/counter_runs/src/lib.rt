@@ -2,9 +2,7 @@
 //!
 //! That each counter holds how often the threads name it is a law of every history ([`laws`]), by the run of each thread: it goes
 //! from block to block of the guest's words (`proofs/Blocks`, `Rounds`), and what it stored is in memory (`proofs/Stores`, by
-//! `history/proofs/Additions`). In `proofs/` stands, too, what serves a proof about any A32 guest: what is left of a run from its
-//! beginning on (`Onward`, `LeftRuns`), a program as the list of its instructions (`Listing`), and where branches go on
-//! (`Branching`).
+//! `history/proofs/Additions`). What serves a proof about any A32 guest stands in `a32_guests`.
 #![tactic(auto)]
 
 pub mod laws;
