@@ -2,7 +2,7 @@
 //!
 //! A program is the list of its instructions (`proofs/Listing`). What is left of a thread's run, from its beginning on, loses one
 //! instruction after another (`Onward`), by where branches go on (`Branching`). `ThreadRuns` has that of each thread of an outcome,
-//! whatever its end. Which ends cut a run off is said by [`laws`].
+//! whatever its end. [`laws`] say which ends cut a run off, and that nobody is started where no thread is spare.
 #![tactic(auto)]
 
 pub mod laws;

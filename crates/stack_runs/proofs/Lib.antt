@@ -1,0 +1,16 @@
+pub mod Words
+pub mod States
+pub mod Blocks
+pub mod Protocol
+pub mod Rounds
+pub mod Nodes
+pub mod Invariant
+pub mod Steps
+pub mod OneStep
+pub mod Matching
+pub mod EachPoint
+pub mod AtFirst
+pub mod Free
+pub mod Outcomes
+pub mod Holders
+pub mod WrittenFile

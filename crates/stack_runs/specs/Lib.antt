@@ -1,0 +1,4 @@
+pub mod Guest
+pub mod Stacks
+pub mod Hands
+pub mod Text
