@@ -8,7 +8,7 @@ abbrev pub node_lines : (left index : ℕ) → List ℕ
 node_lines zero index = []
 node_lines (suc left) index = codes ".word " ++ decimal (next_at left (suc index)) ++ codes "\n.word 0\n" ++ node_lines left (suc index)
 
--- The program's text, with so many nodes, where a thread has so many rounds.
+-- The program's text, with so many nodes, where a thread has so many rounds. `examples/proved_stack/check` reads it here.
 abbrev pub stack_text : (nodes rounds : ℕ) → List ℕ
 stack_text nodes rounds =
     codes "mov r8, #8192\n" ++
