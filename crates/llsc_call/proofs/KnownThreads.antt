@@ -1,27 +1,16 @@
 -- In a history that Arm's memory and monitors allow no access is of a thread that the machine doesn't have.
-use Rattle.std.proofs.Common.{◌≡◌, ℕ, ◌<◌, true, List, ◌∷◌, ◌++◌, None, length, ◌∙◌, subst}
+use Rattle.std.proofs.Common.{◌≡◌, ℕ, ◌<◌, List, ◌∷◌, ◌++◌, None, length, ◌∙◌, subst}
 use Rattle.std.proofs.lemmas.List.{length-replicate}
 use Rattle.llsc_base.specs.Sizes.{Numbers}
 use Rattle.history.specs.ArmLegal.{IsArmLegal, MayAccess}
-use Rattle.history.specs.Entry.{is_access, thread_of}
+use Rattle.history.specs.Entry.{thread_of}
 use Rattle.history.specs.Legal.{IsLegal}
 use Rattle.history.specs.Monitor.{Monitor, at_rest_by, monitor_after}
 use Rattle.history.specs.declared.entry.Entry.{Entry}
-use Rattle.history.specs.declared.entry.Entry.TheVariants.{Read, Write, Fail, Clear, Watch, Miss, Begin, End, Start}
 use Rattle.history.proofs.Appends.{IsArmLegal-back, IsArmLegal-from_accesses_of, IsArmLegal-front}
+use Rattle.history.proofs.Marking.{access-known}
 use Rattle.history.proofs.Marks.{IsAsLarge-monitor_after}
 use Rattle.run_merge.specs.Taking.{AreKnown}
-
-known_here : (m : Monitor) (e : Entry) → MayAccess m e → is_access e ≡ true → thread_of e < length m.marks
-known_here m (Read t p v x) may is = may.0.known
-known_here m (Write t p v x) may is = may.0.known
-known_here m (Fail t p v c) may is = may.known
-known_here m (Clear t) may is = may
-known_here m (Watch t p) may is = absurd (let f : ⊥ = cc in f)
-known_here m (Miss t p) may is = absurd (let f : ⊥ = cc in f)
-known_here m (Begin t p) may is = absurd (let f : ⊥ = cc in f)
-known_here m (End t p) may is = absurd (let f : ⊥ = cc in f)
-known_here m (Start t child entry arg) may is = absurd (let f : ⊥ = cc in f)
 
 pub legal_known : (size : Numbers) (bytes : List ℕ) (history : List Entry) → IsLegal size bytes history → AreKnown size.threads history
 legal_known size bytes history legal front e back is access =
@@ -30,4 +19,4 @@ legal_known size bytes history legal front e back is access =
     let here : MayAccess (monitor_after first front) e = (IsArmLegal-back first front (e ∷ back) whole).0 in
     let many : length (monitor_after first front).marks ≡ size.threads =
     (IsAsLarge-monitor_after first front (IsArmLegal-front first front (e ∷ back) whole)).threads ∙ length-replicate size.threads None in
-    subst (λ n. thread_of e < n) many (known_here (monitor_after first front) e here access)
+    subst (λ n. thread_of e < n) many (access-known (monitor_after first front) e access here)
