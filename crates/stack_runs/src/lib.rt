@@ -5,7 +5,8 @@
 //! thread goes by a protocol (`proofs/Protocol`), from block to block of its words (`proofs/Blocks`, `Rounds`). Each access by the
 //! protocol keeps what holds of the memory, the monitors and all threads together (`proofs/Invariant`, `Steps`, `OneStep`). So that
 //! holds at every point of a history (`proofs/EachPoint`), and of every outcome (`proofs/Outcomes`). What serves a proof about any A32
-//! guest stands in `a32_guests`.
+//! guest stands in `a32_guests`. [`worked`] has one such guest as numbers, and its law.
 #![tactic(auto)]
 
 pub mod laws;
+pub mod worked;
