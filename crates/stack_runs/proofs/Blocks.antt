@@ -1,6 +1,6 @@
 -- The blocks of the stack guest: what is left of a run at the end of each, by what was left at its beginning. In each chain of
 -- instructions the last one stands first.
-use Rattle.std.proofs.Common.{◌≡◌, ◌⊎◌, inl, inr, ℕ, suc, ◌+◌, ◌%◌, ◌^◌, ◌<◌, true, false, List, ◌∷◌, negsuc, refl, ap, subst, ◌∙◌, arith}
+use Rattle.std.proofs.Common.{◌≡◌, ◌⊎◌, ℕ, suc, ◌+◌, ◌%◌, ◌^◌, ◌<◌, Bool, true, false, List, negsuc, refl, ap, subst, arith}
 use Rattle.llsc_base.specs.Images.{bar_of}
 use Rattle.llsc_base.specs.declared.access.Place.{Place}
 use Rattle.llsc_base.specs.declared.access.Size.TheVariants.{B4}
@@ -10,16 +10,19 @@ use Rattle.a32_instr.specs.declared.instructions.AluOp.TheVariants.{Add, Cmp, Mo
 use Rattle.a32_instr.specs.declared.instructions.Index.TheVariants.{Plain}
 use Rattle.a32_instr.specs.declared.instructions.Offset.TheVariants as offset
 use Rattle.a32_instr.specs.declared.instructions.Operand2.TheVariants.{Imm}
+use Rattle.llsc_base.specs.declared.outside.Ask.{Ask}
 use Rattle.llsc_base.specs.declared.outside.Ask.TheVariants as ask
 use Rattle.llsc_base.specs.declared.outside.Stop.TheVariants.{Exit}
 use Rattle.a32_instr.specs.Branch.{target_of}
 use Rattle.a32_instr.specs.Condition.{passes}
 use Rattle.a32_instr.specs.Shift.{turned}
+use Rattle.a32_instr.specs.State.{State}
 use Rattle.a32_instr.specs.Sum.{sum_of}
 use Rattle.guest_calls.specs.Run.{Pair}
 use Rattle.stack_runs.specs.Guest.{link_of, top}
 use Rattle.a32_guests.proofs.Branching.{beq-falls, beq-jumps, bne-falls, bne-jumps, other_clears, zero_sets}
-use Rattle.a32_guests.proofs.Onward.{IsAtStop, IsEnded, calls_exit, does, tries}
+use Rattle.a32_guests.proofs.Onward.{HasTried, IsAtStop, IsEnded, calls_exit, does, tries}
+use Rattle.stack_runs.proofs.Behind.{behind}
 use Rattle.stack_runs.proofs.Protocol.{count_at}
 use Rattle.stack_runs.proofs.States.{StackGuest, From, at, compared, looped_at, no_flags, program_of, state_at}
 
@@ -42,33 +45,22 @@ begun g pairs on =
     does p g.stop _ _ (Movw 14 9 g.rounds) pairs (at g 1 _ refl) refl
     (does p g.stop (state_at g 4096 no_flags g.t g.n 0 0 0) _ (Alu 14 Mov false 8 0 (Imm 10 2)) pairs (at g 0 _ refl) refl on)
 
+-- an access of a place comes, with a reply by which the run goes on from a state, or the run ends there
+abbrev pub Makes : StackGuest → Place → (store : Bool) → Ask → (ℕ → State) → List Pair → Type 0
+Makes g place store asked to pairs =
+    HasTried (program_of g) g.stop asked to pairs ⊎ IsEnded g.stop place.addr (bar_of (program_of g) place store) pairs
+
 -- ---- a pop
 
 -- the top is loaded, and compared with 0
-pub record HasSeen (g : StackGuest) (r1 r2 left : ℕ) (pairs : List Pair) : Type 0 where
-  pub value : ℕ
-  pub rest : List Pair
-  pub are : pairs ≡ (ask.LoadEx top, value) ∷ rest
-  pub on : From g (looped_at g 4112 (compared (value % 2 ^ 32)) (value % 2 ^ 32) r1 r2 left) rest
-
 pub sees_top : (g : StackGuest) (flags : Flags) (r0 r1 r2 left : ℕ) (pairs : List Pair) → From g (looped_at g 4104 flags r0 r1 r2 left) pairs
-    → HasSeen g r1 r2 left pairs
-    ⊎ IsEnded g.stop 8192 (bar_of (program_of g) top false) pairs
+    → Makes g top false (ask.LoadEx top) (λ v. looped_at g 4112 (compared (v % 2 ^ 32)) (v % 2 ^ 32) r1 r2 left) pairs
 unfolding passes sum_of turned
 sees_top g flags r0 r1 r2 left pairs on =
     let p = program_of g in
-    elim (tries p g.stop (looped_at g 4104 flags r0 r1 r2 left) (λ v. looped_at g 4108 flags (v % 2 ^ 32) r1 r2 left)
-    (LoadEx 14 B4 8 0) (bar_of p top false) 8192 (ask.LoadEx top) pairs (at g 2 _ refl) refl (λ reply. refl) on) [
-      | inl loads ↦ inl (record {
-        value = loads.reply;
-        rest = loads.rest;
-        are = loads.are;
-        on = does p g.stop (looped_at g 4108 flags (loads.reply % 2 ^ 32) r1 r2 left)
-            (looped_at g 4112 (compared (loads.reply % 2 ^ 32)) (loads.reply % 2 ^ 32) r1 r2 left)
-            (Alu 14 Cmp true 0 0 (Imm 0 0)) loads.rest (at g 3 _ refl) refl loads.on;
-      })
-      | inr ended ↦ inr ended
-    ]
+    behind p g.stop (ask.LoadEx top) (λ v. looped_at g 4108 flags (v % 2 ^ 32) r1 r2 left) _ pairs
+    (λ v rest. does p g.stop (looped_at g 4108 flags (v % 2 ^ 32) r1 r2 left) _ (Alu 14 Cmp true 0 0 (Imm 0 0)) rest (at g 3 _ refl) refl)
+    (tries p g.stop (looped_at g 4104 flags r0 r1 r2 left) _ (LoadEx 14 B4 8 0) (bar_of p top false) 8192 (ask.LoadEx top) pairs (at g 2 _ refl) refl (λ reply. refl) on)
 
 -- there is none
 pub finds_none : (g : StackGuest) (r0 r1 r2 left : ℕ) (pairs : List Pair) → r0 ≡ 0
@@ -79,56 +71,26 @@ finds_none g r0 r1 r2 left pairs none on =
     (beq-jumps (program_of g) (looped_at g 4112 (compared r0) r0 r1 r2 left) (negsuc 3) (zero_sets r0 none)) on
 
 -- there is one, and its link is loaded
-pub record HasLooked (g : StackGuest) (flags : Flags) (n r2 left : ℕ) (pairs : List Pair) : Type 0 where
-  pub value : ℕ
-  pub rest : List Pair
-  pub are : pairs ≡ (ask.Load (link_of n), value) ∷ rest
-  pub on : From g (looped_at g 4120 flags n (value % 2 ^ 32) r2 left) rest
-
 pub looks_below : (g : StackGuest) (n r1 r2 left : ℕ) (pairs : List Pair) → (n ≡ 0 → ⊥) → n < 2 ^ 32
-    → From g (looped_at g 4112 (compared n) n r1 r2 left) pairs → HasLooked g (compared n) n r2 left pairs
-    ⊎ IsEnded g.stop n (bar_of (program_of g) (link_of n) false) pairs
+    → From g (looped_at g 4112 (compared n) n r1 r2 left) pairs
+    → Makes g (link_of n) false (ask.Load (link_of n)) (λ v. looped_at g 4120 (compared n) n (v % 2 ^ 32) r2 left) pairs
 unfolding passes
 looks_below g n r1 r2 left pairs some small on =
     let p = program_of g in
     let next = does p g.stop (looped_at g 4112 (compared n) n r1 r2 left) (looped_at g 4116 (compared n) n r1 r2 left) (Branch 0 false (negsuc 3)) pairs (at g 4 _ refl)
     (beq-falls p (looped_at g 4112 (compared n) n r1 r2 left) (negsuc 3) (other_clears n some small)) on in
-    elim (tries p g.stop (looped_at g 4116 (compared n) n r1 r2 left) (λ v. looped_at g 4120 (compared n) n (v % 2 ^ 32) r2 left)
-    (Word 14 true false Plain 0 1 (offset.Imm true 0)) (bar_of p (plain n) false) ((n + 0) % 2 ^ 32) (ask.Load (plain n)) pairs (at g 5 _ refl) refl (λ reply. refl) next) [
-      | inl loads ↦ inl (record {
-        value = loads.reply;
-        rest = loads.rest;
-        are = loads.are ∙ ap (λ place. (ask.Load place, loads.reply) ∷ loads.rest) (plain-is n small);
-        on = loads.on;
-      })
-      | inr ended ↦ inr (subst (λ place. IsEnded g.stop place.addr (bar_of (program_of g) place false) pairs) (plain-is n small) ended)
-    ]
+    subst (λ place. Makes g place false (ask.Load place) (λ v. looped_at g 4120 (compared n) n (v % 2 ^ 32) r2 left) pairs) (plain-is n small)
+    (tries p g.stop (looped_at g 4116 (compared n) n r1 r2 left) _ (Word 14 true false Plain 0 1 (offset.Imm true 0)) (bar_of p (plain n) false) ((n + 0) % 2 ^ 32) (ask.Load (plain n)) pairs (at g 5 _ refl) refl (λ reply. refl) next)
 
 -- that is to be the top
-pub record HasPut (g : StackGuest) (n x left : ℕ) (pairs : List Pair) : Type 0 where
-  pub reply : ℕ
-  pub rest : List Pair
-  pub are : pairs ≡ (ask.StoreEx top x, reply) ∷ rest
-  pub on : From g (looped_at g 4128 (compared (reply % 2 ^ 32)) n x (reply % 2 ^ 32) left) rest
-
 pub takes_off : (g : StackGuest) (flags : Flags) (n x r2 left : ℕ) (pairs : List Pair) → From g (looped_at g 4120 flags n x r2 left) pairs
-    → HasPut g n x left pairs
-    ⊎ IsEnded g.stop 8192 (bar_of (program_of g) top true) pairs
+    → Makes g top true (ask.StoreEx top x) (λ r. looped_at g 4128 (compared (r % 2 ^ 32)) n x (r % 2 ^ 32) left) pairs
 unfolding passes sum_of turned
 takes_off g flags n x r2 left pairs on =
     let p = program_of g in
-    elim (tries p g.stop (looped_at g 4120 flags n x r2 left) (λ r. looped_at g 4124 flags n x (r % 2 ^ 32) left)
-    (StoreEx 14 B4 8 2 1) (bar_of p top true) 8192 (ask.StoreEx top x) pairs (at g 6 _ refl) refl (λ reply. refl) on) [
-      | inl stores ↦ inl (record {
-        reply = stores.reply;
-        rest = stores.rest;
-        are = stores.are;
-        on = does p g.stop (looped_at g 4124 flags n x (stores.reply % 2 ^ 32) left)
-            (looped_at g 4128 (compared (stores.reply % 2 ^ 32)) n x (stores.reply % 2 ^ 32) left)
-            (Alu 14 Cmp true 0 2 (Imm 0 0)) stores.rest (at g 7 _ refl) refl stores.on;
-      })
-      | inr ended ↦ inr ended
-    ]
+    behind p g.stop (ask.StoreEx top x) (λ r. looped_at g 4124 flags n x (r % 2 ^ 32) left) _ pairs
+    (λ r rest. does p g.stop (looped_at g 4124 flags n x (r % 2 ^ 32) left) _ (Alu 14 Cmp true 0 2 (Imm 0 0)) rest (at g 7 _ refl) refl)
+    (tries p g.stop (looped_at g 4120 flags n x r2 left) _ (StoreEx 14 B4 8 2 1) (bar_of p top true) 8192 (ask.StoreEx top x) pairs (at g 6 _ refl) refl (λ reply. refl) on)
 
 -- it failed
 pub pops_again : (g : StackGuest) (n x r2 left : ℕ) (pairs : List Pair) → (r2 ≡ 0 → ⊥) → r2 < 2 ^ 32
@@ -147,23 +109,13 @@ has_popped g n x r2 left pairs done on =
     (bne-falls p (looped_at g 4128 (compared r2) n x r2 left) (negsuc 7) (zero_sets r2 done)) on
 
 -- its count is loaded
-pub record HasCounted (g : StackGuest) (flags : Flags) (n r2 left : ℕ) (pairs : List Pair) : Type 0 where
-  pub value : ℕ
-  pub rest : List Pair
-  pub are : pairs ≡ (ask.Load (count_at n), value) ∷ rest
-  pub on : From g (looped_at g 4140 flags n ((value % 2 ^ 32 + 1) % 2 ^ 32) r2 left) rest
-
-pub reads_count : (g : StackGuest) (flags : Flags) (n x r2 left : ℕ) (pairs : List Pair)
-    → From g (looped_at g 4132 flags n x r2 left) pairs → HasCounted g flags n r2 left pairs
-    ⊎ IsEnded g.stop ((n + 4) % 2 ^ 32) (bar_of (program_of g) (count_at n) false) pairs
+pub reads_count : (g : StackGuest) (flags : Flags) (n x r2 left : ℕ) (pairs : List Pair) → From g (looped_at g 4132 flags n x r2 left) pairs
+    → Makes g (count_at n) false (ask.Load (count_at n)) (λ v. looped_at g 4140 flags n ((v % 2 ^ 32 + 1) % 2 ^ 32) r2 left) pairs
 unfolding passes sum_of turned
 reads_count g flags n x r2 left pairs on =
     let p = program_of g in
-    elim (tries p g.stop (looped_at g 4132 flags n x r2 left) (λ v. looped_at g 4136 flags n (v % 2 ^ 32) r2 left)
-    (Word 14 true false Plain 0 1 (offset.Imm true 4)) (bar_of p (count_at n) false) ((n + 4) % 2 ^ 32) (ask.Load (count_at n)) pairs (at g 9 _ refl) refl (λ reply. refl) on) [
-      | inl loads ↦ inl (record { value = loads.reply; rest = loads.rest; are = loads.are; on = more loads.reply loads.rest loads.on })
-      | inr ended ↦ inr ended
-    ]
+    behind p g.stop (ask.Load (count_at n)) (λ v. looped_at g 4136 flags n (v % 2 ^ 32) r2 left) _ pairs more
+    (tries p g.stop (looped_at g 4132 flags n x r2 left) _ (Word 14 true false Plain 0 1 (offset.Imm true 4)) (bar_of p (count_at n) false) ((n + 4) % 2 ^ 32) (ask.Load (count_at n)) pairs (at g 9 _ refl) refl (λ reply. refl) on)
   where
     plus_none : (v : ℕ) → (v % 2 ^ 32 + 1 + 0) % 2 ^ 32 ≡ (v % 2 ^ 32 + 1) % 2 ^ 32
     plus_none v = omega arith
@@ -172,98 +124,44 @@ reads_count g flags n x r2 left pairs on =
         → From g (looped_at g 4140 flags n ((v % 2 ^ 32 + 1) % 2 ^ 32) r2 left) rest
     more v rest run =
         subst (λ (w : ℕ). From g (looped_at g 4140 flags n w r2 left) rest) (plus_none v)
-        (does (program_of g) g.stop (looped_at g 4136 flags n (v % 2 ^ 32) r2 left) (looped_at g 4140 flags n ((v % 2 ^ 32 + 1 + 0) % 2 ^ 32) r2 left)
-        (Alu 14 Add false 1 1 (Imm 0 1)) rest (at g 10 _ refl) refl run)
+        (does (program_of g) g.stop (looped_at g 4136 flags n (v % 2 ^ 32) r2 left) _ (Alu 14 Add false 1 1 (Imm 0 1)) rest (at g 10 _ refl) refl run)
 
 -- one more is stored
-pub record HasAdded (g : StackGuest) (flags : Flags) (n c r2 left : ℕ) (pairs : List Pair) : Type 0 where
-  pub reply : ℕ
-  pub rest : List Pair
-  pub are : pairs ≡ (ask.Store (count_at n) c, reply) ∷ rest
-  pub on : From g (looped_at g 4144 flags n c r2 left) rest
-
 pub adds_one : (g : StackGuest) (flags : Flags) (n c r2 left : ℕ) (pairs : List Pair) → From g (looped_at g 4140 flags n c r2 left) pairs
-    → HasAdded g flags n c r2 left pairs
-    ⊎ IsEnded g.stop ((n + 4) % 2 ^ 32) (bar_of (program_of g) (count_at n) true) pairs
+    → Makes g (count_at n) true (ask.Store (count_at n) c) (λ r. looped_at g 4144 flags n c r2 left) pairs
 unfolding passes
 adds_one g flags n c r2 left pairs on =
     let p = program_of g in
-    elim (tries p g.stop (looped_at g 4140 flags n c r2 left) (λ r. looped_at g 4144 flags n c r2 left)
-    (Word 14 false false Plain 0 1 (offset.Imm true 4)) (bar_of p (count_at n) true) ((n + 4) % 2 ^ 32) (ask.Store (count_at n) c) pairs (at g 11 _ refl) refl (λ reply. refl) on) [
-      | inl stores ↦ inl (record { reply = stores.reply; rest = stores.rest; are = stores.are; on = stores.on })
-      | inr ended ↦ inr ended
-    ]
+    tries p g.stop (looped_at g 4140 flags n c r2 left) _ (Word 14 false false Plain 0 1 (offset.Imm true 4)) (bar_of p (count_at n) true) ((n + 4) % 2 ^ 32) (ask.Store (count_at n) c) pairs (at g 11 _ refl) refl (λ reply. refl) on
 
 -- ---- a push
 
 -- the top is loaded
-pub record HasFound (g : StackGuest) (flags : Flags) (n r2 left : ℕ) (pairs : List Pair) : Type 0 where
-  pub value : ℕ
-  pub rest : List Pair
-  pub are : pairs ≡ (ask.LoadEx top, value) ∷ rest
-  pub on : From g (looped_at g 4148 flags n (value % 2 ^ 32) r2 left) rest
-
 pub finds_top : (g : StackGuest) (flags : Flags) (n r1 r2 left : ℕ) (pairs : List Pair) → From g (looped_at g 4144 flags n r1 r2 left) pairs
-    → HasFound g flags n r2 left pairs
-    ⊎ IsEnded g.stop 8192 (bar_of (program_of g) top false) pairs
+    → Makes g top false (ask.LoadEx top) (λ v. looped_at g 4148 flags n (v % 2 ^ 32) r2 left) pairs
 unfolding passes
 finds_top g flags n r1 r2 left pairs on =
     let p = program_of g in
-    elim (tries p g.stop (looped_at g 4144 flags n r1 r2 left) (λ v. looped_at g 4148 flags n (v % 2 ^ 32) r2 left)
-    (LoadEx 14 B4 8 1) (bar_of p top false) 8192 (ask.LoadEx top) pairs (at g 12 _ refl) refl (λ reply. refl) on) [
-      | inl loads ↦ inl (record { value = loads.reply; rest = loads.rest; are = loads.are; on = loads.on })
-      | inr ended ↦ inr ended
-    ]
+    tries p g.stop (looped_at g 4144 flags n r1 r2 left) _ (LoadEx 14 B4 8 1) (bar_of p top false) 8192 (ask.LoadEx top) pairs (at g 12 _ refl) refl (λ reply. refl) on
 
 -- and stored as the node's link
-pub record HasLinked (g : StackGuest) (flags : Flags) (n x r2 left : ℕ) (pairs : List Pair) : Type 0 where
-  pub reply : ℕ
-  pub rest : List Pair
-  pub are : pairs ≡ (ask.Store (link_of n) x, reply) ∷ rest
-  pub on : From g (looped_at g 4152 flags n x r2 left) rest
-
 pub links_node : (g : StackGuest) (flags : Flags) (n x r2 left : ℕ) (pairs : List Pair) → n < 2 ^ 32 → From g (looped_at g 4148 flags n x r2 left) pairs
-    → HasLinked g flags n x r2 left pairs
-    ⊎ IsEnded g.stop n (bar_of (program_of g) (link_of n) true) pairs
+    → Makes g (link_of n) true (ask.Store (link_of n) x) (λ r. looped_at g 4152 flags n x r2 left) pairs
 unfolding passes
 links_node g flags n x r2 left pairs small on =
     let p = program_of g in
-    elim (tries p g.stop (looped_at g 4148 flags n x r2 left) (λ r. looped_at g 4152 flags n x r2 left)
-    (Word 14 false false Plain 0 1 (offset.Imm true 0)) (bar_of p (plain n) true) ((n + 0) % 2 ^ 32) (ask.Store (plain n) x) pairs (at g 13 _ refl) refl (λ reply. refl) on) [
-      | inl stores ↦ inl (record {
-        reply = stores.reply;
-        rest = stores.rest;
-        are = stores.are ∙ ap (λ place. (ask.Store place x, stores.reply) ∷ stores.rest) (plain-is n small);
-        on = stores.on;
-      })
-      | inr ended ↦ inr (subst (λ place. IsEnded g.stop place.addr (bar_of (program_of g) place true) pairs) (plain-is n small) ended)
-    ]
+    subst (λ place. Makes g place true (ask.Store place x) (λ r. looped_at g 4152 flags n x r2 left) pairs) (plain-is n small)
+    (tries p g.stop (looped_at g 4148 flags n x r2 left) _ (Word 14 false false Plain 0 1 (offset.Imm true 0)) (bar_of p (plain n) true) ((n + 0) % 2 ^ 32) (ask.Store (plain n) x) pairs (at g 13 _ refl) refl (λ reply. refl) on)
 
 -- the node is to be the top
-pub record HasPushed (g : StackGuest) (n x left : ℕ) (pairs : List Pair) : Type 0 where
-  pub reply : ℕ
-  pub rest : List Pair
-  pub are : pairs ≡ (ask.StoreEx top n, reply) ∷ rest
-  pub on : From g (looped_at g 4160 (compared (reply % 2 ^ 32)) n x (reply % 2 ^ 32) left) rest
-
 pub puts_on : (g : StackGuest) (flags : Flags) (n x r2 left : ℕ) (pairs : List Pair) → From g (looped_at g 4152 flags n x r2 left) pairs
-    → HasPushed g n x left pairs
-    ⊎ IsEnded g.stop 8192 (bar_of (program_of g) top true) pairs
+    → Makes g top true (ask.StoreEx top n) (λ r. looped_at g 4160 (compared (r % 2 ^ 32)) n x (r % 2 ^ 32) left) pairs
 unfolding passes sum_of turned
 puts_on g flags n x r2 left pairs on =
     let p = program_of g in
-    elim (tries p g.stop (looped_at g 4152 flags n x r2 left) (λ r. looped_at g 4156 flags n x (r % 2 ^ 32) left)
-    (StoreEx 14 B4 8 2 0) (bar_of p top true) 8192 (ask.StoreEx top n) pairs (at g 14 _ refl) refl (λ reply. refl) on) [
-      | inl stores ↦ inl (record {
-        reply = stores.reply;
-        rest = stores.rest;
-        are = stores.are;
-        on = does p g.stop (looped_at g 4156 flags n x (stores.reply % 2 ^ 32) left)
-            (looped_at g 4160 (compared (stores.reply % 2 ^ 32)) n x (stores.reply % 2 ^ 32) left)
-            (Alu 14 Cmp true 0 2 (Imm 0 0)) stores.rest (at g 15 _ refl) refl stores.on;
-      })
-      | inr ended ↦ inr ended
-    ]
+    behind p g.stop (ask.StoreEx top n) (λ r. looped_at g 4156 flags n x (r % 2 ^ 32) left) _ pairs
+    (λ r rest. does p g.stop (looped_at g 4156 flags n x (r % 2 ^ 32) left) _ (Alu 14 Cmp true 0 2 (Imm 0 0)) rest (at g 15 _ refl) refl)
+    (tries p g.stop (looped_at g 4152 flags n x r2 left) _ (StoreEx 14 B4 8 2 0) (bar_of p top true) 8192 (ask.StoreEx top n) pairs (at g 14 _ refl) refl (λ reply. refl) on)
 
 -- it failed
 pub pushes_again : (g : StackGuest) (n x r2 left : ℕ) (pairs : List Pair) → (r2 ≡ 0 → ⊥) → r2 < 2 ^ 32

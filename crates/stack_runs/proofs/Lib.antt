@@ -1,5 +1,6 @@
 pub mod Words
 pub mod States
+pub mod Behind
 pub mod Blocks
 pub mod Protocol
 pub mod Rounds

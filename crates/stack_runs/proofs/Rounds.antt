@@ -65,8 +65,8 @@ behind_pop g longest pushing q n x r2 rest few small most on =
     elim (reads_count g (compared r2) n x r2 (suc q) rest on) [
       | inr ended ↦ none_by g (held q n) false rest ended
       | inl got ↦
-          let c = got.value % 2 ^ 32 in
-          goes_by g (held q n) (counted q n c) (ask.Load (count_at n), got.value) rest got.rest got.are (reads q n got.value)
+          let c = got.reply % 2 ^ 32 in
+          goes_by g (held q n) (counted q n c) (ask.Load (count_at n), got.reply) rest got.rest got.are (reads q n got.reply)
           (elim (adds_one g (compared r2) n ((c + 1) % 2 ^ 32) r2 (suc q) got.rest got.on) [
             | inr ended ↦ none_by g (counted q n c) true got.rest ended
             | inl put ↦
@@ -102,10 +102,10 @@ pops_from g longest popping pushing q r0 r1 r2 flags pairs few most on =
     elim (sees_top g flags r0 r1 r2 (suc q) pairs on) [
       | inr ended ↦ none_by g (idle (suc q)) false pairs ended
       | inl first ↦
-          let v = first.value in
+          let v = first.reply in
           let n = v % 2 ^ 32 in
           let left = shorter (ask.LoadEx top, v) pairs first.rest longest first.are most in
-          elim (cases_eq (first.value % 2 ^ 32) 0) [
+          elim (cases_eq (first.reply % 2 ^ 32) 0) [
             | inl none ↦
                 goes_by g (idle (suc q)) (idle (suc q)) (ask.LoadEx top, v) pairs first.rest first.are (waits q v none)
                 (popping q n r1 r2 (compared n) first.rest few left (finds_none g n r1 r2 (suc q) first.rest none first.on))
@@ -114,8 +114,8 @@ pops_from g longest popping pushing q r0 r1 r2 flags pairs few most on =
                 (elim (looks_below g n r1 r2 (suc q) first.rest some (low v) first.on) [
                   | inr ended ↦ none_by g (seen q n) false first.rest ended
                   | inl next ↦
-                      let x = next.value % 2 ^ 32 in
-                      goes_by g (seen q n) (below q n x) (ask.Load (link_of n), next.value) first.rest next.rest next.are (looks q n next.value)
+                      let x = next.reply % 2 ^ 32 in
+                      goes_by g (seen q n) (below q n x) (ask.Load (link_of n), next.reply) first.rest next.rest next.are (looks q n next.reply)
                       (takes_from g longest popping pushing q n x r2 (compared n) next.rest few (low v)
                       (no_longer _ first.rest next.rest longest next.are left) next.on)
                 ])
@@ -163,9 +163,9 @@ pushes_from g longest popping pushing q n r1 r2 flags pairs few small most on =
     elim (finds_top g flags n r1 r2 (suc q) pairs on) [
       | inr ended ↦ none_by g (full q n) false pairs ended
       | inl first ↦
-          let x = first.value % 2 ^ 32 in
-          let left = shorter (ask.LoadEx top, first.value) pairs first.rest longest first.are most in
-          goes_by g (full q n) (linked q n x) (ask.LoadEx top, first.value) pairs first.rest first.are (looks_up q n first.value)
+          let x = first.reply % 2 ^ 32 in
+          let left = shorter (ask.LoadEx top, first.reply) pairs first.rest longest first.are most in
+          goes_by g (full q n) (linked q n x) (ask.LoadEx top, first.reply) pairs first.rest first.are (looks_up q n first.reply)
           (elim (links_node g flags n x r2 (suc q) first.rest small first.on) [
             | inr ended ↦ none_by g (linked q n x) true first.rest ended
             | inl put ↦
@@ -180,14 +180,14 @@ pops_first : (g : StackGuest) → Pops g zero
 pops_first g q r0 r1 r2 flags pairs few most on =
     elim (sees_top g flags r0 r1 r2 (suc q) pairs on) [
       | inr ended ↦ none_by g (idle (suc q)) false pairs ended
-      | inl first ↦ absurd (none_empty (ask.LoadEx top, first.value) pairs first.rest first.are most)
+      | inl first ↦ absurd (none_empty (ask.LoadEx top, first.reply) pairs first.rest first.are most)
     ]
 
 pushes_first : (g : StackGuest) → Pushes g zero
 pushes_first g q n r1 r2 flags pairs few small most on =
     elim (finds_top g flags n r1 r2 (suc q) pairs on) [
       | inr ended ↦ none_by g (full q n) false pairs ended
-      | inl first ↦ absurd (none_empty (ask.LoadEx top, first.value) pairs first.rest first.are most)
+      | inl first ↦ absurd (none_empty (ask.LoadEx top, first.reply) pairs first.rest first.are most)
     ]
 
 both : (g : StackGuest) (longest : ℕ) → Pops g longest × Pushes g longest
