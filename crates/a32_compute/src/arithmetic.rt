@@ -1,7 +1,7 @@
 //! Sums of 32-bit numbers, and the data-processing operations on them.
 ghost use Rattle.std.specs.Prelude.{◌≡◌, ◌<◌, ◌+ℤ◌, pos};
 ghost use Rattle.llsc_base.specs.Words.{signed};
-ghost use Rattle.a32_instr.specs.Sum.{is_out_of_range, sum_of};
+ghost use Rattle.a32_instr.specs.Sum.{complement, is_out_of_range, sum_of};
 ghost use Rattle.a32_instr.specs.DataProcessing.{summed, logical, computed, one_if};
 
 use crate::parts::low_word;
@@ -54,6 +54,24 @@ fn of_sum(sum: Sum) -> Computed
     }
 }
 
+/// A difference with the flags that it sets.
+#[inline(always)]
+#[tactic(auto, unfolding(a32_instr::specs::Sum::sum_of))]
+fn of_difference(x: u32, y: u32) -> Computed
+    ensures { result ≡ summed (sum_of x (complement y) 1) }
+{
+    let value = x.wrapping_sub(y);
+    Computed {
+        value,
+        flags: Flags {
+            n: is_negative(value),
+            z: value == 0,
+            c: x >= y,
+            v: is_negative(value) != (x.cast_signed() < y.cast_signed()),
+        },
+    }
+}
+
 /// A logical result with the flags that it sets.
 fn of_logic(value: u32, carry: bool, flags: Flags) -> Computed
     ensures { result ≡ logical value carry flags }
@@ -86,7 +104,7 @@ pub fn compute(op: AluOp, x: u32, y: Shifted, flags: Flags) -> Computed
     match op {
         AluOp::And | AluOp::Tst => of_logic(x & y.value, y.carry, flags),
         AluOp::Eor | AluOp::Teq => of_logic(x ^ y.value, y.carry, flags),
-        AluOp::Sub | AluOp::Cmp => of_sum(sum(x, !y.value, 1)),
+        AluOp::Sub | AluOp::Cmp => of_difference(x, y.value),
         AluOp::Rsb => of_sum(sum(!x, y.value, 1)),
         AluOp::Add | AluOp::Cmn => of_sum(sum(x, y.value, 0)),
         AluOp::Adc => of_sum(sum(x, y.value, as_number(flags.c))),
