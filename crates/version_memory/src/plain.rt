@@ -218,8 +218,10 @@ pub fn try_store<J: Asks>(
     Tried::Done(tag / 2)
 }
 
-/// Stores to a place, in the whole, and gives the stamp; or none, where the class has had all of its writes.
-pub fn store_cell<R: Wait, J: Asks>(
+/// Stores as [`store_cell`] does, once a try has had to wait.
+#[cold]
+#[inline(never)]
+fn store_later<R: Wait, J: Asks>(
     rt: &R,
     shared: &VersionShared,
     seat: &mut VersionSeat,
@@ -246,4 +248,31 @@ pub fn store_cell<R: Wait, J: Asks>(
         }
     }
     unreachable!()
+}
+
+/// Stores to a place, in the whole, and gives the stamp; or none, where the class has had all of its writes.
+#[inline(always)]
+pub fn store_cell<R: Wait, J: Asks>(
+    rt: &R,
+    shared: &VersionShared,
+    seat: &mut VersionSeat,
+    target: Target,
+    limit: u64,
+) -> Option<u64>
+    requires asked { J.ask ≡ ask (origin_of shared.now.key) target.place target.value }
+    requires ready { MayStep shared.now seat.old }
+    requires rest { seat.old.me.0.doing.doing ≡ Rest }
+    requires target { IsTarget shared.now.key target }
+    requires limit { limit ≡ shared.now.key.size.limit }
+    ensures spent { result ≡ None → Goes (origin_of shared.now.key) seat.old.me [] seat.old.me.0.doing seat.new.me
+        × IsAtLimit shared.now.key.size target.place seat.new.me.0.seen }
+    ensures done { IfSome result
+        (λ stamp. HasStored (origin_of shared.now.key) target.place target.value stamp seat.old.me seat.new.me) }
+    ensures home { seat.new.table_id ≡ seat.old.table_id }
+{
+    match try_store::<J>(shared, seat, target, limit) {
+        Tried::Done(stamp) => Some(stamp),
+        Tried::Spent => None,
+        Tried::Waits => store_later::<R, J>(rt, shared, seat, target, limit),
+    }
 }

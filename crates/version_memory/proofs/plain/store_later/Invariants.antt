@@ -1,7 +1,7 @@
 use Rattle.std.proofs.Common.{◌≡◌}
 use Rattle.shared_memory.proofs.Waits.{Waits}
 use Rattle.version_memory.specs.inner.Passes.{IsReady}
-use Rattle.version_memory.proofs.plain.store_cell.Given as goal
+use Rattle.version_memory.proofs.plain.store_later.Given as goal
 
 abbrev pub invariant-loop : goal.invariant-loop
 invariant-loop g l = record {
