@@ -171,8 +171,8 @@ module _ (size : Numbers) (seen : List Entry) where
 
     pub begun_is : (m : Merging) → m.out.items ≡ [] → m.base.items ≡ bases → length bases ≡ size.classes → length m.left.items ≡ end
         → ((k : ℕ) → slice_index m.left.items k ≡ sum_by (λ (log : Log). count_by (is_read_at size bases k) log.entries.items) logs)
-        → m.count.items ≡ replicate size.classes 0 → m.at.items ≡ replicate size.threads 0 → IsMerging size seen m
-    begun_is m out base many left lefts count at =
+        → m.count.items ≡ replicate size.classes 0 → m.at.items ≡ replicate size.threads 0 → length m.reservations.loads.items ≡ size.threads → IsMerging size seen m
+    begun_is m out base many left lefts count at reservations =
         let tables : AreTables size seen [] (tables_of m) = record {
           counts = λ row. ap (λ l. slice_index l (class_of size.classes row)) count ∙ zero_at size.classes (class_of size.classes row);
           lefts = λ i. lefts i ∙ lefts_of i ∙ ap (λ b. waiting size seen [] b i) (sym base);
@@ -190,6 +190,7 @@ module _ (size : Numbers) (seen : List Entry) where
           };
           threads = ap length at ∙ length-replicate size.threads 0;
           at = λ t less. subst (λ (l : List Access). slice_index m.at.items t ≡ length (log_of size t (history_of l))) (sym out) (ap (λ l. slice_index l t) at ∙ zero_at size.threads t);
+          reservations = reservations;
         }
 
 -- ---- logs that a run keeps

@@ -169,8 +169,9 @@ module _ (size : Numbers) (seen : List Entry) (old : Merging) (is : IsMerging si
       by false false r w = after_neither size seen taken is.way t next may (tables_of old) is.tables is.apart spot_in (subst (λ n. class_at size next < n) (sym is.room.count) within) r w
 
   pub goes_on : (new : Merging) (at : ℕ) → tables_of new ≡ after_taking size (tables_of old) next → new.out.items ≡ old.out.items ++ next.access ∷ []
-      → new.at.items ≡ set old.at.items t (at + 1) → at ≡ slice_index old.at.items t → IsMerging size seen new
-  goes_on new at tables out ats at_is =
+      → new.at.items ≡ set old.at.items t (at + 1) → at ≡ slice_index old.at.items t
+      → length new.reservations.loads.items ≡ length old.reservations.loads.items → IsMerging size seen new
+  goes_on new at tables out ats at_is reservations =
       let grown : history_of new.out.items ≡ taken ++ entry_of next.access ∷ [] = ap history_of out ∙ map-append entry_of old.out.items (next.access ∷ []) in
       let found = split_logged size t [] seen (log_of size t taken) next may.after may.is_next in
       let one : next.access ≡ access_of found.entry = ap (λ (s : Stamped). s.access) found.here in
@@ -200,6 +201,7 @@ module _ (size : Numbers) (seen : List Entry) (old : Merging) (is : IsMerging si
               ap (λ l. slice_index l u) ats ∙ get_or-set_other old.at.items t u (at + 1) 0 other ∙ is.at u less
               ∙ ap length (sym (other_log size seen taken is.way t next may u other)) ∙ ap (λ l. length (log_of size u l)) (sym grown)
         ];
+        reservations = reservations ∙ is.reservations;
       }
 
 -- ---- the next access, as the code finds it

@@ -3,4 +3,5 @@ pub mod Crews
 pub mod Filling
 pub mod Logging
 pub mod Merging
+pub mod Reservations
 pub mod Tables

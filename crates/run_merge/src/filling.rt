@@ -13,6 +13,7 @@ ghost use Rattle.run_merge.specs.declared.logs.Log.{Log};
 
 use crate::logs::{Log, Stamped};
 use crate::merging::{Merging, class_of, loads};
+use crate::reservations::Reservations;
 use llsc_base::MachineSize;
 use std::alloc::{AllocError, Global};
 use version_memory::VersionPass;
@@ -128,12 +129,14 @@ pub(crate) fn begun(
     let left = counts_of(none, base.as_slice(), size, logs);
     let at = vec![in alloc; 0; threads]?;
     let count = vec![in alloc; 0; classes]?;
+    let reservations = Reservations::new(alloc, threads)?;
     let out = Vec::with_capacity(alloc, total)?;
     Ok(Merging {
         at,
         base,
         left,
         count,
+        reservations,
         out,
     })
 }

@@ -14,6 +14,7 @@ mod logging;
 mod logs;
 mod merges;
 mod merging;
+mod reservations;
 mod running;
 mod runs;
 pub mod worked;

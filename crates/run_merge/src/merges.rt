@@ -72,7 +72,8 @@ fn total_of(run: &LoggedRun) -> Option<u64>
 }
 
 /// Merges the logs of a run to one list of its accesses: those of each thread in order, and each load and each store with as many
-/// stores of its class before it as its stamp says.
+/// stores of its class before it as its stamp says. A failed store-exclusive has no stamp. As far as the logs allow, a store of its class
+/// stands between it and its thread's load-exclusive.
 ///
 /// # Errors
 ///
@@ -101,6 +102,7 @@ pub fn merge(alloc: Global, run: &LoggedRun) -> Result<Vec<Access>, MergeFault>
         base: _,
         left: _,
         count: _,
+        reservations: _,
         out,
     } = merging;
     Ok(out)

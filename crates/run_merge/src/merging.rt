@@ -11,10 +11,20 @@ ghost use Rattle.run_merge.specs.Taking.{AreKnown, MayBeTaken, reads, writes};
 ghost use Rattle.run_merge.specs.declared.logs.Stamped.{Stamped};
 
 use crate::logs::{Log, Stamped};
+use crate::reservations::Reservations;
 use history::{Access, Deed};
 use llsc_base::MachineSize;
 use std::alloc::AllocError;
 use version_memory::VersionPass;
+
+/// Whether failed store-exclusives wait for the writes by which they may have been lost.
+#[derive(Clone, Copy)]
+pub(crate) enum Failures {
+    /// Each waits until the class of its thread's reservation has had a write.
+    Wait,
+    /// None waits.
+    Go,
+}
 
 /// How far logs are merged.
 #[derive(Drop)]
@@ -27,6 +37,8 @@ pub(crate) struct Merging {
     pub(crate) left: Vec<usize>,
     /// How many Writes of each class are taken.
     pub(crate) count: Vec<u64>,
+    /// The reservations of threads behind the accesses that are taken.
+    pub(crate) reservations: Reservations,
     /// The accesses that are taken.
     pub(crate) out: Vec<Access>,
 }
@@ -92,6 +104,7 @@ impl Merging {
         requires few { writes one.now.access.deed ≡ true → slice_index self.old.count.items (class_at size.now one.now) < 2 ^ 63 }
         ensures tables { tables_of self.new ≡ after_taking size.now (tables_of self.old) one.now }
         ensures at { self.new.at.items ≡ self.old.at.items }
+        ensures reservations { self.new.reservations ≡ self.old.reservations }
         ensures out { self.new.out.items ≡ self.old.out.items }
     {
         let read = loads(one.access.deed);
@@ -107,21 +120,23 @@ impl Merging {
         self.count[class] += 1;
     }
 
-    /// Takes the next access of a thread, where it may be taken.
+    /// Takes the next access of a thread, where it may be taken and needn't wait.
     fn take(
         &mut self,
         size: &MachineSize,
         pass: &VersionPass,
         logs: &[Log],
         t: usize,
+        failures: Failures,
     ) -> Result<bool, AllocError>
         requires logs { AreLogs size.now (pass_seen pass.now) logs.now }
         requires state { IsMerging size.now (pass_seen pass.now) self.old }
         requires known { t < size.now.threads }
         ensures state { OnOk result (IsMerging size.now (pass_seen pass.now) self.new) }
         ensures more { IfOk result (λ taken. IsTrue taken → length self.new.out.items ≡ length self.old.out.items + 1) }
-        ensures none { IfOk result (λ taken. taken ≡ false → (self.new.out.items ≡ self.old.out.items)
-            × ((next : Stamped) → MayBeTaken size.now (pass_seen pass.now) (history_of self.old.out.items) t next → ⊥)) }
+        ensures same { IfOk result (λ taken. taken ≡ false → self.new.out.items ≡ self.old.out.items) }
+        ensures none { IfOk result (λ taken. taken ≡ false → failures ≡ Failures.Go
+            → (next : Stamped) → MayBeTaken size.now (pass_seen pass.now) (history_of self.old.out.items) t next → ⊥) }
     {
         let at = self.at.as_slice()[t];
         let entries = logs[t].entries.as_slice();
@@ -132,13 +147,22 @@ impl Merging {
         if !self.may_take(size, &next) {
             return Ok(false);
         }
+        if let Failures::Wait = failures {
+            let early = self
+                .reservations
+                .is_early(size, self.count.as_slice(), t, &next);
+            if early {
+                return Ok(false);
+            }
+        }
         self.out.push(next.access)?;
         self.count_one(size, &next);
+        self.reservations.note(t, &next);
         self.at[t] = at + 1;
         Ok(true)
     }
 
-    /// Takes accesses of a thread as long as they may be taken. Whether one was.
+    /// Takes accesses of a thread as long as they may be taken and needn't wait. Whether one was.
     fn take_some(
         &mut self,
         size: &MachineSize,
@@ -151,21 +175,20 @@ impl Merging {
         requires known { t < size.now.threads }
         ensures state { OnOk result (IsMerging size.now (pass_seen pass.now) self.new) }
         ensures more { IfOk result (λ taken. IsTrue taken → length self.old.out.items < length self.new.out.items) }
-        ensures none { IfOk result (λ taken. taken ≡ false → (self.new.out.items ≡ self.old.out.items)
-            × ((next : Stamped) → MayBeTaken size.now (pass_seen pass.now) (history_of self.old.out.items) t next → ⊥)) }
+        ensures same { IfOk result (λ taken. taken ≡ false → self.new.out.items ≡ self.old.out.items) }
     {
-        if !self.take(size, pass, logs, t)? {
+        if !self.take(size, pass, logs, t, Failures::Wait)? {
             return Ok(false);
         }
         for _ in 1..logs[t].entries.as_slice().len() {
-            if !self.take(size, pass, logs, t)? {
+            if !self.take(size, pass, logs, t, Failures::Wait)? {
                 break;
             }
         }
         Ok(true)
     }
 
-    /// A turn over all threads. Whether an access was taken.
+    /// A turn over all threads, in which failed store-exclusives wait. Whether an access was taken.
     fn turn(
         &mut self,
         size: &MachineSize,
@@ -176,8 +199,7 @@ impl Merging {
         requires state { IsMerging size.now (pass_seen pass.now) self.old }
         ensures state { OnOk result (IsMerging size.now (pass_seen pass.now) self.new) }
         ensures more { IfOk result (λ taken. IsTrue taken → length self.old.out.items < length self.new.out.items) }
-        ensures none { IfOk result (λ taken. taken ≡ false → (self.new.out.items ≡ self.old.out.items)
-            × ((t : ℕ) (next : Stamped) → t < size.now.threads → MayBeTaken size.now (pass_seen pass.now) (history_of self.old.out.items) t next → ⊥)) }
+        ensures same { IfOk result (λ taken. taken ≡ false → self.new.out.items ≡ self.old.out.items) }
     {
         let mut any = false;
         for t in 0..size.threads() as usize {
@@ -186,6 +208,48 @@ impl Merging {
             }
         }
         Ok(any)
+    }
+
+    /// Takes one access, of the first thread whose next one may be taken. Whether there is one.
+    fn take_first(
+        &mut self,
+        size: &MachineSize,
+        pass: &VersionPass,
+        logs: &[Log],
+    ) -> Result<bool, AllocError>
+        requires logs { AreLogs size.now (pass_seen pass.now) logs.now }
+        requires state { IsMerging size.now (pass_seen pass.now) self.old }
+        ensures state { OnOk result (IsMerging size.now (pass_seen pass.now) self.new) }
+        ensures more { IfOk result (λ taken. IsTrue taken → length self.old.out.items < length self.new.out.items) }
+        ensures none { IfOk result (λ taken. taken ≡ false
+            → (t : ℕ) (next : Stamped) → t < size.now.threads → MayBeTaken size.now (pass_seen pass.now) (history_of self.new.out.items) t next → ⊥) }
+    {
+        for t in 0..size.threads() as usize {
+            if self.take(size, pass, logs, t, Failures::Go)? {
+                return Ok(true);
+            }
+        }
+        Ok(false)
+    }
+
+    /// A turn in which failed store-exclusives wait, and where it takes nothing one access that doesn't. Whether one was taken.
+    fn advance(
+        &mut self,
+        size: &MachineSize,
+        pass: &VersionPass,
+        logs: &[Log],
+    ) -> Result<bool, AllocError>
+        requires logs { AreLogs size.now (pass_seen pass.now) logs.now }
+        requires state { IsMerging size.now (pass_seen pass.now) self.old }
+        ensures state { OnOk result (IsMerging size.now (pass_seen pass.now) self.new) }
+        ensures more { IfOk result (λ taken. IsTrue taken → length self.old.out.items < length self.new.out.items) }
+        ensures none { IfOk result (λ taken. taken ≡ false
+            → (t : ℕ) (next : Stamped) → t < size.now.threads → MayBeTaken size.now (pass_seen pass.now) (history_of self.new.out.items) t next → ⊥) }
+    {
+        if self.turn(size, pass, logs)? {
+            return Ok(true);
+        }
+        self.take_first(size, pass, logs)
     }
 
     /// Takes all accesses, which are so many.
@@ -201,7 +265,7 @@ impl Merging {
         ensures merge { OnOk result (IsMerge size.now (pass_seen pass.now) self.new.out.items) }
         ensures form { OnOk result (self.new.out.items ≡ map access_of (history_of self.new.out.items)) }
     {
-        while self.turn(size, pass, logs)? {}
+        while self.advance(size, pass, logs)? {}
         Ok(())
     }
 }

@@ -35,3 +35,4 @@ pub record IsMerging (size : Numbers) (seen : List Entry) (merging : Merging) : 
   pub room : HasRoomForAll size seen merging
   pub threads : length merging.at.items ≡ size.threads
   pub at : (t : ℕ) → t < size.threads → slice_index merging.at.items t ≡ length (log_of size t (history_of merging.out.items))
+  pub reservations : length merging.reservations.loads.items ≡ size.threads

@@ -1,4 +1,4 @@
-use Rattle.std.proofs.Common.{ℕ, ◌≡◌, ◌∙◌, ◌≤◌, ◌<◌, List, IsTrue, get_or, length, replicate, slice_index, sum_by, refl, sym, ap, subst, arith}
+use Rattle.std.proofs.Common.{ℕ, ◌≡◌, ◌∙◌, ◌≤◌, ◌<◌, List, Option, None, IsTrue, get_or, length, replicate, slice_index, sum_by, refl, sym, ap, subst, arith}
 use Rattle.std.proofs.lemmas.List.{length-replicate}
 use Rattle.std.specs.List.{count_by}
 use Rattle.std.specs.Int.{is_power_of_two}
@@ -52,10 +52,11 @@ returns c =
     let end = c.stacked-base.result.1 in
     let some = some-class size.classes (subst (λ n. IsTrue (is_power_of_two n)) c.classes-classes.ensures.number c.classes-classes.ensures.power) in
     let stack : IsStack widths size.classes bases end = subst (λ n. IsStack widths n bases end) c.widths_of-widths.ensures.len c.stacked-base.ensures.stack in
-    let m : Merging = record { at = c.in_ok-at.at; base = c.stacked-base.result.0; left = c.counts_of-left.result; count = c.in_ok-count.count; out = c.in_ok-out.out } in
+    let m : Merging = record { at = c.in_ok-at.at; base = c.stacked-base.result.0; left = c.counts_of-left.result; count = c.in_ok-count.count; reservations = c.in_ok-reservations.reservations; out = c.in_ok-out.out } in
     begun_is size seen logs c.requires.logs c.requires.known widths bases end some c.widths_of-widths.ensures.wide stack m
     c.in_ok-out.ensures.items refl (c.stacked-base.ensures.len ∙ c.widths_of-widths.ensures.len)
     (c.counts_of-left.ensures.len ∙ ap length (c.in_ok-none.ensures.items_if_clones_equal (λ y is. is)) ∙ length-replicate end 0)
     (λ k. subst (λ b. slice_index c.counts_of-left.result.items k ≡ sum_by (λ (log : Log). count_by (is_read_at size b k) log.entries.items) logs) c.as_slice.ensures.value (c.counts_of-left.ensures.left k))
     (c.in_ok-count.ensures.items_if_clones_equal (λ y is. is) ∙ ap (λ n. replicate n 0) c.classes-classes.ensures.number)
     (c.in_ok-at.ensures.items_if_clones_equal (λ y is. is) ∙ ap (λ n. replicate n 0) c.threads-threads.ensures.number)
+    (ap length c.in_ok-reservations.ensures ∙ length-replicate {A = Option Stamped} _ None ∙ c.threads-threads.ensures.number)

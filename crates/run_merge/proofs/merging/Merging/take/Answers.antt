@@ -1,4 +1,4 @@
-use Rattle.std.proofs.Common.{◌∙◌, ℕ, refl, sym, ap, arith, get_or, List, set, ◌+◌}
+use Rattle.std.proofs.Common.{◌∙◌, ℕ, sym, ap, arith, get_or, length, length-set, List, set, ◌+◌}
 use Rattle.std.proofs.lemmas.List.{length-map}
 use Rattle.std.proofs.lemmas.List.Sums.{count_by-le-length}
 use Rattle.llsc_base.proofs.Cells.{class_of-lt}
@@ -11,6 +11,7 @@ use Rattle.run_merge.specs.inner.Merging.{tables_of}
 use Rattle.run_merge.specs.Taking.{row_at}
 use Rattle.run_merge.specs.declared.logs.Log.{Log}
 use Rattle.run_merge.specs.declared.logs.Stamped.{Stamped}
+use Rattle.run_merge.specs.declared.reservations.Reservations.{Reservations}
 use Rattle.run_merge.proofs.Merged.{free_may, goes_on, next_found, none_may, some_left}
 use Rattle.run_merge.proofs.merging.Merging.take.Goals as goal
 
@@ -43,7 +44,7 @@ count_one-requires-clause-spot c =
 
 pub returns-then-not-may_take-clause-none : goal.returns-then-not-may_take-clause-none
 unfolding no_access
-returns-then-not-may_take-clause-none c = λ _.
+returns-then-not-may_take-clause-none c = λ _ _ other may.
     let size = c.args.size.now in
     let seen = pass_seen c.args.pass.now in
     let old = c.args.self.now in
@@ -51,7 +52,7 @@ returns-then-not-may_take-clause-none c = λ _.
     let next : Stamped = get_or c.as_slice-entries.result.now (get_or c.as_slice.result.now c.args.t 0) no_access in
     let at = next_found size seen old c.requires.state c.args.logs.now c.requires.logs c.args.t c.index-logs-t.result c.as_slice.result.now c.as_slice-entries.result.now
     no_access c.requires.known c.index-logs-t.is c.as_slice.ensures.value entries_are c.if-at-entries.false in
-    (refl, λ other may. none_may size seen (history_of old.out.items) (tables_of old) c.requires.state.tables c.requires.state.apart c.args.t next other at (sym c.may_take.ensures ∙ c.if-not-may_take.true) may)
+    none_may size seen (history_of old.out.items) (tables_of old) c.requires.state.tables c.requires.state.apart c.args.t next other at (sym c.may_take.ensures ∙ c.if-not-may_take.true) may
 
 pub count_one-requires-clause-read : goal.count_one-requires-clause-read
 unfolding no_access
@@ -90,3 +91,4 @@ returns-clause-state c =
     let within = class_of-lt size.classes (row_at size next) c.requires.state.room.some in
     goes_on size seen old c.requires.state c.args.t next may c.requires.known within _ (get_or c.as_slice.result.now c.args.t 0) c.count_one.ensures.tables
     (c.count_one.ensures.out ∙ c.in_ok-push.ensures.items) (ap (λ (l : List ℕ). set l c.args.t (get_or c.as_slice.result.now c.args.t 0 + 1)) c.count_one.ensures.at) (ap (λ l. get_or l c.args.t 0) c.as_slice.ensures.value)
+    (ap length c.note.ensures ∙ length-set c.count_one.new.self.reservations.loads.items c.args.t _ ∙ ap (λ (r : Reservations). length r.loads.items) c.count_one.ensures.reservations)

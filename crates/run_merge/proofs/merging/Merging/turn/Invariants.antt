@@ -1,9 +1,6 @@
-use Rattle.std.proofs.Common.{◌≡◌, ℕ, ◌<◌, ◌≤◌, true, false, length}
-use Rattle.history.specs.Accesses.{history_of}
+use Rattle.std.proofs.Common.{◌≡◌, ◌<◌, ◌≤◌, true, false, length}
 use Rattle.version_memory.specs.Memory.{pass_seen}
 use Rattle.run_merge.specs.inner.Merging.{IsMerging}
-use Rattle.run_merge.specs.Taking.{MayBeTaken}
-use Rattle.run_merge.specs.declared.logs.Stamped.{Stamped}
 use Rattle.run_merge.proofs.merging.Merging.turn.Given as goal
 
 abbrev pub invariant-loop-t : goal.invariant-loop-t
@@ -11,6 +8,5 @@ invariant-loop-t l = record {
   state : IsMerging l.size (pass_seen l.pass) l.self;
   more : l.any ≡ true → length l.fn.self.out.items < length l.self.out.items;
   no_less : length l.fn.self.out.items ≤ length l.self.out.items;
-  none : l.any ≡ false → (l.self.out.items ≡ l.fn.self.out.items)
-      × ((u : ℕ) (next : Stamped) → u < l.t → MayBeTaken l.size (pass_seen l.pass) (history_of l.fn.self.out.items) u next → ⊥);
+  same : l.any ≡ false → l.self.out.items ≡ l.fn.self.out.items;
 }
