@@ -30,6 +30,7 @@ state_at_start entry t n sp = record {
 abbrev pub a32 : InstructionSet Instr State
 a32 = record {
   start = state_at_start;
+  pc_of = λ state. state.pc;
   found = λ program state. instr_at program state.pc;
   begins = λ instr program state. effect_of instr program [] state;
   acts = acts;

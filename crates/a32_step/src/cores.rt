@@ -26,6 +26,11 @@ impl Core for Cpu {
     }
 
     #[inline(always)]
+    fn pc(&self) -> u32 {
+        Cpu::pc(self)
+    }
+
+    #[inline(always)]
     fn next(&mut self, image: &Image) -> Wanted {
         Cpu::next(self, image)
     }

@@ -84,7 +84,8 @@ impl Cpu {
 
     /// The address of the instruction in hand, or of the next one.
     pub fn pc(&self) -> u32
-        ensures { result ≡ self.now.state.pc }
+        ensures pc { result ≡ self.now.state.pc }
+        ensures aligned { result % 4 ≡ 0 }
     {
         self.execution.pc()
     }

@@ -59,6 +59,11 @@ impl Core for Remembering {
     }
 
     #[inline(always)]
+    fn pc(&self) -> u32 {
+        self.cpu.pc()
+    }
+
+    #[inline(always)]
     fn carry<P: Port>(&mut self, code: &mut Code<Conditional>, port: &mut P) -> Passage {
         self.cpu.carry(code, port)
     }

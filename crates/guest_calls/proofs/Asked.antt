@@ -6,12 +6,14 @@ use Rattle.llsc_base.specs.Images.{Program}
 use Rattle.llsc_base.specs.declared.access.Place.{Place}
 use Rattle.llsc_base.specs.declared.outside.Ask.{Ask}
 use Rattle.llsc_base.specs.declared.outside.Ask.TheVariants.{Store}
+use Rattle.llsc_base.specs.declared.outside.CallAsk.{CallAsk}
 use Rattle.llsc_base.specs.declared.outside.Stop.{Stop}
 use Rattle.llsc_base.specs.declared.outside.Stop.TheVariants.{TagLimit}
 use Rattle.llsc_base.specs.Effects.{asks, calls}
 use Rattle.guest_core.specs.Machine.{MachineOf, InstructionSet, next_of}
-use Rattle.guest_calls.specs.Run.{Pair, byte_load, byte_loads, Reaches, Ends, EndsOn, by_itself, by_limit, Asks, asks_access, asks_byte}
-use Rattle.guest_calls.proofs.Decided.{Replies, AreDecided, Spot, spot_at, replied, followed, bytes_by, printed, answered_so, decided_front, loads_on, first_found, came, ended, asking, rest_by_call, Rests, rests_by, one_way, ends_rest}
+use Rattle.guest_calls.specs.Calls.{writes_bytes}
+use Rattle.guest_calls.specs.Run.{Pair, byte_load, byte_loads, effect_of_call, Reaches, Ends, EndsOn, by_itself, by_limit, Asks, asks_access, asks_byte}
+use Rattle.guest_calls.proofs.Decided.{Replies, AreDecided, Spot, spot_at, replied, followed, bytes_by, printed, answered_so, decided_front, loads_on, first_found, came, ended, asking, rest_by_call, Rests, rests_by, Comes, turn, turn_by, one_spot, one_way, ends_rest}
 use Rattle.guest_calls.proofs.Listed.{reply_after, list_decides, list_ends, one_end_of_list}
 
 -- nothing is replied to the next access
@@ -89,6 +91,46 @@ module _ {I S : Type 0} (set : InstructionSet I S) where
             (ap (rest_by_call set (length all - length pairs) here) known
             ∙ ap (λ loaded. asking (byte_load (from + loaded)) steps output) (loaded_are pairs from bytes)),
       )
+
+  -- ---- where it rests, by the replies of the list itself
+
+  -- a thread with these accesses and replies behind it comes to a spot, and no further
+  abbrev pub RestsAt : Program → ℕ → MachineOf I S → List Pair → Spot I S → Type 0
+  RestsAt program budget start pairs spot =
+      Comes set (replies_of pairs) program budget start spot × (turn set (replies_of pairs) program budget spot ≡ spot)
+
+  -- it rests where its instruction asks
+  pub rests_at_access : (program : Program) (budget : ℕ) (start : MachineOf I S) (pairs : List Pair) (machine : MachineOf I S) (steps : ℕ) (output : List ℕ) (ask : Ask)
+      → Reaches set program budget start pairs machine steps output → steps < budget → next_of set program machine ≡ asks ask
+      → RestsAt program budget start pairs (spot_at set pairs machine steps output)
+  rests_at_access program budget start pairs machine steps output ask reached less asked =
+      let replies : Replies = replies_of pairs in
+      let here : Spot I S = spot_at set pairs machine steps output in (
+        came set replies program budget start pairs machine steps output reached (list_decides pairs),
+        turn_by set replies program budget here (asks ask) less asked ∙ ap (replied set program here ask) (list_ends pairs),
+      )
+
+  -- it rests at a write that wants a byte more
+  pub rests_at_byte : (program : Program) (budget : ℕ) (start : MachineOf I S) (pairs : List Pair) (machine : MachineOf I S) (steps : ℕ) (output : List ℕ) (call : CallAsk) (from count : ℕ) (bytes : List ℕ)
+      → Reaches set program budget start pairs machine steps output → steps < budget → next_of set program machine ≡ calls call
+      → effect_of_call set program call (length output) ≡ writes_bytes from count → length bytes < count
+      → RestsAt program budget start (pairs ++ byte_loads from bytes) (spot_at set pairs machine steps output)
+  rests_at_byte program budget start pairs machine steps output call from count bytes reached less called known short =
+      let all : List Pair = pairs ++ byte_loads from bytes in
+      let replies : Replies = replies_of all in
+      let here : Spot I S = spot_at set pairs machine steps output in
+      let decided : AreDecided replies all = list_decides all in (
+        came set replies program budget start pairs machine steps output reached (decided_front replies pairs (byte_loads from bytes) decided),
+        turn_by set replies program budget here (calls call) less called
+            ∙ ap (answered_so set replies program here) known
+            ∙ ap (printed set program here from count) (bytes_short replies pairs from count bytes decided (λ asked. list_ends all) short),
+      )
+
+  -- it rests at one spot
+  pub one_rest_of : (program : Program) (budget : ℕ) (start : MachineOf I S) (pairs : List Pair) (one other : Spot I S)
+      → RestsAt program budget start pairs one → RestsAt program budget start pairs other → one ≡ other
+  one_rest_of program budget start pairs one other first second =
+      one_spot set (replies_of pairs) program budget start one other first.0 first.1 second.0 second.1
 
   -- ---- the laws, by the replies of the list itself
 

@@ -174,7 +174,7 @@ module _ {I S : Type 0} (set : InstructionSet I S) where
       ap (λ b. if b then of_effect (next_of set program spot.machine) else spent) (le-ltb spot.steps budget used)
 
   -- a turn whose effect is known
-  turn_by : (replies : Replies) (program : Program) (budget : ℕ) (spot : Spot I S) (effect : EffectOf S)
+  pub turn_by : (replies : Replies) (program : Program) (budget : ℕ) (spot : Spot I S) (effect : EffectOf S)
       → spot.steps < budget → next_of set program spot.machine ≡ effect → turn replies program budget spot ≡ moved replies program spot effect
   unfolding turn
   turn_by replies program budget spot = at_effect program budget spot (moved replies program spot) spot
@@ -273,16 +273,22 @@ module _ {I S : Type 0} (set : InstructionSet I S) where
         rests_so = at_budget program budget here (rest_by program (length behind - length here.pairs) here) (spent_at here) used;
       }
 
+  -- a run rests at one spot
+  pub one_spot : (replies : Replies) (program : Program) (budget : ℕ) (start : MachineOf I S) (one two : Spot I S)
+      → Comes replies program budget start one → turn replies program budget one ≡ one
+      → Comes replies program budget start two → turn replies program budget two ≡ two → one ≡ two
+  one_spot replies program budget start one two comes stays comes_too stays_too =
+      sym comes.1
+      ∙ one_rest replies program budget comes.0 comes_too.0 (begun start)
+      (ap (turn replies program budget) comes.1 ∙ stays ∙ sym comes.1)
+      (ap (turn replies program budget) comes_too.1 ∙ stays_too ∙ sym comes_too.1)
+      ∙ comes_too.1
+
   -- a run rests in one way
   pub one_way : (replies : Replies) (program : Program) (budget : ℕ) (start : MachineOf I S) (behind : List Pair) (how other : Rest)
       → Rests replies program budget start behind how → Rests replies program budget start behind other → how ≡ other
   one_way replies program budget start behind how other one two =
-      let same : one.spot ≡ two.spot =
-      sym one.comes.1
-      ∙ one_rest replies program budget one.comes.0 two.comes.0 (begun start)
-      (ap (turn replies program budget) one.comes.1 ∙ one.stays ∙ sym one.comes.1)
-      (ap (turn replies program budget) two.comes.1 ∙ two.stays ∙ sym two.comes.1)
-      ∙ two.comes.1 in
+      let same = one_spot replies program budget start one.spot two.spot one.comes one.stays two.comes two.stays in
       sym one.rests_so ∙ ap (rest_of program budget behind) same ∙ two.rests_so
 
   -- ---- an end

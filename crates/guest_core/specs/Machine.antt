@@ -18,11 +18,12 @@ pub record MachineOf (I S : Type 0) : Type 0 where
   pub phase : PhaseOf I
   pub replies : List ℕ
 
--- An instruction set: the state in which thread t of n starts at an entry with a stack pointer; the instruction at a state's PC,
+-- An instruction set: the state in which thread t of n starts at an entry with a stack pointer; a state's PC; the instruction there,
 -- or the stop where there is none; what an instruction does first, and what it does with its replies so far; the state after a
 -- guest call with its answer; and the call of the table of guest calls that a call of this set is.
 pub record InstructionSet (I S : Type 0) : Type 0 where
   pub start : (entry t n sp : ℕ) → S
+  pub pc_of : S → ℕ
   pub found : Program → S → Result I Stop
   pub begins : I → Program → S → EffectOf S
   pub acts : I → Program → List ℕ → S → EffectOf S

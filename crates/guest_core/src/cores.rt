@@ -36,6 +36,11 @@ pub trait Core: Send + Drop {
         requires { entry % 4 ≡ 0 }
         ensures { machine result ≡ start_in set entry t n sp };
 
+    /// The address of the instruction in hand, or of the next one.
+    fn pc(&self) -> u32
+        ensures pc { result ≡ set.pc_of (machine self.now).state }
+        ensures aligned { result % 4 ≡ 0 };
+
     /// Goes on until something is wanted from outside; neither a reply nor an answer may be awaited.
     fn next(&mut self, image: &Image) -> Wanted
         requires { AwaitsNothing (machine self.old).phase }

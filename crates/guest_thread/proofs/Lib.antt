@@ -22,3 +22,4 @@ pub mod Answered
 pub mod Unstarted
 pub mod Unspared
 pub mod Ways
+pub mod OneStanding

@@ -1,5 +1,5 @@
 //! A thread's turns.
-ghost use Rattle.std.specs.Prelude.{◌≡◌, ◌≤◌, ◌<◌, ◌+◌, ◌^◌, ℕ, Bool, List, [], None, Some, ◌∷◌, ◌++◌, length, true, IfNone, IfOk, IfSome, IsTrue, MatchOption};
+ghost use Rattle.std.specs.Prelude.{◌≡◌, ◌≤◌, ◌<◌, ◌+◌, ◌%◌, ◌^◌, ℕ, Bool, List, [], None, Some, ◌∷◌, ◌++◌, length, true, IfNone, IfOk, IfSome, IsTrue, MatchOption};
 ghost use Rattle.llsc_base.specs.Limits.{most_budget};
 ghost use Rattle.llsc_base.specs.Images.{Program};
 ghost use Rattle.llsc_base.specs.declared.outside.Ask.{Ask};
@@ -178,6 +178,15 @@ impl<C: Core> Guest<C> {
         ensures { result ≡ self.now.steps }
     {
         self.steps
+    }
+
+    /// The address of the instruction in hand, or of the next one.
+    #[inline]
+    pub fn pc(&self) -> u32
+        ensures pc { result ≡ C.set.pc_of (thread_in C.machine self.now).cpu.state }
+        ensures aligned { result % 4 ≡ 0 }
+    {
+        self.cpu.pc()
     }
 
     /// What the thread wrote.

@@ -1,5 +1,5 @@
 -- What is known of each thread, by its number.
-use Rattle.std.proofs.Common.{◌≡◌, ◌≢◌, ℕ, ◌+◌, ◌<◌, inl, inr, Option, Some, None, IfNone, IfSome, List, [], ◌∷◌, ◌++◌, length, set, get_or, sym, subst, length-append, length-set, arith}
+use Rattle.std.proofs.Common.{◌≡◌, ◌≢◌, ℕ, ◌+◌, ◌<◌, inl, inr, Result, Ok, Err, IfOk, IfErr, List, [], ◌∷◌, ◌++◌, length, set, get_or, sym, subst, length-append, length-set, arith}
 use Rattle.std.proofs.lemmas.Bool.{cases_eq, cases_lt}
 use Rattle.std.proofs.lemmas.List.{get_or_append_left, get_or_push, get_or-set_same, get_or-set_other}
 use Rattle.std.specs.Vec.{with_item}
@@ -12,6 +12,7 @@ use Rattle.guest_thread.specs.Start.{thread_start}
 use Rattle.guest_thread.specs.Under.{HasCome}
 use Rattle.run_checker.specs.inner.Positions.{AreBrought, BringsOn, IsBrought}
 use Rattle.run_checker.specs.declared.checker.Checker.{Checker}
+use Rattle.run_checker.specs.declared.sightings.Sighting.{Sighting}
 use Rattle.guest_thread.proofs.Pushed.{other_push}
 use Rattle.guest_core.specs.Machine.{MachineOf, InstructionSet}
 
@@ -42,14 +43,14 @@ at_set P Q xs i y each others own k d less =
       | inr apart ↦ subst (λ v. Q k v) (sym (get_or-set_other xs i k y d apart)) (others k (get_or xs k d) apart (each k d inside))
     ]
 
--- what follows for what an option has, and for none
-pub weaker_some : {X : Type 0} (o : Option X) (P Q : X → Type 0) → ((x : X) → P x → Q x) → IfSome o P → IfSome o Q
-weaker_some None P Q more known = tt
-weaker_some (Some x) P Q more known = more x known
+-- what follows for an answer, and for an error
+pub weaker_ok : {X Y : Type 0} (r : Result X Y) (P Q : X → Type 0) → ((x : X) → P x → Q x) → IfOk r P → IfOk r Q
+weaker_ok (Ok x) P Q more known = more x known
+weaker_ok (Err y) P Q more known = tt
 
-pub weaker_none : {X : Type 0} (o : Option X) (P Q : Type 0) → (P → Q) → IfNone o P → IfNone o Q
-weaker_none None P Q more known = more known
-weaker_none (Some x) P Q more known = tt
+pub weaker_err : {X Y : Type 0} (r : Result X Y) (P Q : Y → Type 0) → ((y : Y) → P y → Q y) → IfErr r P → IfErr r Q
+weaker_err (Ok x) P Q more known = tt
+weaker_err (Err y) P Q more known = more y known
 
 module _ {I S : Type 0} (set : InstructionSet I S) {C R : Type 0} (machine : C → MachineOf I S) where
   -- a thread that was taken out of the others
@@ -60,10 +61,10 @@ module _ {I S : Type 0} (set : InstructionSet I S) {C R : Type 0} (machine : C �
       subst (IsBrought set machine program size budget early t) (sym is) (brought.guests t guest known)
 
   -- an access that brings its thread and memory on brings all of them on
-  pub all_brought : (program : Program) (size : Numbers) (budget : ℕ) (early : List Access) (access : Access) (checker : Checker C R) (guest : ThreadStateOf C) (memory : Monitor)
-      → AreBrought set machine program size budget early checker → BringsOn set machine program size budget early access guest memory
+  pub all_brought : (program : Program) (size : Numbers) (budget : ℕ) (early : List Access) (access : Access) (sighting : Sighting) (checker : Checker C R) (guest : ThreadStateOf C) (memory : Monitor)
+      → AreBrought set machine program size budget early checker → BringsOn set machine program size budget early access sighting guest memory
       → AreBrought set machine {R = R} program size budget (early ++ access ∷ []) (record { guests = with_item checker.guests access.thread guest; memory = memory })
-  all_brought program size budget early access checker guest memory brought step = record {
+  all_brought program size budget early access sighting checker guest memory brought step = record {
     guests =
         at_set (IsBrought set machine program size budget early) (IsBrought set machine program size budget (early ++ access ∷ [])) checker.guests.items access.thread guest brought.guests
         (λ k other apart come. subst (λ pairs. HasCome set program budget (thread_start set program size size.threads k) pairs (thread_in machine other)) (sym (other_push k early access (λ same. apart (sym same)))) come)

@@ -13,7 +13,7 @@ use Rattle.run_checker.proofs.Right.{right_none, right_push}
 use Rattle.guest_core.specs.Machine.{MachineOf, InstructionSet}
 
 -- all are made where none is left
-all_early : (accesses early rest : List Access) → accesses ≡ early ++ rest → rest ≡ [] → accesses ≡ early
+pub all_early : (accesses early rest : List Access) → accesses ≡ early ++ rest → rest ≡ [] → accesses ≡ early
 all_early accesses early rest parts none = parts ∙ ap (λ l. early ++ l) none ∙ append-nil early
 
 module _ {I S : Type 0} (set : InstructionSet I S) {C R : Type 0} (machine : C → MachineOf I S) where

@@ -6,3 +6,4 @@ pub mod GoodRecords
 pub mod Makes
 pub mod EachThread
 pub mod Judging
+pub mod Seen

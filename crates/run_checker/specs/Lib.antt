@@ -1,3 +1,4 @@
 pub mod Verdict
+pub mod Sighted
 pub mod Worked
 pub mod inner

@@ -1,8 +1,9 @@
 //! An access of a record, made in memory.
-ghost use Rattle.std.specs.Prelude.{◌≢◌, ◌≤◌, ◌+◌, IfSome, IfNone, length};
+ghost use Rattle.std.specs.Prelude.{◌≡◌, ◌≢◌, ◌≤◌, ◌+◌, IfSome, IfNone, length};
 ghost use Rattle.llsc_base.specs.Memory.{size_bytes};
 ghost use Rattle.history.specs.Monitor.{IsAsLarge};
-ghost use Rattle.run_record.specs.Limits.{IsAccess};
+ghost use Rattle.run_record.specs.Limits.{IsAccess, IsFormed};
+ghost use Rattle.run_checker.specs.Sighted.{held_at};
 ghost use Rattle.run_checker.specs.inner.Serving.{StandsAgainst, IsMadeAsRecorded};
 
 use crate::verdicts::Reason;
@@ -24,4 +25,17 @@ pub fn serve(memory: &mut PlainMemory, access: Access) -> Option<Reason>
         return Some(Reason::WrongValue);
     }
     None
+}
+
+/// Of a store-exclusive that failed the value that memory has at its place, and of any other access 0.
+#[inline]
+pub fn held_at(memory: &PlainMemory, access: &Access) -> u64
+    requires formed { IsFormed access.now }
+    requires inside { access.now.deed ≢ Deed.Clear → access.now.place.addr + size_bytes access.now.place.size ≤ length memory.now.memory }
+    ensures { result ≡ held_at memory.now access.now }
+{
+    match access.deed {
+        Deed::StoreFail => memory.load(access.place),
+        _ => 0,
+    }
 }

@@ -28,6 +28,7 @@ state_at_start entry t n sp = record {
 abbrev pub rv32 : InstructionSet RvInstr RvState
 rv32 = record {
   start = state_at_start;
+  pc_of = λ state. state.pc;
   found = λ program state. instr_at program state.pc;
   begins = λ instr program state. acts instr program [] state;
   acts = acts;

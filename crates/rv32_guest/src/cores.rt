@@ -51,6 +51,11 @@ impl Core for RvCpu {
     }
 
     #[inline(always)]
+    fn pc(&self) -> u32 {
+        RvCpu::pc(self)
+    }
+
+    #[inline(always)]
     fn next(&mut self, image: &Image) -> Wanted {
         RvCpu::next(self, image)
     }

@@ -12,6 +12,8 @@ use Rattle.guest_thread.specs.Under.{HasCome}
 use Rattle.guest_thread.specs.Accesses.{monitor_of}
 use Rattle.guest_thread.specs.Ended.{HasEnded}
 use Rattle.run_checker.specs.Verdict.{AsksNext, IsRight}
+use Rattle.run_checker.specs.Sighted.{IsSighted}
+use Rattle.run_checker.specs.declared.sightings.Sighting.{Sighting}
 use Rattle.llsc_base.specs.declared.outside.Ask.{Ask}
 use Rattle.run_checker.specs.declared.checker.Checker.{Checker}
 use Rattle.guest_core.specs.Machine.{MachineOf, InstructionSet}
@@ -22,9 +24,10 @@ module _ {I S : Type 0} (set : InstructionSet I S) {C : Type 0} (machine : C →
   abbrev pub IsBrought : Program → Numbers → ℕ → List Access → ℕ → ThreadStateOf C → Type 0
   IsBrought program size budget early t guest = HasCome set program budget (thread_start set program size size.threads t) (pairs_in t early) (thread_in machine guest)
 
-  -- an access is right, and has brought its thread and memory on
-  pub record BringsOn (program : Program) (size : Numbers) (budget : ℕ) (early : List Access) (access : Access) (guest : ThreadStateOf C) (memory : Monitor) : Type 0 where
+  -- an access is right and is sighted so, and has brought its thread and memory on
+  pub record BringsOn (program : Program) (size : Numbers) (budget : ℕ) (early : List Access) (access : Access) (sighting : Sighting) (guest : ThreadStateOf C) (memory : Monitor) : Type 0 where
     pub right : IsRight set program size budget early access
+    pub sighted : IsSighted set program size budget early access sighting
     pub brought : IsBrought program size budget (early ++ access ∷ []) access.thread guest
     pub left : memory ≡ monitor_of program size (early ++ access ∷ [])
 

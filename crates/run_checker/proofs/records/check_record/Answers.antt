@@ -1,6 +1,7 @@
 use Rattle.std.proofs.Common.{◌≡◌, All, length, sym, subst, ◌∙◌}
 use Rattle.run_record.specs.Limits.{IsAccess}
 use Rattle.run_checker.specs.Verdict.{Judges}
+use Rattle.run_checker.proofs.EachThread.{weaker_ok}
 use Rattle.run_checker.proofs.records.check_record.Goals as goal
 
 pub verdict_of-requires-clause-ready : goal.verdict_of-requires-clause-ready
@@ -10,10 +11,13 @@ pub verdict_of-requires-clause-accesses : goal.verdict_of-requires-clause-access
 verdict_of-requires-clause-accesses g c κs within =
     let ready = c.in_ok-checker.ensures.ready c.args.run.now.budget in
     let marks : c.args.run.now.threads ≡ length c.in_ok-checker.checker.memory.marks = c.requires.threads ∙ sym c.in_ok-checker.ensures.threads ∙ sym ready.marks in
-    subst (λ n. All (IsAccess n) c.as_slice.result.now) marks
-    (subst (λ accesses. All (IsAccess c.args.run.now.threads) accesses) (sym c.as_slice.ensures) c.requires.limits.accesses)
+    subst (λ n. All (IsAccess n) c.as_slice-accesses.result.now) marks
+    (subst (λ accesses. All (IsAccess c.args.run.now.threads) accesses) (sym c.as_slice-accesses.ensures) c.requires.limits.accesses)
 
 pub returns : goal.returns
 returns g c =
-    subst (λ accesses. Judges g.C.Core.set c.args.image.now c.args.size.now c.args.run.now.budget accesses c.verdict_of.result) c.as_slice.ensures
-    (c.verdict_of.ensures c.args.size.now (sym c.in_ok-checker.ensures.threads) (c.in_ok-checker.ensures.brought c.args.run.now.budget))
+    weaker_ok c.verdict_of.result _ _
+    (λ verdict judges.
+    subst (λ accesses. Judges g.C.Core.set c.args.image.now c.args.size.now c.args.run.now.budget accesses verdict) c.as_slice-accesses.ensures
+    (judges c.args.size.now (sym c.in_ok-checker.ensures.threads) (c.in_ok-checker.ensures.brought c.args.run.now.budget)))
+    c.verdict_of.ensures.verdict
