@@ -2,7 +2,7 @@
 use Rattle.std.proofs.Common.{◌≡◌, ◌≢◌, ℕ, inl, inr, List, [], ◌∷◌, Option, Some, None, refl}
 use Rattle.std.proofs.lemmas.List.Elements.{recursion_from_All}
 use Rattle.llsc_host.specs.Host.{AreBytes}
-use Rattle.llsc_words.specs.Request.{Request, Solo, Run, Pool, Record, Assemble, Disassemble, Trace, Check, Load, files_of}
+use Rattle.llsc_words.specs.Request.{Request, Solo, Run, Pool, Record, Assemble, Disassemble, Trace, Check, Explain, Load, files_of}
 use Rattle.llsc_call.specs.Answer.{AreFiles, AreTold, IsDue, IsNoneOf}
 
 -- files that are told
@@ -37,5 +37,8 @@ due_named held (Disassemble file format mem) name none due = not_first name file
 due_named held (Trace file format threads mem granule seed budget) name none due = not_first name file [] none due.0
 due_named held (Check file recorded format mem) name none (inl is) = not_first name file (recorded ∷ []) none is
 due_named held (Check file recorded format mem) name none (inr due) =
+    (recursion_from_All (λ x. name ≢ x) (file ∷ recorded ∷ []) none).1.0 due.0
+due_named held (Explain file recorded format mem) name none (inl is) = not_first name file (recorded ∷ []) none is
+due_named held (Explain file recorded format mem) name none (inr due) =
     (recursion_from_All (λ x. name ≢ x) (file ∷ recorded ∷ []) none).1.0 due.0
 due_named held (Load seed threads rounds budget) name none due = due

@@ -2,6 +2,7 @@
 use Rattle.std.proofs.Common.{◌≡◌, ℕ, inl, inr, List, [], ◌∷◌, Option, Some, None, Result, Ok, Err, Vec, refl, sym, subst, codes, ◌∙◌}
 use Rattle.std.specs.Global.{Global}
 use Rattle.std.specs.Result.{IsErrAnd}
+use Rattle.llsc_base.specs.Images.{Program}
 use Rattle.llsc_base.specs.Sizes.{Numbers}
 use Rattle.a32_asm.specs.Assembled.{most_text, unit_of}
 use Rattle.llsc_host.specs.declared.host.Host.{Ghosts}
@@ -14,15 +15,17 @@ use Rattle.llsc_host.proofs.Kept.{reads_kept, writes_kept}
 use Rattle.llsc_words.specs.declared.formats.Format.{Format}
 use Rattle.llsc_words.specs.declared.sets.SetName.{SetName}
 use Rattle.llsc_words.specs.declared.sets.SetName.TheVariants.{A32}
-use Rattle.llsc_words.specs.Request.{Request, Solo, Run, Pool, Record, Assemble, Disassemble, Trace, Check, Load, files_of}
+use Rattle.llsc_words.specs.Request.{Request, Solo, Run, Pool, Record, Assemble, Disassemble, Trace, Check, Explain, Load, files_of}
 use Rattle.llsc_files.specs.Programs.{image_of, program_refusal, program_refusal_as}
 use Rattle.llsc_files.specs.Reads.{Had, IsHad, MayBeLong, Reads}
 use Rattle.llsc_files.specs.Refusals.{Answer, Is, machine_of, most_program, size_refusal, solo_size, too_long, unless}
 use Rattle.llsc_texts.specs.Assembly.{text_answer, text_refusal}
 use Rattle.llsc_texts.specs.Disassembly.{disassembly}
 use Rattle.run_record.specs.Reading.{record_of}
+use Rattle.run_record.specs.declared.records.RunRecord.{RunRecord}
 use Rattle.llsc_call.specs.Answer.{Answers, AreFiles, IsDue, IsReported}
-use Rattle.llsc_call.specs.Check.{JudgesRead, files_refusal, most_record}
+use Rattle.llsc_call.specs.Check.{files_refusal, most_record, AnswersFiles, AnswersRead, IsJudged}
+use Rattle.llsc_call.specs.Explain.{IsExplained}
 use Rattle.llsc_call.specs.inner.Files.{IsRefusedLong, ReadFiles, ReadWanted, barred, first_file, second_file}
 use Rattle.llsc_call.specs.Record.{RecordsRun}
 use Rattle.llsc_call.specs.Run.{ReportsRun, UnlessRun}
@@ -52,6 +55,7 @@ stands (Assemble name format) file = text_refusal file
 stands (Disassemble name format mem) file = program_refusal format (solo_size mem) file
 stands (Trace name format threads mem granule seed budget) file = program_refusal format (machine_of mem threads granule) file
 stands (Check name recorded format mem) file = too_long most_program file
+stands (Explain name recorded format mem) file = too_long most_program file
 stands (Load seed threads rounds budget) file = None
 
 -- a request's first file may hold this, if it has one
@@ -65,6 +69,17 @@ is_refused against answer name is = subst (λ r. Is (unless r answer) 4 (refusal
 
 run_is_refused : (against : Option (List ℕ)) (answers : ℕ → List ℕ → Type 0) (name : List ℕ) → against ≡ Some name → UnlessRun against None answers 4 (refusal_text name)
 run_is_refused against answers name is = subst (λ r. UnlessRun r None answers 4 (refusal_text name)) (sym is) (refl, (refl, refl))
+
+-- and those of a record and its program
+first_is_refused : (answers : Program → Numbers → RunRecord → ℕ → List ℕ → Type 0) (format : Format) (mem : ℕ) (file recorded name : List ℕ) → too_long most_program file ≡ Some name
+    → AnswersFiles answers format mem file recorded 4 (refusal_text name)
+first_is_refused answers format mem file recorded name is =
+    unless_refused (AnswersRead answers format mem file (record_of recorded)) (files_refusal file recorded) name (rw is refl)
+
+second_is_refused : (answers : Program → Numbers → RunRecord → ℕ → List ℕ → Type 0) (format : Format) (mem : ℕ) (file recorded name : List ℕ) → too_long most_program file ≡ None
+    → too_long most_record recorded ≡ Some name → AnswersFiles answers format mem file recorded 4 (refusal_text name)
+second_is_refused answers format mem file recorded name short is =
+    unless_refused (AnswersRead answers format mem file (record_of recorded)) (files_refusal file recorded) name (rw (short, is) refl)
 
 -- it is refused by what stands against it
 refused_first : (held : List ℕ → Option (List ℕ)) (asked : Request) (file against : List ℕ) → MayBe held (first_file asked) file → stands asked file ≡ Some against
@@ -85,13 +100,11 @@ refused_first held (Trace name format threads mem granule seed budget) file agai
     let size = machine_of mem threads granule in
     (file ∷ [], ((may, tt), (refl, unless_refused (Traces (image_of format file size) size seed budget) (program_refusal format size file) against is)))
 refused_first held (Check name recorded format mem) file against may is =
-    let other = held_bytes (held recorded) in (
-      file ∷ other ∷ [],
-      (
-        (may, (are_held (held recorded), tt)),
-        (refl, unless_refused (JudgesRead format mem file (record_of other)) (files_refusal file other) against (rw is refl)),
-      ),
-    )
+    let other = held_bytes (held recorded) in
+    (file ∷ other ∷ [], ((may, (are_held (held recorded), tt)), (refl, first_is_refused IsJudged format mem file other against is)))
+refused_first held (Explain name recorded format mem) file against may is =
+    let other = held_bytes (held recorded) in
+    (file ∷ other ∷ [], ((may, (are_held (held recorded), tt)), (refl, first_is_refused IsExplained format mem file other against is)))
 refused_first held (Load seed threads rounds budget) file against may is = absurd may
 
 -- by its machine, whatever its file
@@ -120,6 +133,7 @@ refused_barred held (Trace name format threads mem granule seed budget) against 
     refused_first held (Trace name format threads mem granule seed budget) file against (are_held (held name)) (unsized A32 format (machine_of mem threads granule) file against is)
 refused_barred held (Assemble name format) against is = absurd cc
 refused_barred held (Check name recorded format mem) against is = absurd cc
+refused_barred held (Explain name recorded format mem) against is = absurd cc
 refused_barred held (Load seed threads rounds budget) against is = absurd cc
 
 -- by the length of its file
@@ -193,18 +207,22 @@ first_unread host old new (Check name recorded format mem) f none read =
     let asked : Request = Check name recorded format mem in
     one_unread host old new asked name most_program f (inl refl)
     (λ may. refused_first (host.file old) asked may.0 (codes "FileTooLong") may.1.0 may.1.1) read
+first_unread host old new (Explain name recorded format mem) f none read =
+    let asked : Request = Explain name recorded format mem in
+    one_unread host old new asked name most_program f (inl refl)
+    (λ may. refused_first (host.file old) asked may.0 (codes "FileTooLong") may.1.0 may.1.1) read
 first_unread host old new (Load seed threads rounds budget) f none read = absurd read
 
 -- the record, behind a program that is not too long
-record_long : (held : List ℕ → Option (List ℕ)) (name recorded : List ℕ) (format : Format) (mem : ℕ) (file : List ℕ) → AreBytes (held name) file → too_long most_program file ≡ None
+check_long : (held : List ℕ → Option (List ℕ)) (name recorded : List ℕ) (format : Format) (mem : ℕ) (file : List ℕ) → AreBytes (held name) file → too_long most_program file ≡ None
     → MayBeLong (held recorded) most_record → IsRefusedLong held (Check name recorded format mem)
-record_long held name recorded format mem file may short too_long = (
-  file ∷ too_long.0 ∷ [],
-  (
-    (may, (too_long.1.0, tt)),
-    (refl, unless_refused (JudgesRead format mem file (record_of too_long.0)) (files_refusal file too_long.0) (codes "FileTooLong") (rw (short, too_long.1.1) refl)),
-  ),
-)
+check_long held name recorded format mem file may short long =
+    (file ∷ long.0 ∷ [], ((may, (long.1.0, tt)), (refl, second_is_refused IsJudged format mem file long.0 (codes "FileTooLong") short long.1.1)))
+
+explain_long : (held : List ℕ → Option (List ℕ)) (name recorded : List ℕ) (format : Format) (mem : ℕ) (file : List ℕ) → AreBytes (held name) file → too_long most_program file ≡ None
+    → MayBeLong (held recorded) most_record → IsRefusedLong held (Explain name recorded format mem)
+explain_long held name recorded format mem file may short long =
+    (file ∷ long.0 ∷ [], ((may, (long.1.0, tt)), (refl, second_is_refused IsExplained format mem file long.0 (codes "FileTooLong") short long.1.1)))
 
 pub second_unread : {S : Type 0} (host : Ghosts S) (old mid new : S) (asked : Request) (file : Vec ℕ Global) (f : ReadFault)
     → ReadWanted host old mid (first_file asked) (Ok file) → ReadWanted host mid new (second_file asked) (Err f) → ReadFiles host old new asked (Err f)
@@ -217,7 +235,11 @@ second_unread host old mid new (Disassemble name format mem) file f first second
 second_unread host old mid new (Trace name format threads mem granule seed budget) file f first second = absurd second
 second_unread host old mid new (Check name recorded format mem) file f first second =
     one_unread host old new (Check name recorded format mem) recorded most_record f (inr (refl, (file.items, first.had.1)))
-    (record_long (host.file old) name recorded format mem file.items first.had.1.0 first.had.1.1)
+    (check_long (host.file old) name recorded format mem file.items first.had.1.0 first.had.1.1)
+    (reads_on host old mid new recorded most_record (Err f) first.had.0 first.writes second)
+second_unread host old mid new (Explain name recorded format mem) file f first second =
+    one_unread host old new (Explain name recorded format mem) recorded most_record f (inr (refl, (file.items, first.had.1)))
+    (explain_long (host.file old) name recorded format mem file.items first.had.1.0 first.had.1.1)
     (reads_on host old mid new recorded most_record (Err f) first.had.0 first.writes second)
 second_unread host old mid new (Load seed threads rounds budget) file f first second = absurd second
 
@@ -238,6 +260,9 @@ all_had host old mid new (Disassemble name format mem) files first second =
 all_had host old mid new (Trace name format threads mem granule seed budget) files first second =
     record { had = (reads_kept host old mid new first.had.0 second.0, ((first.had.1.1, tt), (first.had.1.0, tt))); writes = writes_kept host old mid new first.writes second.1 }
 all_had host old mid new (Check name recorded format mem) files first second =
+    let other = reads_on host old mid new recorded most_record (Ok files.second) first.had.0 first.writes second in
+    record { had = (other.had.0, ((first.had.1.1, other.had.1.1), (first.had.1.0, (other.had.1.0, tt)))); writes = other.writes }
+all_had host old mid new (Explain name recorded format mem) files first second =
     let other = reads_on host old mid new recorded most_record (Ok files.second) first.had.0 first.writes second in
     record { had = (other.had.0, ((first.had.1.1, other.had.1.1), (first.had.1.0, (other.had.1.0, tt)))); writes = other.writes }
 all_had host old mid new (Load seed threads rounds budget) files first second =

@@ -1,6 +1,6 @@
 pub mod Statuses
 pub mod Outcomes
-pub mod CheckAnswers
+pub mod RecordFiles
 pub mod Closed
 pub mod RunAnswers
 pub mod RunMachine

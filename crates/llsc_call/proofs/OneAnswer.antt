@@ -19,6 +19,10 @@ use Rattle.run_record.specs.Reading.{record_of}
 use Rattle.run_record.specs.declared.faults.RecordFault.{RecordFault}
 use Rattle.run_record.specs.declared.records.RunRecord.{RunRecord}
 use Rattle.run_checker.proofs.Right.{one_verdict}
+use Rattle.run_checker.proofs.Seen.{one_list_from}
+use Rattle.run_checker.specs.declared.verdicts.Verdict.{Verdict}
+use Rattle.run_checker.specs.declared.verdicts.Verdict.TheVariants as verdict
+use Rattle.run_explainer.specs.Text.{explanation}
 use Rattle.llsc_words.specs.declared.formats.Format.{Format}
 use Rattle.llsc_words.specs.declared.sets.SetName.{SetName}
 use Rattle.llsc_words.specs.declared.sets.SetName.TheVariants.{A32, Rv32}
@@ -32,8 +36,9 @@ use Rattle.llsc_texts.specs.Assembly.{asm_answer}
 use Rattle.llsc_texts.specs.Disassembly.{dis_answer}
 use Rattle.llsc_report.specs.Status.{have_left, status_of, status_of_all}
 use Rattle.llsc_call.specs.Trace.{IsRecorded, Traces}
-use Rattle.llsc_call.specs.Check.{files_refusal, verdict_status, verdict_text, IsJudged, JudgesRead}
-use Rattle.llsc_words.specs.Request.{Request, Solo, Run, Pool, Record, Assemble, Disassemble, Trace, Check, Load}
+use Rattle.llsc_call.specs.Check.{files_refusal, verdict_status, verdict_text, AnswersFiles, AnswersRead, IsJudged}
+use Rattle.llsc_call.specs.Explain.{IsExplained, IsExplainedBy}
+use Rattle.llsc_words.specs.Request.{Request, Solo, Run, Pool, Record, Assemble, Disassemble, Trace, Check, Explain, Load}
 use Rattle.llsc_call.specs.Answer.{Answers, IsReported, prints_any_merge}
 
 -- answers have one status and one text
@@ -92,11 +97,29 @@ judged_one program size run status other text more a b =
     let same : a.0 ≡ b.0 = one_verdict a32 program size run.budget run.accesses a.0 b.0 a.1.0 b.1.0 in
     (a.1.1.0 ∙ ap verdict_status same ∙ sym b.1.1.0, a.1.1.1 ∙ ap verdict_text same ∙ sym b.1.1.1)
 
-read_one : (format : Format) (mem : ℕ) (file : List ℕ) (read : Result RunRecord RecordFault) → AreOne (JudgesRead format mem file read)
-read_one format mem file (Err fault) = λ status other text more a b. (a.0 ∙ sym b.0, a.1 ∙ sym b.1)
-read_one format mem file (Ok run) =
+explained_by : (program : Program) (size : Numbers) (run : RunRecord) (given : Verdict) → AreOne (IsExplainedBy program size run given)
+explained_by program size run verdict.Good status other text more a b =
+    let same : a.0 ≡ b.0 = one_list_from a32 program size run.budget [] run.accesses a.0 b.0 a.1.0 b.1.0 in
+    (a.1.1.0 ∙ sym b.1.1.0, a.1.1.1 ∙ ap (explanation run.granule program run.accesses) same ∙ sym b.1.1.1)
+explained_by program size run (verdict.Bad index reason) status other text more a b = (a.0 ∙ sym b.0, a.1 ∙ sym b.1)
+
+explained_one : (program : Program) (size : Numbers) (run : RunRecord) → AreOne (IsExplained program size run)
+explained_one program size run status other text more a b =
+    let same : a.0 ≡ b.0 = one_verdict a32 program size run.budget run.accesses a.0 b.0 a.1.0 b.1.0 in
+    explained_by program size run a.0 status other text more a.1.1 (subst (λ v. IsExplainedBy program size run v other more) (sym same) b.1.1)
+
+-- a record and its program, by what the record comes to on its machine
+read_one : (answers : Program → Numbers → RunRecord → ℕ → List ℕ → Type 0) (format : Format) (mem : ℕ) (file : List ℕ) (read : Result RunRecord RecordFault)
+    → ((program : Program) (size : Numbers) (run : RunRecord) → AreOne (answers program size run)) → AreOne (AnswersRead answers format mem file read)
+read_one answers format mem file (Err fault) one = λ status other text more a b. (a.0 ∙ sym b.0, a.1 ∙ sym b.1)
+read_one answers format mem file (Ok run) one =
     let size = machine_of mem run.threads run.granule in
-    unless_one (IsJudged (image_of format file size) size run) (program_refusal format size file) (judged_one (image_of format file size) size run)
+    unless_one (answers (image_of format file size) size run) (program_refusal format size file) (one (image_of format file size) size run)
+
+files_one : (answers : Program → Numbers → RunRecord → ℕ → List ℕ → Type 0) (format : Format) (mem : ℕ) (file recorded : List ℕ)
+    → ((program : Program) (size : Numbers) (run : RunRecord) → AreOne (answers program size run)) → AreOne (AnswersFiles answers format mem file recorded)
+files_one answers format mem file recorded one =
+    unless_one (AnswersRead answers format mem file (record_of recorded)) (files_refusal file recorded) (read_one answers format mem file (record_of recorded) one)
 
 -- a run, by its history
 one_outcome_by : (set : SetName) (program : Program) (size : Numbers) (first spare budget : ℕ) (history : List Entry) (all others : List GuestEnd)
@@ -181,7 +204,9 @@ answers_one (Trace name format threads mem granule seed budget) (file ∷ []) st
     let size = machine_of mem threads granule in
     untold_one (unless_one (Traces (image_of format file size) size seed budget) (program_refusal format size file) (trace_one (image_of format file size) size seed budget))
 answers_one (Check name second format mem) (file ∷ recorded ∷ []) story plain =
-    untold_one (unless_one (JudgesRead format mem file (record_of recorded)) (files_refusal file recorded) (read_one format mem file (record_of recorded)))
+    untold_one (files_one IsJudged format mem file recorded judged_one)
+answers_one (Explain name second format mem) (file ∷ recorded ∷ []) story plain =
+    untold_one (files_one IsExplained format mem file recorded explained_one)
 answers_one (Load seed threads rounds budget) [] story plain =
     unless_run_one (load_refusal threads rounds) story (TellsLoad story seed threads rounds budget) (load_one seed threads rounds budget story)
 answers_one (Load seed threads rounds budget) (first ∷ rest) story plain = λ status other text more a b. absurd a
@@ -200,3 +225,6 @@ answers_one (Trace name format threads mem granule seed budget) (first ∷ secon
 answers_one (Check name other format mem) [] story plain = λ status other text more a b. absurd a
 answers_one (Check name other format mem) (first ∷ []) story plain = λ status other text more a b. absurd a
 answers_one (Check name other format mem) (first ∷ second ∷ third ∷ rest) story plain = λ status other text more a b. absurd a
+answers_one (Explain name other format mem) [] story plain = λ status other text more a b. absurd a
+answers_one (Explain name other format mem) (first ∷ []) story plain = λ status other text more a b. absurd a
+answers_one (Explain name other format mem) (first ∷ second ∷ third ∷ rest) story plain = λ status other text more a b. absurd a

@@ -31,11 +31,11 @@ use Rattle.llsc_call.specs.Record.{AnswersRecord, PrintsMerge, RecordsRun, recor
 use Rattle.llsc_call.specs.Run.{UnlessRun}
 use Rattle.llsc_call.proofs.AsWritten.{as_written, form_written, merge_written, text_written}
 use Rattle.llsc_call.proofs.CheckedMachines.{by_verdict, checked, image_checked, short_file, sound_checked}
-use Rattle.llsc_call.proofs.CheckAnswers.{check_read}
 use Rattle.llsc_call.proofs.GoodMerges.{merge_good}
 use Rattle.llsc_call.proofs.KnownThreads.{legal_known}
 use Rattle.llsc_call.proofs.LoadAnswers.{have_each, left-all}
 use Rattle.llsc_call.proofs.Outcomes.{unless_none}
+use Rattle.llsc_call.proofs.RecordFiles.{files_read}
 use Rattle.llsc_call.proofs.RecordLengths.{record_length}
 use Rattle.llsc_call.proofs.RecordAnswers.{record_of_answer}
 use Rattle.llsc_call.proofs.RunMachine.{sound_size}
@@ -110,6 +110,6 @@ good_again format size budget file story text some most answers =
     let run = record_by size budget good.merged in
     let judged : Judges a32 (image_of format file (checked size)) (checked size) budget good.merged verdict.Good =
     subst (λ p. Judges a32 p (checked size) budget good.merged verdict.Good) (sym (image_checked format size file)) (by_verdict program size budget good.merged verdict.Good good.judged refl) in
-    check_read format size.mem file text (Ok run) (short_file format size file sound) (short_text size budget good.merged text good.read) good.read 0 (codes "good\n")
+    files_read IsJudged format size.mem file text (Ok run) (short_file format size file sound) (short_text size budget good.merged text good.read) good.read 0 (codes "good\n")
     (unless_none (IsJudged (image_of format file (checked size)) (checked size) run) (program_refusal format (checked size) file) 0 (codes "good\n") (sound_checked format size file sound)
     (verdict.Good, (judged, (refl, refl))))

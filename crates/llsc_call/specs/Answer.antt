@@ -9,7 +9,7 @@ use Rattle.llsc_words.specs.declared.formats.Format.{Format}
 use Rattle.llsc_words.specs.declared.sets.SetName.TheVariants.{A32}
 use Rattle.llsc_report.specs.Report.{report_of}
 use Rattle.llsc_host.specs.Host.{Rose, AreBytes, AddsFront}
-use Rattle.llsc_words.specs.Request.{Request, Solo, Run, Pool, Record, Assemble, Disassemble, Trace, Check, Load, files_of}
+use Rattle.llsc_words.specs.Request.{Request, Solo, Run, Pool, Record, Assemble, Disassemble, Trace, Check, Explain, Load, files_of}
 use Rattle.llsc_texts.specs.Assembly.{AnswersAsm}
 use Rattle.llsc_texts.specs.Disassembly.{AnswersDis}
 use Rattle.llsc_call.specs.Run.{AnswersRun}
@@ -17,6 +17,7 @@ use Rattle.llsc_call.specs.Record.{AnswersRecord}
 use Rattle.llsc_report.specs.Status.{status_of}
 use Rattle.llsc_call.specs.Trace.{AnswersTrace}
 use Rattle.llsc_call.specs.Check.{AnswersCheck}
+use Rattle.llsc_call.specs.Explain.{AnswersExplain}
 use Rattle.llsc_call.specs.Load.{AnswersLoad}
 use Rattle.llsc_host.specs.Said.{words_text, read_text}
 use Rattle.llsc_files.specs.Refusals.{machine_of, most_program, solo_size, size_refusal, too_long, Unless}
@@ -45,6 +46,7 @@ Answers (Assemble name format) (file ∷ []) story status text = (story ≡ None
 Answers (Disassemble name format mem) (file ∷ []) story status text = (story ≡ None) × AnswersDis format mem file status text
 Answers (Trace name format threads mem granule seed budget) (file ∷ []) story status text = (story ≡ None) × AnswersTrace format threads mem granule seed budget file status text
 Answers (Check name other format mem) (file ∷ recorded ∷ []) story status text = (story ≡ None) × AnswersCheck format mem file recorded status text
+Answers (Explain name other format mem) (file ∷ recorded ∷ []) story status text = (story ≡ None) × AnswersExplain format mem file recorded status text
 Answers (Load seed threads rounds budget) [] story status text = AnswersLoad seed threads rounds budget story status text
 Answers _ _ story status text = ⊥
 
@@ -68,8 +70,8 @@ abbrev pub IsNoneOf : List (List ℕ) → List ℕ → Type 0
 IsNoneOf names name = All (λ other. name ≢ other) names
 
 -- A read of that name is due: the name is that of a request's file, and nothing stands against the request before that file
--- is read. What could: that there is no such machine (but not for a check, where the record says how many threads it has),
--- and for the second file that the first is too long.
+-- is read. What could: that there is no such machine (but not where a record says how many threads it has), and for the second
+-- file that the first is too long.
 abbrev pub IsDue : (List ℕ → Option (List ℕ)) → Request → List ℕ → Type 0
 IsDue held (Solo file format mem budget) name = (name ≡ file) × (size_refusal (solo_size mem) ≡ None)
 IsDue held (Run file format set first spare size budget) name = (name ≡ file) × (size_refusal size ≡ None)
@@ -79,6 +81,8 @@ IsDue held (Assemble file format) name = name ≡ file
 IsDue held (Disassemble file format mem) name = (name ≡ file) × (size_refusal (solo_size mem) ≡ None)
 IsDue held (Trace file format threads mem granule seed budget) name = (name ≡ file) × (size_refusal (machine_of mem threads granule) ≡ None)
 IsDue held (Check file recorded format mem) name =
+    (name ≡ file) ⊎ ((name ≡ recorded) × ((bytes : List ℕ) × (AreBytes (held file) bytes × (too_long most_program bytes ≡ None))))
+IsDue held (Explain file recorded format mem) name =
     (name ≡ file) ⊎ ((name ≡ recorded) × ((bytes : List ℕ) × (AreBytes (held file) bytes × (too_long most_program bytes ≡ None))))
 IsDue held (Load seed threads rounds budget) name = ⊥
 

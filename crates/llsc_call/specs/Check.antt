@@ -46,19 +46,25 @@ abbrev pub IsJudged : Program → Numbers → RunRecord → ℕ → List ℕ →
 IsJudged program size run status text =
     (verdict : Verdict) × (Judges a32 program size run.budget run.accesses verdict × ((status ≡ verdict_status verdict) × (text ≡ verdict_text verdict)))
 
--- a record is judged on a machine of its threads and its granule, unless there is no such machine or the program has a
+-- ---- what is answered by a record of a program's run, as `IsJudged` says it for `check`
+
+-- a record is answered on a machine of its threads and its granule, unless there is no such machine or the program has a
 -- fault there
-abbrev pub JudgesRun : Format → ℕ → List ℕ → RunRecord → ℕ → List ℕ → Type 0
-JudgesRun format mem file run status text =
+abbrev pub AnswersOn : (Program → Numbers → RunRecord → ℕ → List ℕ → Type 0) → Format → ℕ → List ℕ → RunRecord → ℕ → List ℕ → Type 0
+AnswersOn answers format mem file run status text =
     let size = machine_of mem run.threads run.granule in
-    Unless (program_refusal format size file) (IsJudged (image_of format file size) size run) status text
+    Unless (program_refusal format size file) (answers (image_of format file size) size run) status text
 
 -- a record's fault is refused before anything that the program has
-abbrev pub JudgesRead : Format → ℕ → List ℕ → Result RunRecord RecordFault → ℕ → List ℕ → Type 0
-JudgesRead format mem file (Err fault) status text = (status ≡ 4) × (text ≡ refusal_text (record_fault_text fault))
-JudgesRead format mem file (Ok run) status text = JudgesRun format mem file run status text
+abbrev pub AnswersRead : (Program → Numbers → RunRecord → ℕ → List ℕ → Type 0) → Format → ℕ → List ℕ → Result RunRecord RecordFault → ℕ → List ℕ → Type 0
+AnswersRead answers format mem file (Err fault) status text = (status ≡ 4) × (text ≡ refusal_text (record_fault_text fault))
+AnswersRead answers format mem file (Ok run) status text = AnswersOn answers format mem file run status text
 
 -- the status and the text for a format, so much memory, and the bytes of both files
+abbrev pub AnswersFiles : (Program → Numbers → RunRecord → ℕ → List ℕ → Type 0) → Format → ℕ → (file recorded : List ℕ) → ℕ → List ℕ → Type 0
+AnswersFiles answers format mem file recorded status text =
+    Unless (files_refusal file recorded) (AnswersRead answers format mem file (record_of recorded)) status text
+
+-- those of `check`
 abbrev pub AnswersCheck : Format → ℕ → (file recorded : List ℕ) → ℕ → List ℕ → Type 0
-AnswersCheck format mem file recorded status text =
-    Unless (files_refusal file recorded) (JudgesRead format mem file (record_of recorded)) status text
+AnswersCheck format mem file recorded status text = AnswersFiles IsJudged format mem file recorded status text

@@ -5,6 +5,7 @@ pub mod Exclusives
 pub mod Beside
 pub mod Load
 pub mod Check
+pub mod Explain
 pub mod Record
 pub mod Answer
 pub mod inner

@@ -4,3 +4,4 @@ pub mod Files
 pub mod Load
 pub mod Merged
 pub mod Outcome
+pub mod RecordFiles

@@ -10,8 +10,10 @@ ghost use Rattle.llsc_call.specs.inner.Outcome.{GivesBy};
 mod asm;
 mod check;
 mod dis;
+mod explain;
 mod load;
 mod pool;
+mod record_files;
 mod recording;
 mod run;
 mod solo;
@@ -40,7 +42,10 @@ fn machine_named(request: Request<'_>) -> Option<MachineNumbers>
         Request::Trace { numbers, .. } => {
             Some(numbers_of(numbers.mem, numbers.threads, numbers.granule))
         }
-        Request::Assemble { .. } | Request::Check { .. } | Request::Load { .. } => None,
+        Request::Assemble { .. }
+        | Request::Check { .. }
+        | Request::Explain { .. }
+        | Request::Load { .. } => None,
     }
 }
 
@@ -108,6 +113,9 @@ pub fn answer<R: Threads + Wait + Sync>(
         } => Answer::from(trace::outcome(alloc, format, numbers, first)),
         Request::Check { format, mem, .. } => {
             Answer::from(check::outcome(alloc, format, mem, first, second))
+        }
+        Request::Explain { format, mem, .. } => {
+            Answer::from(explain::outcome(alloc, format, mem, first, second))
         }
         Request::Load { numbers } => load::answer(rt, alloc, numbers),
     }

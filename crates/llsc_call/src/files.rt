@@ -41,7 +41,8 @@ fn first_file(request: Request<'_>) -> Option<Wanted<'_>>
         | Request::Record { file, .. }
         | Request::Disassemble { file, .. }
         | Request::Trace { file, .. }
-        | Request::Check { file, .. } => Some(Wanted {
+        | Request::Check { file, .. }
+        | Request::Explain { file, .. } => Some(Wanted {
             name: file,
             most: MOST_PROGRAM,
         }),
@@ -58,7 +59,7 @@ fn second_file(request: Request<'_>) -> Option<Wanted<'_>>
     ensures { option_map wanted result ≡ second_file (asked request.entry) }
 {
     match request {
-        Request::Check { recorded, .. } => Some(Wanted {
+        Request::Check { recorded, .. } | Request::Explain { recorded, .. } => Some(Wanted {
             name: recorded,
             most: MOST_RECORD,
         }),

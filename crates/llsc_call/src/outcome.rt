@@ -9,6 +9,7 @@ use llsc_report::{status, status_of_all};
 use llsc_texts::Listing;
 use llsc_words::LoadNumbers;
 use run_checker::Verdict;
+use run_explainer::Explanation;
 use shared_memory::Rows;
 
 /// What a call comes to.
@@ -30,6 +31,8 @@ pub enum Outcome {
     Recorded { text: Vec<u8>, ends: Vec<GuestEnd> },
     /// A record was judged: the verdict, and its text.
     Judged { verdict: Verdict, text: String },
+    /// A record was judged good, and is explained.
+    Explained(Explanation),
     /// One thread ran alone, with so many steps at most.
     Alone { budget: u64, end: GuestEnd },
     /// Threads ran beside each other, with so many steps each at most.
@@ -54,7 +57,10 @@ impl Outcome {
         ensures { result ≡ status_of self.now }
     {
         match self {
-            Outcome::Assembled(_) | Outcome::Listed(_) | Outcome::Counted { .. } => 0,
+            Outcome::Assembled(_)
+            | Outcome::Listed(_)
+            | Outcome::Explained(_)
+            | Outcome::Counted { .. } => 0,
             Outcome::Recorded { ends, .. } | Outcome::Beside { ends, .. } => {
                 status_of_all(ends.as_slice())
             }

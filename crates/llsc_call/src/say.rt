@@ -7,6 +7,7 @@ use crate::outcome::Outcome;
 use llsc_host::{Failed, Host, write};
 use llsc_report::{write_report, write_summary};
 use llsc_texts::write_listing;
+use run_explainer::write_explanation;
 
 /// Writes the text of an outcome, piece by piece. No memory is taken.
 fn write_outcome<H: Host>(host: &mut H, outcome: Outcome) -> Result<(), Failed>
@@ -23,6 +24,7 @@ fn write_outcome<H: Host>(host: &mut H, outcome: Outcome) -> Result<(), Failed>
         Outcome::Listed(listing) => write_listing(host, listing),
         Outcome::Recorded { text, .. } => write(host, text.as_slice()),
         Outcome::Judged { text, .. } => write(host, text.as_bytes()),
+        Outcome::Explained(explanation) => write_explanation(host, explanation),
         Outcome::Alone { budget, end } => write_report(host, budget, &[end]),
         Outcome::Beside { budget, ends } => write_report(host, budget, ends.as_slice()),
         Outcome::Counted { numbers, rows } => write_summary(host, &numbers, &rows),

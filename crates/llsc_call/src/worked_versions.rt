@@ -5,7 +5,7 @@ ghost use Rattle.history.specs.Worked.{last_byte, next_row, small_machine, word}
 ghost use Rattle.llsc_call.specs.Answer.{prints_any_merge};
 ghost use Rattle.llsc_call.specs.Exclusives.{AreStoresExact};
 ghost use Rattle.llsc_call.specs.Versions.{KeepsVersions};
-ghost use Rattle.llsc_words.specs.Request.Request.{Assemble, Check, Disassemble, Load, Pool, Record, Run, Solo, Trace};
+ghost use Rattle.llsc_words.specs.Request.Request.{Assemble, Check, Disassemble, Explain, Load, Pool, Record, Run, Solo, Trace};
 
 use history::{Cause, Entry};
 use llsc_words::{Format, SetName};
@@ -41,5 +41,6 @@ pub fn requests_that_print_any_merge()
     ensures disassemble { prints_any_merge (Disassemble (codes "p") Format.Elf 65536) ≡ false }
     ensures trace { prints_any_merge (Trace (codes "p") Format.Elf 2 65536 0 0 1) ≡ false }
     ensures check { prints_any_merge (Check (codes "p") (codes "r") Format.Elf 65536) ≡ false }
+    ensures explain { prints_any_merge (Explain (codes "p") (codes "r") Format.Elf 65536) ≡ false }
     ensures load { prints_any_merge (Load 0 1 1 1) ≡ false }
 {}

@@ -6,7 +6,7 @@ use Rattle.llsc_host.specs.Writes.{Broke}
 use Rattle.llsc_host.specs.declared.host.Host.{Ghosts}
 use Rattle.llsc_host.proofs.Kept.{broke_first}
 
-range_split : (from n m : ℕ) → range_with_len from (n + m) ≡ range_with_len from n ++ range_with_len (from + n) m
+pub range_split : (from n m : ℕ) → range_with_len from (n + m) ≡ range_with_len from n ++ range_with_len (from + n) m
 range_split from zero m = rw (zero-add m, add-zero from) refl
 range_split from (suc n) m =
     let one : suc n + m ≡ suc (n + m) = omega arith in

@@ -11,6 +11,6 @@ mod summary;
 pub mod worked;
 pub mod worked_statuses;
 
-pub use report::write_report;
+pub use report::{write_count, write_report};
 pub use statuses::{have_left, status, status_of_all};
 pub use summary::{total, write_summary};

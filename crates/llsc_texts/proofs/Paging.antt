@@ -5,7 +5,7 @@ use Rattle.llsc_base.specs.Images.{Program}
 use Rattle.llsc_host.specs.declared.host.Host.{Ghosts}
 use Rattle.llsc_host.specs.Writes.{Broke, Writes, Wrote}
 use Rattle.llsc_texts.specs.Disassembly.{line_at, lines_of}
-use Rattle.llsc_texts.specs.inner.Disassembly.{Holds, Pages}
+use Rattle.llsc_texts.specs.Paging.{Holds, Pages}
 use Rattle.llsc_host.proofs.FirstTexts.{texts_broke, texts_more}
 use Rattle.llsc_host.proofs.Kept.{broke_second, writes_both, wrote_both, wrote_nothing}
 

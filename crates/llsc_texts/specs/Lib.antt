@@ -1,3 +1,3 @@
 pub mod Assembly
 pub mod Disassembly
-pub mod inner
+pub mod Paging

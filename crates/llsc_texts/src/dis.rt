@@ -1,11 +1,11 @@
 //! `dis`: an image, word by word.
-ghost use Rattle.std.specs.Prelude.{◌≡◌, ◌+◌, ◌%◌, ◌<◌, ◌≤◌, ◌++◌, [], length, codes, IfOk, OnOk};
+ghost use Rattle.std.specs.Prelude.{◌≡◌, ◌+◌, ◌%◌, ◌<◌, ◌≤◌, ◌++◌, [], length, codes, IfOk};
 ghost use Rattle.number_text.specs.Hexadecimal.{word_text};
 ghost use Rattle.llsc_host.specs.Writes.{Writes};
 ghost use Rattle.llsc_texts.specs.Disassembly.{disassembly, head_text, line_at, word_line};
-ghost use Rattle.llsc_texts.specs.inner.Disassembly.{Pages};
+ghost use Rattle.llsc_texts.specs.Paging.{Pages};
 
-use crate::pages::Page;
+use crate::pages::{Page, make_room};
 use a32_asm::disassemble;
 use llsc_base::{Image, Line};
 use llsc_host::{Failed, Host, write};
@@ -14,7 +14,7 @@ use std::alloc::{AllocError, Global};
 use std::marker::Model;
 
 /// Adds a word as digits, and a space.
-fn push_word(line: &mut Line, word: u32)
+pub fn push_word(line: &mut Line, word: u32)
     requires { length line.old + 9 ≤ 96 }
     ensures text { line.new ≡ line.old ++ (word_text word ++ codes " ") }
     ensures longer { length line.new ≡ length line.old + 9 }
@@ -31,20 +31,6 @@ fn head_of(addr: u32, word: u32) -> Line
     push_word(&mut head, addr);
     push_word(&mut head, word);
     head
-}
-
-/// Writes the page, if it has no room for so many bytes more.
-fn make_room<H: Host>(host: &mut H, page: &mut Page, count: usize) -> Result<(), Failed>
-    requires { count ≤ 65536 }
-    ensures pages { Pages H.Host host.old host.new page.old page.new page.old result }
-    ensures room { OnOk result (length page.new + count ≤ 65536) }
-{
-    if page.has_room(count) {
-        return Ok(());
-    }
-    write(host, page.bytes())?;
-    page.clear();
-    Ok(())
 }
 
 /// Adds a line of two parts to the page.

@@ -6,4 +6,5 @@ mod dis;
 mod pages;
 
 pub use asm::assembled;
-pub use dis::{Listing, write_listing};
+pub use dis::{Listing, push_word, write_listing};
+pub use pages::{Page, make_room};

@@ -1,6 +1,8 @@
-//! A page of output, which is made before it is written.
-ghost use Rattle.std.specs.Prelude.{◌≡◌, ◌+◌, ◌≤◌, ◌++◌, [], length, nat_le, IfOk};
+//! Pages of output, each of which is made before it is written.
+ghost use Rattle.std.specs.Prelude.{◌≡◌, ◌+◌, ◌≤◌, ◌++◌, [], length, nat_le, IfOk, OnOk};
+ghost use Rattle.llsc_texts.specs.Paging.{Pages};
 
+use llsc_host::{Failed, Host, write};
 use std::alloc::{AllocError, Global};
 use std::marker::Model;
 
@@ -62,4 +64,22 @@ impl Page {
     {
         self.text.clear();
     }
+}
+
+/// Writes the page, if it has no room for so many bytes more. Afterwards it has.
+///
+/// # Errors
+///
+/// `Failed` where the write failed.
+pub fn make_room<H: Host>(host: &mut H, page: &mut Page, count: usize) -> Result<(), Failed>
+    requires { count ≤ 65536 }
+    ensures pages { Pages H.Host host.old host.new page.old page.new page.old result }
+    ensures room { OnOk result (length page.new + count ≤ 65536) }
+{
+    if page.has_room(count) {
+        return Ok(());
+    }
+    write(host, page.bytes())?;
+    page.clear();
+    Ok(())
 }

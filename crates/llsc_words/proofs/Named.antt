@@ -4,7 +4,7 @@ use Rattle.std.specs.Str.{bytes_eq}
 use Rattle.std.proofs.lemmas.Slice.Eq.{bytes_eq-Decides}
 use Rattle.clap.proofs.OnLiterals.{clap_on_literals}
 use Rattle.llsc_words.specs.declared.names.CommandName.{CommandName}
-use Rattle.llsc_words.specs.declared.names.CommandName.TheVariants.{Solo, Run, Pool, Record, Asm, Dis, Trace, Check, Load}
+use Rattle.llsc_words.specs.declared.names.CommandName.TheVariants.{Solo, Run, Pool, Record, Asm, Dis, Trace, Check, Explain, Load}
 use Rattle.llsc_words.specs.Names.{command_named}
 use Rattle.llsc_words.specs.Worked.{name_of}
 
@@ -18,6 +18,7 @@ own_name Asm = refl
 own_name Dis = refl
 own_name Trace = refl
 own_name Check = refl
+own_name Explain = refl
 own_name Load = refl
 
 -- a test gives its command, or those behind it give theirs
@@ -45,4 +46,5 @@ no_other_name word command =
     named_by word (codes "dis") Dis command _ refl (
     named_by word (codes "trace") Trace command _ refl (
     named_by word (codes "check") Check command _ refl (
-    named_by word (codes "load") Load command _ refl (λ none. absurd cc)))))))))
+    named_by word (codes "explain") Explain command _ refl (
+    named_by word (codes "load") Load command _ refl (λ none. absurd cc))))))))))

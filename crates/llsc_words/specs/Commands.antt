@@ -3,7 +3,7 @@ use Rattle.std.specs.Prelude.{true, Some, codes}
 use Rattle.clap.specs.Words.{App, Rule, Text, new_app, new_rule, with_rule}
 use Rattle.clap.specs.declared.builder.ArgAction.TheVariants.{SetTrue}
 use Rattle.llsc_words.specs.declared.names.CommandName.{CommandName}
-use Rattle.llsc_words.specs.declared.names.CommandName.TheVariants.{Solo, Run, Pool, Record, Asm, Dis, Trace, Check, Load}
+use Rattle.llsc_words.specs.declared.names.CommandName.TheVariants.{Solo, Run, Pool, Record, Asm, Dis, Trace, Check, Explain, Load}
 
 -- `--NAME VALUE` or `--NAME=VALUE`, once at most
 abbrev pub option_rule : Text → Rule
@@ -73,10 +73,18 @@ record_app = beside_app (codes "record")
 unfoldable pub trace_app : App
 trace_app = with_rule (with_rule (machine_app (codes "trace")) (option_rule (codes "seed"))) (option_rule (codes "budget"))
 
+-- a record of the program's run, and how much memory the program has
+abbrev pub judging_app : Text → App
+judging_app name =
+    with_rule (with_rule (with_rule (with_rule (plain_app name) file) (positional_rule (codes "RECORD"))) flat) (option_rule (codes "mem"))
+
 -- `check` has FILE, RECORD, `--flat` and `--mem`
 unfoldable pub check_app : App
-check_app =
-    with_rule (with_rule (with_rule (with_rule (plain_app (codes "check")) file) (positional_rule (codes "RECORD"))) flat) (option_rule (codes "mem"))
+check_app = judging_app (codes "check")
+
+-- `explain` has FILE, RECORD, `--flat` and `--mem`
+unfoldable pub explain_app : App
+explain_app = judging_app (codes "explain")
 
 -- `load` has SEED, `--threads`, `--rounds` and `--budget`
 unfoldable pub load_app : App
@@ -94,4 +102,5 @@ app_by Asm = asm_app
 app_by Dis = dis_app
 app_by Trace = trace_app
 app_by Check = check_app
+app_by Explain = explain_app
 app_by Load = load_app

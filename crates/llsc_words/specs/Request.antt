@@ -23,8 +23,8 @@ use Rattle.llsc_words.specs.Names.{command_named}
 -- more; to run it as all threads of a machine on so many workers, so many steps of each at a time; to run it as all threads of a
 -- machine beside each other, and to record what each does; to assemble the text of that name as a file of that format; to show a file as text, in so many bytes of memory; to run a file as so many
 -- guest threads on one host thread, with rows of a granule and in the order that a seed fixes, and to record that; to check
--- such a record, the second file, against a program; or to run the counter guest of a seed, as so many threads of so many
--- rounds each, with so many steps for each
+-- such a record, the second file, against a program; to explain why the store-exclusives of such a record failed; or to run the
+-- counter guest of a seed, as so many threads of so many rounds each, with so many steps for each
 pub data Request : Type 0 where
   Solo : (file : List ℕ) (format : Format) (mem budget : ℕ) → Request
   Run : (file : List ℕ) (format : Format) (set : SetName) (first spare : ℕ) (size : Numbers) (budget : ℕ) → Request
@@ -34,6 +34,7 @@ pub data Request : Type 0 where
   Disassemble : (file : List ℕ) (format : Format) (mem : ℕ) → Request
   Trace : (file : List ℕ) (format : Format) (threads mem granule seed budget : ℕ) → Request
   Check : (file recorded : List ℕ) (format : Format) (mem : ℕ) → Request
+  Explain : (file recorded : List ℕ) (format : Format) (mem : ℕ) → Request
   Load : (seed threads rounds budget : ℕ) → Request
 
 -- the names of a request's files, in the order in which they are read
@@ -46,6 +47,7 @@ files_of (Assemble file format) = file ∷ []
 files_of (Disassemble file format mem) = file ∷ []
 files_of (Trace file format threads mem granule seed budget) = file ∷ []
 files_of (Check file recorded format mem) = file ∷ recorded ∷ []
+files_of (Explain file recorded format mem) = file ∷ recorded ∷ []
 files_of (Load seed threads rounds budget) = []
 
 -- the bytes of memory where none are given
@@ -238,6 +240,13 @@ check_by _ _ _ _ = None
 abbrev pub check_for : Given → Option Request
 check_for given = check_by given.file given.recorded (format_of given) (number_or default_mem given.mem)
 
+abbrev pub explain_by : (file recorded : Option (List ℕ)) → Format → Option ℕ → Option Request
+explain_by (Some file) (Some recorded) format (Some mem) = Some (Explain file recorded format mem)
+explain_by _ _ _ _ = None
+
+abbrev pub explain_for : Given → Option Request
+explain_for given = explain_by given.file given.recorded (format_of given) (number_or default_mem given.mem)
+
 abbrev pub load_by : (seed threads rounds budget : Option ℕ) → Option Request
 load_by (Some seed) (Some threads) (Some rounds) (Some budget) = Some (Load seed threads rounds budget)
 load_by _ _ _ _ = None
@@ -257,6 +266,7 @@ request_by name.Asm given = assemble_for given
 request_by name.Dis given = disassemble_for given
 request_by name.Trace given = trace_for given
 request_by name.Check given = check_for given
+request_by name.Explain given = explain_for given
 request_by name.Load given = load_for given
 
 -- what a command asks for with the words behind it
@@ -282,6 +292,7 @@ asked (call.Assemble file format) = Assemble file.now format
 asked (call.Disassemble file format mem) = Disassemble file.now format mem
 asked (call.Trace file format numbers) = Trace file.now format numbers.threads numbers.mem numbers.granule numbers.seed numbers.budget
 asked (call.Check file recorded format mem) = Check file.now recorded.now format mem
+asked (call.Explain file recorded format mem) = Explain file.now recorded.now format mem
 asked (call.Load n) = Load n.seed n.threads n.rounds n.budget
 
 -- a request's budget, where it has one, is in its range, and so are the workers and the slice of a pool, and of a run how many

@@ -34,7 +34,7 @@ fault_in text = fault_of_run (asked_in text)
 -- each command, with all that has to be there
 abbrev pub commands : List (List ℕ)
 commands =
-    codes "solo p" ∷ codes "run p" ∷ codes "pool p" ∷ codes "record p" ∷ codes "asm p" ∷ codes "dis p" ∷ codes "trace p" ∷ codes "check p r" ∷ codes "load 7" ∷ []
+    codes "solo p" ∷ codes "run p" ∷ codes "pool p" ∷ codes "record p" ∷ codes "asm p" ∷ codes "dis p" ∷ codes "trace p" ∷ codes "check p r" ∷ codes "explain p r" ∷ codes "load 7" ∷ []
 
 -- the one name of a command
 abbrev pub name_of : CommandName → List ℕ
@@ -46,6 +46,7 @@ name_of name.Asm = codes "asm"
 name_of name.Dis = codes "dis"
 name_of name.Trace = codes "trace"
 name_of name.Check = codes "check"
+name_of name.Explain = codes "explain"
 name_of name.Load = codes "load"
 
 -- all that a command takes, by name: what stands by itself, flags and options

@@ -2,7 +2,7 @@
 ghost use Rattle.std.specs.Prelude.{◌≡◌, IfSome};
 ghost use Rattle.std.specs.Option.{option_map};
 ghost use Rattle.llsc_words.specs.inner.Given.{seen};
-ghost use Rattle.llsc_words.specs.Request.{asked, assemble_for, check_for, disassemble_for, format_of, load_for, machine_for, pool_for, record_for, request_by, run_for, set_of, solo_for, trace_for, HasBudget};
+ghost use Rattle.llsc_words.specs.Request.{asked, assemble_for, check_for, disassemble_for, explain_for, format_of, load_for, machine_for, pool_for, record_for, request_by, run_for, set_of, solo_for, trace_for, HasBudget};
 
 use crate::defaults::{
     DEFAULT_BUDGET, DEFAULT_MEM, LOAD_ROUNDS, LOAD_THREADS, POOL_SLICE, POOL_WORKERS,
@@ -170,6 +170,19 @@ fn check<'a>(given: &Given<'a>) -> Option<Request<'a>>
     })
 }
 
+/// What `explain` asks for.
+fn explain<'a>(given: &Given<'a>) -> Option<Request<'a>>
+    ensures request { option_map asked result ≡ explain_for (seen given.now) }
+    ensures budget { IfSome result HasBudget }
+{
+    Some(Request::Explain {
+        file: given.file?,
+        recorded: given.recorded?,
+        format: given.format(),
+        mem: number_or(DEFAULT_MEM, given.mem)?,
+    })
+}
+
 /// What `load` asks for.
 fn load<'a>(given: &Given<'a>) -> Option<Request<'a>>
     ensures request { option_map asked result ≡ load_for (seen given.now) }
@@ -199,6 +212,7 @@ pub fn request_by<'a>(name: CommandName, given: &Given<'a>) -> Option<Request<'a
         CommandName::Dis => disassemble(given),
         CommandName::Trace => trace(given),
         CommandName::Check => check(given),
+        CommandName::Explain => explain(given),
         CommandName::Load => load(given),
     }
 }

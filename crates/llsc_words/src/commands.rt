@@ -124,6 +124,17 @@ const CHECK: Layout = Layout {
     ],
 };
 
+/// Explains the failed store-exclusives of a record.
+const EXPLAIN: Layout = Layout {
+    name: "explain",
+    parts: &[
+        Part::Word("FILE"),
+        Part::Word("RECORD"),
+        Part::Flag("flat"),
+        Part::Value("mem"),
+    ],
+};
+
 /// Runs the counter guest of a seed.
 const LOAD: Layout = Layout {
     name: "load",
@@ -149,6 +160,7 @@ fn layout_of(name: CommandName) -> Layout
         CommandName::Dis => DIS,
         CommandName::Trace => TRACE,
         CommandName::Check => CHECK,
+        CommandName::Explain => EXPLAIN,
         CommandName::Load => LOAD,
     }
 }

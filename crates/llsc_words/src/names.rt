@@ -13,6 +13,7 @@ pub enum CommandName {
     Dis,
     Trace,
     Check,
+    Explain,
     Load,
 }
 
@@ -29,6 +30,7 @@ pub fn command_named(word: &str) -> Option<CommandName>
         "dis" => Some(CommandName::Dis),
         "trace" => Some(CommandName::Trace),
         "check" => Some(CommandName::Check),
+        "explain" => Some(CommandName::Explain),
         "load" => Some(CommandName::Load),
         _ => None,
     }

@@ -162,6 +162,13 @@ pub enum Request<'a> {
         format: Format,
         mem: u64,
     },
+    /// To explain why store-exclusives of such a record failed. The fields are those of `Check`.
+    Explain {
+        file: &'a str,
+        recorded: &'a str,
+        format: Format,
+        mem: u64,
+    },
     /// To run the counter guest of these numbers, and to say what its threads counted.
     Load {
         numbers: LoadNumbers,

@@ -1,7 +1,7 @@
 //! Worked words of each command, and what they ask for, computed by the definitions.
 ghost use Rattle.std.specs.Prelude.{◌≡◌, Some, codes};
 ghost use Rattle.llsc_words.specs.Request.{default_budget, default_mem, load_rounds, load_threads, pool_slice, pool_workers, record_budget, run_classes, run_granule, run_limit, run_spare, run_threads, trace_budget, trace_granule, trace_seed, trace_threads};
-ghost use Rattle.llsc_words.specs.Request.Request.{Assemble, Check, Disassemble, Load, Pool, Record, Run, Solo, Trace};
+ghost use Rattle.llsc_words.specs.Request.Request.{Assemble, Check, Disassemble, Explain, Load, Pool, Record, Run, Solo, Trace};
 ghost use Rattle.llsc_words.specs.Worked.{asked_in};
 
 use crate::formats::Format;
@@ -38,6 +38,7 @@ pub fn commands_by_themselves()
     ensures disassemble { asked_in (codes "dis p") ≡ Some (Disassemble (codes "p") Format.Elf 1048576) }
     ensures trace { asked_in (codes "trace p") ≡ Some (Trace (codes "p") Format.Elf 2 1048576 0 0 10000) }
     ensures check { asked_in (codes "check p r") ≡ Some (Check (codes "p") (codes "r") Format.Elf 1048576) }
+    ensures explain { asked_in (codes "explain p r") ≡ Some (Explain (codes "p") (codes "r") Format.Elf 1048576) }
     ensures load { asked_in (codes "load 7") ≡ Some (Load 7 2 1000 100000000) }
 {}
 
@@ -56,6 +57,7 @@ pub fn commands_with_all_options()
     ensures trace { asked_in (codes "trace --flat --threads 3 --mem 69632 --granule 5 --seed 12 --budget 9 guest.bin")
         ≡ Some (Trace (codes "guest.bin") Format.Flat 3 69632 5 12 9) }
     ensures check { asked_in (codes "check --flat --mem 77824 guest.bin record") ≡ Some (Check (codes "guest.bin") (codes "record") Format.Flat 77824) }
+    ensures explain { asked_in (codes "explain --flat --mem 81920 guest.bin record") ≡ Some (Explain (codes "guest.bin") (codes "record") Format.Flat 81920) }
     ensures load { asked_in (codes "load --threads 16 --rounds 50000 --budget 8 41") ≡ Some (Load 41 16 50000 8) }
 {}
 

@@ -30,6 +30,7 @@ pub fn names_that_commands_take()
     ensures trace { names_in (app_by CommandName.Trace)
         ≡ codes "FILE" ∷ codes "flat" ∷ codes "threads" ∷ codes "mem" ∷ codes "granule" ∷ codes "seed" ∷ codes "budget" ∷ [] }
     ensures check { names_in (app_by CommandName.Check) ≡ codes "FILE" ∷ codes "RECORD" ∷ codes "flat" ∷ codes "mem" ∷ [] }
+    ensures explain { names_in (app_by CommandName.Explain) ≡ codes "FILE" ∷ codes "RECORD" ∷ codes "flat" ∷ codes "mem" ∷ [] }
     ensures load { names_in (app_by CommandName.Load) ≡ codes "SEED" ∷ codes "threads" ∷ codes "rounds" ∷ codes "budget" ∷ [] }
 {}
 

@@ -17,6 +17,7 @@ pub fn options_with_a_value()
     ensures trace { taken (with_value (codes "1")) (codes "trace p")
         ≡ codes "threads" ∷ codes "mem" ∷ codes "granule" ∷ codes "seed" ∷ codes "budget" ∷ [] }
     ensures check { taken (with_value (codes "1")) (codes "check p r") ≡ codes "mem" ∷ [] }
+    ensures explain { taken (with_value (codes "1")) (codes "explain p r") ≡ codes "mem" ∷ [] }
     ensures load { taken (with_value (codes "1")) (codes "load 7") ≡ codes "threads" ∷ codes "rounds" ∷ codes "budget" ∷ [] }
 {}
 
@@ -35,6 +36,7 @@ pub fn options_with_a_value_joined_to_them()
     ensures trace { taken (joined_to (codes "1")) (codes "trace p")
         ≡ codes "threads" ∷ codes "mem" ∷ codes "granule" ∷ codes "seed" ∷ codes "budget" ∷ [] }
     ensures check { taken (joined_to (codes "1")) (codes "check p r") ≡ codes "mem" ∷ [] }
+    ensures explain { taken (joined_to (codes "1")) (codes "explain p r") ≡ codes "mem" ∷ [] }
     ensures load { taken (joined_to (codes "1")) (codes "load 7") ≡ codes "threads" ∷ codes "rounds" ∷ codes "budget" ∷ [] }
 {}
 
@@ -49,6 +51,7 @@ pub fn options_with_no_value()
     ensures disassemble { taken bare (codes "dis p") ≡ codes "flat" ∷ [] }
     ensures trace { taken bare (codes "trace p") ≡ codes "flat" ∷ [] }
     ensures check { taken bare (codes "check p r") ≡ codes "flat" ∷ [] }
+    ensures explain { taken bare (codes "explain p r") ≡ codes "flat" ∷ [] }
     ensures load { taken bare (codes "load 7") ≡ [] }
 {}
 

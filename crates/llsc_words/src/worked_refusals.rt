@@ -34,6 +34,9 @@ pub fn files_too_few_or_too_many()
     ensures check_of_none { asked_in (codes "check") ≡ None }
     ensures check_of_one { asked_in (codes "check p") ≡ None }
     ensures check_of_three { asked_in (codes "check p r q") ≡ None }
+    ensures explain_none { asked_in (codes "explain") ≡ None }
+    ensures explain_one { asked_in (codes "explain p") ≡ None }
+    ensures explain_three { asked_in (codes "explain p r q") ≡ None }
     ensures load_of_none { asked_in (codes "load") ≡ None }
     ensures load_of_two { asked_in (codes "load 7 8") ≡ None }
 {}
@@ -50,6 +53,7 @@ pub fn calls_for_help()
     ensures disassemble { asked_in (codes "dis p --help") ≡ None }
     ensures trace { asked_in (codes "trace p --help") ≡ None }
     ensures check { asked_in (codes "check p r --help") ≡ None }
+    ensures explain { asked_in (codes "explain p r --help") ≡ None }
     ensures load { asked_in (codes "load 7 --help") ≡ None }
     ensures letter { asked_in (codes "solo p -h") ≡ None }
     ensures version { asked_in (codes "solo p --version") ≡ None }
@@ -78,6 +82,7 @@ pub fn calls_for_risc_v()
     ensures disassemble { asked_in (codes "dis --rv p") ≡ None }
     ensures trace { asked_in (codes "trace --rv p") ≡ None }
     ensures check { asked_in (codes "check --rv p r") ≡ None }
+    ensures explain { asked_in (codes "explain --rv p r") ≡ None }
     ensures load { asked_in (codes "load --rv 7") ≡ None }
     ensures one_to_start { asked_in (codes "run --rv --spare 1 p") ≡ None }
     ensures one_to_start_said_before { asked_in (codes "run --spare 1 p --rv") ≡ None }

@@ -11,7 +11,7 @@ use Rattle.llsc_host.specs.declared.host.ReadFault.TheVariants.{Failed, FileTooL
 use Rattle.llsc_host.specs.Host.{Rose}
 use Rattle.llsc_host.specs.Said.{refusal_text}
 use Rattle.llsc_host.specs.Writes.{KeepsReads, KeepsWrites}
-use Rattle.llsc_words.specs.Request.{Request, Solo, Run, Pool, Record, Assemble, Disassemble, Trace, Check, Load, files_of}
+use Rattle.llsc_words.specs.Request.{Request, Solo, Run, Pool, Record, Assemble, Disassemble, Trace, Check, Explain, Load, files_of}
 use Rattle.llsc_files.specs.Reads.{Reads}
 use Rattle.llsc_files.specs.Refusals.{machine_of, most_program, size_refusal, solo_size, too_long}
 use Rattle.llsc_call.specs.Answer.{Answers, AreFiles, IsDue}
@@ -32,10 +32,12 @@ first_file (Assemble file format) = Some (file, most_text)
 first_file (Disassemble file format mem) = Some (file, most_program)
 first_file (Trace file format threads mem granule seed budget) = Some (file, most_program)
 first_file (Check file recorded format mem) = Some (file, most_program)
+first_file (Explain file recorded format mem) = Some (file, most_program)
 first_file (Load seed threads rounds budget) = None
 
 abbrev pub second_file : Request → Option (List ℕ × ℕ)
 second_file (Check file recorded format mem) = Some (recorded, most_record)
+second_file (Explain file recorded format mem) = Some (recorded, most_record)
 second_file _ = None
 
 -- the machine that a request names

@@ -16,7 +16,7 @@ use Rattle.llsc_report.specs.Summary.{counter_of, summary_by}
 use Rattle.llsc_call.specs.Check.{verdict_status}
 use Rattle.llsc_call.specs.Run.{told}
 use Rattle.llsc_call.specs.declared.outcome.Outcome.{Outcome}
-use Rattle.llsc_call.specs.declared.outcome.Outcome.TheVariants.{NoRequest, Unread, NoMemory, Refused, Assembled, Listed, Recorded, Judged, Alone, Beside, Counted}
+use Rattle.llsc_call.specs.declared.outcome.Outcome.TheVariants.{NoRequest, Unread, NoMemory, Refused, Assembled, Listed, Recorded, Judged, Explained, Alone, Beside, Counted}
 
 -- what is said
 abbrev pub text_of : Outcome → List ℕ
@@ -28,6 +28,7 @@ text_of (Assembled file) = file.items
 text_of (Listed program) = disassembly program
 text_of (Recorded text ends) = text.items
 text_of (Judged verdict text) = string_bytes text
+text_of (Explained explanation) = explanation
 text_of (Alone budget end) = report_of budget (end ∷ [])
 text_of (Beside budget ends) = report_of budget ends.items
 text_of (Counted numbers rows) = summary_by numbers.seed numbers.threads numbers.rounds (counter_of rows)
@@ -42,6 +43,7 @@ status_of (Assembled file) = 0
 status_of (Listed program) = 0
 status_of (Recorded text ends) = status_of_all ends.items
 status_of (Judged verdict text) = verdict_status verdict
+status_of (Explained explanation) = 0
 status_of (Alone budget end) = status_of_stop end.stop
 status_of (Beside budget ends) = status_of_all ends.items
 status_of (Counted numbers rows) = 0

@@ -14,8 +14,13 @@ const CALLS: &[(&str, &str)] = &[
     ),
     ("trace --flat --threads 1 leave", RECORD),
     ("check --flat leave record", "good\n"),
+    ("explain --flat leave record", EXPLAINED),
     ("load 0 --threads 1 --rounds 1", ROUND),
 ];
+
+/// What is explained of a record with no store-exclusive.
+const EXPLAINED: &str =
+    "all: succeeded 0, failed to others' writes 0, without a reservation 0, otherwise 0, values came back 0\n";
 
 /// What a load prints whose one thread makes one round.
 const ROUND: &str = "\

@@ -1,9 +1,10 @@
 use Rattle.std.proofs.Common.{[], ◌∷◌, refl}
-use Rattle.llsc_words.specs.Request.{Solo, Assemble, Disassemble, Trace, Check}
+use Rattle.llsc_words.specs.Request.{Solo, Assemble, Disassemble, Trace, Check, Explain}
 use Rattle.llsc_texts.specs.Assembly.{AnswersAsm}
 use Rattle.llsc_texts.specs.Disassembly.{AnswersDis}
 use Rattle.llsc_call.specs.Answer.{Answers, AnswersSolo}
 use Rattle.llsc_call.specs.Check.{AnswersCheck}
+use Rattle.llsc_call.specs.Explain.{AnswersExplain}
 use Rattle.llsc_call.specs.Trace.{AnswersTrace}
 use Rattle.llsc_call.proofs.Outcomes.{gives_alone}
 use Rattle.llsc_call.proofs.commands.answer.Goals as goal
@@ -57,6 +58,16 @@ returns-in-Check g c =
     rw h.is
     (gives_alone (AnswersCheck h.format h.mem first c.args.files.second.items) (Answers (Check h.file.now h.recorded.now h.format h.mem) (first ∷ c.args.files.second.items ∷ [])) made whole.result.outcome whole.result.story whole.ensures.outcome whole.ensures.story
     (λ s text a. (refl, a)) (c.outcome-in-Check).ensures)
+
+pub returns-in-Explain : goal.returns-in-Explain
+returns-in-Explain g c =
+    let h = c.in-Explain in
+    let first = c.args.files.first.items in
+    let made = (c.outcome-in-Explain).result in
+    let whole = c.from-in-Explain in
+    rw h.is
+    (gives_alone (AnswersExplain h.format h.mem first c.args.files.second.items) (Answers (Explain h.file.now h.recorded.now h.format h.mem) (first ∷ c.args.files.second.items ∷ [])) made whole.result.outcome whole.result.story whole.ensures.outcome whole.ensures.story
+    (λ s text a. (refl, a)) (c.outcome-in-Explain).ensures)
 
 pub returns-in-Run : goal.returns-in-Run
 returns-in-Run g c = rw c.in-Run.is c.answer.ensures

@@ -1,7 +1,7 @@
 use Rattle.std.proofs.Common.{◌≡◌, ◌≤◌, ◌/◌, ◌*◌, [], length, ap, sym, subst, arith}
 use Rattle.llsc_host.specs.Writes.{Writes}
 use Rattle.llsc_texts.specs.Disassembly.{disassembly, line_at, lines_of}
-use Rattle.llsc_texts.specs.inner.Disassembly.{Holds}
+use Rattle.llsc_texts.specs.Paging.{Holds}
 use Rattle.llsc_host.proofs.Kept.{stopped}
 use Rattle.llsc_texts.proofs.Paging.{holds_broke, holds_here, holds_more, holds_written, lines_broke, lines_more}
 use Rattle.llsc_texts.proofs.dis.write_lines.Goals as goal

@@ -1,6 +1,6 @@
 -- What was written and what stands on the page are the lines so far.
 use Rattle.llsc_texts.specs.Disassembly.{lines_of}
-use Rattle.llsc_texts.specs.inner.Disassembly.{Holds}
+use Rattle.llsc_texts.specs.Paging.{Holds}
 use Rattle.llsc_texts.proofs.dis.write_lines.Given as goal
 
 abbrev pub invariant-loop-i : goal.invariant-loop-i

@@ -1,2 +1,3 @@
 -- What only proofs and inner contracts need.
-pub mod Disassembly
+pub mod Steps
+pub mod Texts

@@ -1,4 +1,4 @@
--- Only proofs and inner contracts need these words beside those of `specs/Disassembly`.
+-- A text that is written page by page.
 use Rattle.std.specs.Prelude.{◌≡◌, ℕ, List, ◌++◌, Result, Ok, Err}
 use Rattle.llsc_host.specs.Writes.{Broke, Wrote}
 use Rattle.llsc_host.specs.declared.host.Host.{Ghosts}

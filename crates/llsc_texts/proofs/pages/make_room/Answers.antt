@@ -1,7 +1,7 @@
 use Rattle.std.proofs.Common.{subst}
 use Rattle.llsc_host.specs.Writes.{Broke, Wrote}
 use Rattle.llsc_texts.proofs.Paging.{holds_here, holds_none, pages_stopped}
-use Rattle.llsc_texts.proofs.dis.make_room.Goals as goal
+use Rattle.llsc_texts.proofs.pages.make_room.Goals as goal
 
 pub returns-then-has_room-clause-pages : goal.returns-then-has_room-clause-pages
 returns-then-has_room-clause-pages g c = holds_here g.H.Host c.args.host.now c.args.page.now
