@@ -11,3 +11,4 @@ pub mod Places
 pub mod BlockPassages
 pub mod CarriedOn
 pub mod Acts
+pub mod RowDone

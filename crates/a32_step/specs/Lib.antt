@@ -1,3 +1,4 @@
 pub mod Machine
 pub mod Replied
+pub mod RowActs
 pub mod inner

@@ -2,6 +2,7 @@
 pub mod Acting
 pub mod ExecutionState
 pub mod Inside
+pub mod Lowering
 pub mod Machine
 pub mod Passages
 pub mod Progress

@@ -1,13 +1,13 @@
 //! The core of an A32 thread as the core of a guest thread.
 
-use crate::conditional::Conditional;
 use crate::cpu::Cpu;
+use crate::kept::Kept;
 use crate::phases::Progress;
 use guest_core::{Code, Core, Passage, Port, Wanted};
 use llsc_base::{CallAsk, Image};
 
 impl Core for Cpu {
-    type Ready = Conditional;
+    type Ready = Kept;
 
     ghost use Rattle.a32_instr.specs.declared.instructions.Instr.{Instr as A32Instr};
     ghost use Rattle.a32_instr.specs.State.{State as A32State};
@@ -38,7 +38,7 @@ impl Core for Cpu {
     /// It is at its start where it calls, stops, or stores and memory has no write left. It is under way where memory has no write
     /// left for a later store of its block, or where it loads a PC that may not be.
     #[inline(always)]
-    fn carry<P: Port>(&mut self, code: &mut Code<Conditional>, port: &mut P) -> Passage {
+    fn carry<P: Port>(&mut self, code: &mut Code<Kept>, port: &mut P) -> Passage {
         let pc = self.execution.pc();
         let found = code.find(pc);
         if !found {
@@ -50,7 +50,7 @@ impl Core for Cpu {
             return Passage::Complete;
         }
         let image = code.image();
-        match self.execution.act(&known.instr, image, port) {
+        match self.execution.act_kept(known, image, port) {
             Progress::Complete => Passage::Complete,
             Progress::Held => self.put_back(code),
         }

@@ -9,8 +9,8 @@ ghost use Rattle.a32_step.specs.Machine.{start_of, next_effect, after_next, inst
 ghost use Rattle.a32_step.specs.inner.Machine.{after_instr, begins, HasBegun};
 ghost use Rattle.guest_core.specs.Machine.{given, wanted_of, between, Follows, AwaitsNothing, IsTested, IsAwaiting, IsCalling};
 
-use crate::conditional::Conditional;
 use crate::execution::Execution;
+use crate::kept::Kept;
 use crate::phases::Point;
 use crate::slot::Slot;
 use crate::sources::Nobody;
@@ -222,7 +222,7 @@ impl Cpu {
     /// none.
     #[cold]
     #[inline(never)]
-    pub(crate) fn put_back(&mut self, code: &Code<Conditional>) -> Passage
+    pub(crate) fn put_back(&mut self, code: &Code<Kept>) -> Passage
         requires { (instr : Instr) × (instr_at code.now.program self.old.state.pc ≡ Ok instr) }
         ensures passage { result ≡ passage_of self.old.replies }
         ensures machine { (instr : Instr) → instr_at code.now.program self.old.state.pc ≡ Ok instr → self.new ≡ in_hand instr self.old.state self.old.replies }

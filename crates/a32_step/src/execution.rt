@@ -29,6 +29,7 @@ mod exclusives;
 mod load_store;
 mod moves;
 mod multiply;
+mod rows;
 
 use blocks::Transfer;
 

@@ -7,22 +7,24 @@
 //! set of these instructions, for a machine that may be in the middle of one (`guest_core`,
 //! `specs/Machine`), and [`laws`] has that the two agree over all replies. As a
 //! [`guest_core::Core`], a `Cpu` also carries a whole instruction through at once, in the form that
-//! [`Conditional`] has. A [`Remembering`] is a core that goes access by access, and decodes the words
+//! [`Kept`] has. A [`Remembering`] is a core that goes access by access, and decodes the words
 //! of a loop once.
 #![tactic(auto)]
 
-mod conditional;
 mod cores;
 mod cpu;
 mod execution;
+mod kept;
 pub mod laws;
+mod low;
 mod phases;
 mod remembering;
 mod replies;
+mod rows;
 mod slot;
 mod sources;
 
 pub use a32_instr::Flags;
-pub use conditional::Conditional;
 pub use cpu::Cpu;
+pub use kept::Kept;
 pub use remembering::Remembering;

@@ -1,8 +1,8 @@
 //! The core of a guest thread that remembers words, so that the words of a loop are decoded once.
 ghost use Rattle.std.specs.Prelude.{◌≡◌};
 
-use crate::conditional::Conditional;
 use crate::cpu::Cpu;
+use crate::kept::Kept;
 use crate::slot::Slot;
 use guest_core::{Code, Core, Passage, Port, Wanted};
 use llsc_base::{CallAsk, Image};
@@ -40,7 +40,7 @@ impl Remembering {
 }
 
 impl Core for Remembering {
-    type Ready = Conditional;
+    type Ready = Kept;
 
     ghost use Rattle.a32_instr.specs.declared.instructions.Instr.{Instr as A32Instr};
     ghost use Rattle.a32_instr.specs.State.{State as A32State};
@@ -64,7 +64,7 @@ impl Core for Remembering {
     }
 
     #[inline(always)]
-    fn carry<P: Port>(&mut self, code: &mut Code<Conditional>, port: &mut P) -> Passage {
+    fn carry<P: Port>(&mut self, code: &mut Code<Kept>, port: &mut P) -> Passage {
         self.cpu.carry(code, port)
     }
 

@@ -10,7 +10,7 @@ use Rattle.history.specs.Started.{child_of}
 use Rattle.history.specs.declared.entry.Entry.{Entry}
 use Rattle.shared_memory.specs.Origin.{Origin}
 use Rattle.a32_step.specs.Machine.{Machine, a32}
-use Rattle.a32_step.specs.declared.conditional.Conditional.{Conditional}
+use Rattle.a32_step.specs.declared.kept.Kept.{Kept}
 use Rattle.guest_thread.specs.Crews.{IsFresh}
 use Rattle.guest_thread.specs.declared.crews.Job.{Job}
 use Rattle.guest_family.specs.Kin.{AreSpares, AreStarters, IsSpare, IsStarter, heads_of, spares_of}
@@ -45,7 +45,7 @@ module _ {P : Type 0} (home : P → TableId) (numbers : P → ℕ → Bool) (see
   starters_pushed starters new starter pushed all is = subst (AreStarters home numbers seen mem origin program) (sym pushed) (starters_more starters starter all is)
 
   -- one is made of its thread's job and of what those run with that it may start
-  pub starter_made : (starter : Starter P) (job : Job P Machine Conditional) (spares : Vec (Spare P) Global) (from : ℕ) → starter.job ≡ job → starter.spares ≡ spares
+  pub starter_made : (starter : Starter P) (job : Job P Machine Kept) (spares : Vec (Spare P) Global) (from : ℕ) → starter.job ≡ job → starter.spares ≡ spares
       → IsFresh a32 (λ m. m) home numbers seen mem origin program job → AreSpares home numbers seen mem program spares.items
       → spares_of spares.items ≡ range_with_len from origin.spare → from ≡ child_of origin.first origin.spare job.thread 0
       → (starter.ends.items ≡ []) × (vec_len starter.ends ≡ 0) → vec_len spares ≤ vec_capacity starter.ends → vec_len spares ≡ origin.spare
@@ -55,7 +55,7 @@ module _ {P : Type 0} (home : P → TableId) (numbers : P → ℕ → Bool) (see
     job = subst (IsFresh a32 (λ m. m) home numbers seen mem origin program) (sym is) fresh;
     spares = subst (λ (v : Vec (Spare P) Global). AreSpares home numbers seen mem program v.items) (sym has) are;
     threads = ap (λ (v : Vec (Spare P) Global). spares_of v.items) has ∙ threads
-        ∙ ap (λ (n : ℕ). range_with_len n origin.spare) (at ∙ ap (λ (j : Job P Machine Conditional). child_of origin.first origin.spare j.thread 0) (sym is));
+        ∙ ap (λ (n : ℕ). range_with_len n origin.spare) (at ∙ ap (λ (j : Job P Machine Kept). child_of origin.first origin.spare j.thread 0) (sym is));
     empty = empty;
     room = subst (λ (v : Vec (Spare P) Global). vec_len v ≤ vec_capacity starter.ends) (sym has) room;
     many = subst (λ (v : Vec (Spare P) Global). vec_len v ≡ origin.spare) (sym has) many;

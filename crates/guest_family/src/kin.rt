@@ -6,7 +6,7 @@ ghost use Rattle.shared_memory.specs.Seen.{IsSingle};
 ghost use Rattle.guest_family.specs.Kin.{AreSpares, AreStarters, AreReadyKin, IsStarter, heads_of, spares_of};
 ghost use Rattle.guest_family.specs.inner.Left.{AreLeft};
 
-use a32_step::{Conditional, Cpu};
+use a32_step::{Cpu, Kept};
 use guest_calls::Output;
 use guest_core::Code;
 use guest_thread::{GuestEnd, Job, job_of};
@@ -20,13 +20,13 @@ pub struct Spare<'i, P> {
     pub thread: u32,
     pub pass: P,
     pub out: Output,
-    pub code: Code<'i, Conditional>,
+    pub code: Code<'i, Kept>,
 }
 
 /// A thread that begins by itself, with the threads that it may start in order of number, and room for the ends of all of them.
 #[derive(Drop)]
 pub struct Starter<'i, P> {
-    pub job: Job<'i, P, Cpu, Conditional>,
+    pub job: Job<'i, P, Cpu, Kept>,
     pub spares: Vec<Spare<'i, P>>,
     pub ends: Vec<GuestEnd>,
 }
@@ -80,7 +80,7 @@ fn spares_from<'i, M: StartMemory>(
 /// A thread that begins by itself, with those that it may start, and room for their ends.
 fn starter_of<'i, P: Drop>(
     alloc: Global,
-    job: Job<'i, P, Cpu, Conditional>,
+    job: Job<'i, P, Cpu, Kept>,
     spares: Vec<Spare<'i, P>>,
 ) -> Result<Starter<'i, P>, AllocError>
     ensures job { IfOk result (λ starter. starter.job ≡ job.entry) }

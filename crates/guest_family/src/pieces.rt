@@ -7,7 +7,7 @@ ghost use Rattle.guest_core.specs.Machine.{between};
 ghost use Rattle.a32_step.specs.Machine.{a32};
 ghost use Rattle.guest_thread.specs.Pieces.{CountFew, IsPiece, counts_by};
 
-use a32_step::{Conditional, Cpu};
+use a32_step::{Cpu, Kept};
 use guest_core::Code;
 use guest_thread::{Part, Paused};
 use shared_memory::SharedMemory;
@@ -21,7 +21,7 @@ use std::sync::Wait;
 pub fn go_on<M: SharedMemory, R: Wait>(
     rt: &R,
     mem: &M,
-    code: &mut Code<Conditional>,
+    code: &mut Code<Kept>,
     part: Part<M::Pass, Cpu>,
     upto: u64,
     budget: u64,

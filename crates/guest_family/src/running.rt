@@ -10,7 +10,7 @@ ghost use Rattle.guest_family.specs.inner.Next.{HasNoneLeft, IsAligned, IsNext, 
 ghost use Rattle.guest_family.specs.inner.UnderWay.{HasReachedEnd, IsPartUnderWay};
 
 use crate::pieces::go_on;
-use a32_step::{Conditional, Cpu};
+use a32_step::{Cpu, Kept};
 use guest_core::Code;
 use guest_thread::{Finished, Part, Paused};
 use shared_memory::StartMemory;
@@ -38,7 +38,7 @@ pub(crate) enum Next<P> {
 pub(crate) fn to_next<M: StartMemory, R: Wait>(
     rt: &R,
     mem: &M,
-    code: &mut Code<Conditional>,
+    code: &mut Code<Kept>,
     part: Part<M::Pass, Cpu>,
     budget: u64,
 ) -> Next<M::Pass>
@@ -81,7 +81,7 @@ pub(crate) fn answered<P>(mut part: Part<P, Cpu>, value: u32) -> Part<P, Cpu>
 pub(crate) fn run_out<M: StartMemory, R: Wait>(
     rt: &R,
     mem: &M,
-    code: &mut Code<Conditional>,
+    code: &mut Code<Kept>,
     mut part: Part<M::Pass, Cpu>,
     budget: u64,
 ) -> Finished<M::Pass>
@@ -109,7 +109,7 @@ pub(crate) fn run_out<M: StartMemory, R: Wait>(
 pub(crate) fn to_start<M: StartMemory, R: Wait>(
     rt: &R,
     mem: &M,
-    code: &mut Code<Conditional>,
+    code: &mut Code<Kept>,
     mut part: Part<M::Pass, Cpu>,
     budget: u64,
 ) -> Next<M::Pass>

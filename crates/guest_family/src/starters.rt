@@ -17,7 +17,7 @@ ghost use denote.Param.Send.{IsSync, IsSend};
 
 use crate::kin::Spare;
 use crate::running::{Next, answered, run_out, to_start};
-use a32_step::{Conditional, Cpu};
+use a32_step::{Cpu, Kept};
 use guest_calls::Output;
 use guest_core::Code;
 use guest_thread::{Finished, GuestEnd, Part, Ran, gather};
@@ -31,7 +31,7 @@ use std::thread::{Threads, join};
 #[derive(Drop)]
 pub(crate) struct StarterPart<'i, P> {
     pub(crate) part: Part<P, Cpu>,
-    pub(crate) code: Code<'i, Conditional>,
+    pub(crate) code: Code<'i, Kept>,
     pub(crate) spares: Vec<Spare<'i, P>>,
     pub(crate) ends: Vec<GuestEnd>,
 }

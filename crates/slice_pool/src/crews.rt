@@ -12,7 +12,7 @@ ghost use Rattle.slice_pool.specs.inner.AtWork.{IsWorker};
 use crate::queue::{Cut, Few, Line, Puts, Seat, Waiting};
 use crate::turns::Gone;
 use crate::working::{Worker, work};
-use a32_step::Conditional;
+use a32_step::Kept;
 use guest_core::Code;
 use llsc_base::Image;
 use shared_memory::SharedMemory;
@@ -25,7 +25,7 @@ pub(crate) const MOST_WORKERS: usize = 4;
 /// What a worker brings with it: its program, and room for all guests that may end with it.
 #[derive(Drop)]
 pub(crate) struct Desk<'i, P> {
-    pub(crate) code: Code<'i, Conditional>,
+    pub(crate) code: Code<'i, Kept>,
     pub(crate) done: Vec<Gone<P>>,
 }
 

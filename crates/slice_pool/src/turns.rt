@@ -8,7 +8,7 @@ ghost use Rattle.slice_pool.specs.inner.Rule.{IsGuestUnderWay};
 ghost use Rattle.slice_pool.specs.inner.Over.{HasTurned, IsGoneFrom, IsUpto};
 
 use crate::queue::{Line, Puts, Seat, Waiting};
-use a32_step::Conditional;
+use a32_step::Kept;
 use guest_core::Code;
 use guest_family::go_on;
 use guest_thread::{Finished, GuestEnd, Paused};
@@ -46,7 +46,7 @@ fn slice_end(steps: u64, slice: u64, budget: u64) -> u64
 fn turn<M: SharedMemory, R: Wait>(
     rt: &R,
     mem: &M,
-    code: &mut Code<Conditional>,
+    code: &mut Code<Kept>,
     guest: Waiting<M::Pass>,
     slice: u64,
     budget: u64,
@@ -84,7 +84,7 @@ fn turn<M: SharedMemory, R: Wait>(
 pub(crate) fn turns_of<M: SharedMemory, R: Wait>(
     rt: &R,
     mem: &M,
-    code: &mut Code<Conditional>,
+    code: &mut Code<Kept>,
     line: &Line<M>,
     seat: &mut Seat<M::Pass>,
     mut guest: Waiting<M::Pass>,

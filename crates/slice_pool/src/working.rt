@@ -8,7 +8,7 @@ ghost use Rattle.slice_pool.specs.inner.AtWork.{IsWorker};
 
 use crate::queue::{Line, Seat, Takes};
 use crate::turns::{Gone, turns_of};
-use a32_step::Conditional;
+use a32_step::Kept;
 use guest_core::Code;
 use shared_memory::SharedMemory;
 use std::sync::Wait;
@@ -17,7 +17,7 @@ use std::sync::Wait;
 #[derive(Drop)]
 pub(crate) struct Worker<'i, P> {
     pub(crate) seat: Seat<P>,
-    pub(crate) code: Code<'i, Conditional>,
+    pub(crate) code: Code<'i, Kept>,
     pub(crate) done: Vec<Gone<P>>,
 }
 

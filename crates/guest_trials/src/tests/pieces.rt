@@ -3,7 +3,7 @@ ghost use Rattle.std.specs.Prelude.{◌≡◌, ◌≤◌, IfOk, length};
 ghost use Rattle.guest_trials.specs.inner.Parts.{MayGoOn};
 
 use super::programs::image_of;
-use a32_step::{Conditional, Cpu};
+use a32_step::{Cpu, Kept};
 use guest_calls::Output;
 use guest_core::Code;
 use guest_thread::{Finished, Part, Paused, go_on, start_cpu};
@@ -35,7 +35,7 @@ const BUDGET: u64 = 1000;
 fn next_piece<M: SharedMemory, R: Wait>(
     rt: &R,
     mem: &M,
-    code: &mut Code<Conditional>,
+    code: &mut Code<Kept>,
     part: Part<M::Pass, Cpu>,
     upto: u64,
     starts: bool,
@@ -63,7 +63,7 @@ fn next_piece<M: SharedMemory, R: Wait>(
 fn ended<M: SharedMemory, R: Wait>(
     rt: &R,
     mem: &M,
-    code: &mut Code<Conditional>,
+    code: &mut Code<Kept>,
     part: Part<M::Pass, Cpu>,
     slice: u64,
     starts: bool,

@@ -11,30 +11,30 @@ returns-then-not-found-clause-carried g c = not_on c.requires.rest
 
 pub returns-then-not-meets-clause-carried : goal.returns-then-not-meets-clause-carried
 returns-then-not-meets-clause-carried g c =
-    let it = found _ _ _ c.self.view_is c.requires.rest c.pc-pc.ensures.pc c.find-found.ensures.program c.at-known.ensures.instr c.at-known.ensures.right c.meets.ensures in
+    let it = found _ _ _ c.self.view_is c.requires.rest c.pc-pc.ensures.pc c.find-found.ensures.program c.at-known.ensures.instr c.at-known.ensures.right.cond_is c.meets.ensures in
     passed_over it _ c.if-not-meets.true c.advance.ensures.state
 
 pub put_back-requires : goal.put_back-requires
 put_back-requires g c =
-    let it = found _ _ _ c.self.view_is c.requires.rest c.pc-pc.ensures.pc c.find-found.ensures.program c.at-known.ensures.instr c.at-known.ensures.right c.meets.ensures in
-    (c.at-known.result.now.instr, ap (λ p. instr_at p c.act.new.self.state.pc) (sym c.image-image.ensures) ∙ known_still it c.if-not-meets.false (c.image-image.ensures ∙ c.find-found.ensures.program) c.act.ensures.acted c.in-Held.is)
+    let it = found _ _ _ c.self.view_is c.requires.rest c.pc-pc.ensures.pc c.find-found.ensures.program c.at-known.ensures.instr c.at-known.ensures.right.cond_is c.meets.ensures in
+    (c.at-known.result.now.instr, ap (λ p. instr_at p c.act_kept.new.self.state.pc) (sym c.image-image.ensures) ∙ known_still it c.if-not-meets.false (c.image-image.ensures ∙ c.find-found.ensures.program) c.act_kept.ensures.acted c.in-Held.is)
 
 pub returns-in-Complete-clause-carried : goal.returns-in-Complete-clause-carried
 returns-in-Complete-clause-carried g c =
-    let it = found _ _ _ c.self.view_is c.requires.rest c.pc-pc.ensures.pc c.find-found.ensures.program c.at-known.ensures.instr c.at-known.ensures.right c.meets.ensures in
-    carried_through it c.if-not-meets.false (c.image-image.ensures ∙ c.find-found.ensures.program) c.act.ensures.acted _ c.in-Complete.is
+    let it = found _ _ _ c.self.view_is c.requires.rest c.pc-pc.ensures.pc c.find-found.ensures.program c.at-known.ensures.instr c.at-known.ensures.right.cond_is c.meets.ensures in
+    carried_through it c.if-not-meets.false (c.image-image.ensures ∙ c.find-found.ensures.program) c.act_kept.ensures.acted _ c.in-Complete.is
 
 pub returns-in-Complete-clause-room : goal.returns-in-Complete-clause-room
 returns-in-Complete-clause-room g c =
-    let it = found _ _ _ c.self.view_is c.requires.rest c.pc-pc.ensures.pc c.find-found.ensures.program c.at-known.ensures.instr c.at-known.ensures.right c.meets.ensures in
+    let it = found _ _ _ c.self.view_is c.requires.rest c.pc-pc.ensures.pc c.find-found.ensures.program c.at-known.ensures.instr c.at-known.ensures.right.cond_is c.meets.ensures in
     subst (λ (rs : List ℕ). length rs ≤ 16)
-    (sym (none_left it c.if-not-meets.false (c.image-image.ensures ∙ c.find-found.ensures.program) c.act.ensures.acted c.in-Complete.is)) (search rules)
+    (sym (none_left it c.if-not-meets.false (c.image-image.ensures ∙ c.find-found.ensures.program) c.act_kept.ensures.acted c.in-Complete.is)) (search rules)
 
 pub returns-in-Held-clause-carried : goal.returns-in-Held-clause-carried
 returns-in-Held-clause-carried g c =
-    let it = found _ _ _ c.self.view_is c.requires.rest c.pc-pc.ensures.pc c.find-found.ensures.program c.at-known.ensures.instr c.at-known.ensures.right c.meets.ensures in
-    carried_on it c.if-not-meets.false (c.image-image.ensures ∙ c.find-found.ensures.program) c.act.ensures.acted c.in-Held.is c.put_back.ensures.passage
-    (λ instr at. c.put_back.ensures.machine instr (ap (λ p. instr_at p c.act.new.self.state.pc) (sym c.image-image.ensures) ∙ at))
+    let it = found _ _ _ c.self.view_is c.requires.rest c.pc-pc.ensures.pc c.find-found.ensures.program c.at-known.ensures.instr c.at-known.ensures.right.cond_is c.meets.ensures in
+    carried_on it c.if-not-meets.false (c.image-image.ensures ∙ c.find-found.ensures.program) c.act_kept.ensures.acted c.in-Held.is c.put_back.ensures.passage
+    (λ instr at. c.put_back.ensures.machine instr (ap (λ p. instr_at p c.act_kept.new.self.state.pc) (sym c.image-image.ensures) ∙ at))
 
 pub returns-then-not-found-clause-held : goal.returns-then-not-found-clause-held
 returns-then-not-found-clause-held g c = λ other.
@@ -43,6 +43,6 @@ returns-then-not-found-clause-held g c = λ other.
 
 pub returns-in-Held-clause-held : goal.returns-in-Held-clause-held
 returns-in-Held-clause-held g c = λ other.
-    let it = found _ _ _ c.self.view_is c.requires.rest c.pc-pc.ensures.pc c.find-found.ensures.program c.at-known.ensures.instr c.at-known.ensures.right c.meets.ensures in
-    held_next it c.if-not-meets.false (c.image-image.ensures ∙ c.find-found.ensures.program) c.act.ensures.acted c.in-Held.is
-    (λ instr at. c.put_back.ensures.machine instr (ap (λ p. instr_at p c.act.new.self.state.pc) (sym c.image-image.ensures) ∙ at))
+    let it = found _ _ _ c.self.view_is c.requires.rest c.pc-pc.ensures.pc c.find-found.ensures.program c.at-known.ensures.instr c.at-known.ensures.right.cond_is c.meets.ensures in
+    held_next it c.if-not-meets.false (c.image-image.ensures ∙ c.find-found.ensures.program) c.act_kept.ensures.acted c.in-Held.is
+    (λ instr at. c.put_back.ensures.machine instr (ap (λ p. instr_at p c.act_kept.new.self.state.pc) (sym c.image-image.ensures) ∙ at))
