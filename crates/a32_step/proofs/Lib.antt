@@ -12,3 +12,5 @@ pub mod BlockPassages
 pub mod CarriedOn
 pub mod Acts
 pub mod RowDone
+pub mod CameOf
+pub mod Conditions

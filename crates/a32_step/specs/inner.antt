@@ -7,3 +7,4 @@ pub mod Machine
 pub mod Passages
 pub mod Progress
 pub mod Slots
+pub mod Coming

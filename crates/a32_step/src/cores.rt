@@ -2,8 +2,8 @@
 
 use crate::cpu::Cpu;
 use crate::kept::Kept;
-use crate::phases::Progress;
-use guest_core::{Code, Core, Passage, Port, Wanted};
+use crate::phases::Came;
+use guest_core::{Core, Passage, TryPort, Wanted};
 use llsc_base::{CallAsk, Image};
 
 impl Core for Cpu {
@@ -35,24 +35,16 @@ impl Core for Cpu {
         Cpu::next(self, image)
     }
 
-    /// It is at its start where it calls, stops, or stores and memory has no write left. It is under way where memory has no write
-    /// left for a later store of its block, or where it loads a PC that may not be.
+    /// It is at its start where it calls, stops, or accesses memory and the port has no reply at once. It is under way where the
+    /// port has no reply at once to a later access of its block, or where it loads a PC that may not be.
     #[inline(always)]
-    fn carry<P: Port>(&mut self, code: &mut Code<Kept>, port: &mut P) -> Passage {
-        let pc = self.execution.pc();
-        let found = code.find(pc);
-        if !found {
-            return Passage::AtStart;
-        }
-        let known = code.at(pc);
-        if !self.execution.meets(known.cond) {
-            self.execution.advance();
-            return Passage::Complete;
-        }
-        let image = code.image();
-        match self.execution.act_kept(known, image, port) {
-            Progress::Complete => Passage::Complete,
-            Progress::Held => self.put_back(code),
+    fn carry<P: TryPort>(&mut self, kept: &Kept, image: &Image, port: &mut P) -> Passage {
+        match self.execution.come_kept(kept, image, port) {
+            Came::Unmet => Passage::Unmet,
+            Came::Next => Passage::Next,
+            Came::Jumped => Passage::Jumped,
+            Came::Held => self.put_back(image),
+            Came::Passed => unreachable!(),
         }
     }
 

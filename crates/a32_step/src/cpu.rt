@@ -1,21 +1,26 @@
 //! One guest thread's core.
-ghost use Rattle.std.specs.Prelude.{◌≡◌, ◌≤◌, ◌%◌, ◌+◌, ◌^◌, length, slice_index, IfSome, IfNone, IsTrue, Ok, []};
+ghost use Rattle.std.specs.Prelude.{◌≡◌, ◌≢◌, ◌≤◌, ◌%◌, ◌+◌, ◌^◌, length, slice_index, IfSome, IfNone, IsTrue, Ok, [], true};
 ghost use Rattle.a32_instr.specs.declared.instructions.Instr.{Instr};
 ghost use Rattle.a32_instr.specs.State.{answered};
 ghost use Rattle.llsc_base.specs.inner.Words.{AreWords};
 ghost use Rattle.guest_core.specs.inner.Passages.{in_hand, passage_of};
 ghost use Rattle.guest_core.specs.Phase as phase;
 ghost use Rattle.a32_step.specs.Machine.{start_of, next_effect, after_next, instr_at};
+ghost use Rattle.llsc_base.specs.Words.{low32};
+ghost use Rattle.a32_instr.specs.Condition.{passes};
+ghost use Rattle.guest_core.specs.Passages.{IsHeldBack};
+ghost use Rattle.a32_step.specs.RowActs.{IsLoweredOf};
+ghost use Rattle.a32_step.specs.inner.Passages.{IsCarriedOn};
 ghost use Rattle.a32_step.specs.inner.Machine.{after_instr, begins, HasBegun};
-ghost use Rattle.guest_core.specs.Machine.{given, wanted_of, between, Follows, AwaitsNothing, IsTested, IsAwaiting, IsCalling};
+ghost use Rattle.guest_core.specs.Machine.{given, wanted_of, between, Follows, AwaitsNothing, IsHeld, IsTested, IsAwaiting, IsCalling};
 
 use crate::execution::Execution;
 use crate::kept::Kept;
-use crate::phases::Point;
+use crate::phases::{Came, Point};
 use crate::slot::Slot;
 use crate::sources::Nobody;
 use a32_instr::Flags;
-use guest_core::{Code, Passage, Wanted};
+use guest_core::{Passage, TryPort, Wanted};
 use llsc_base::{CallAsk, Image};
 use std::marker::Model;
 
@@ -36,7 +41,7 @@ impl Model for Cpu {
 
     ghost Value = { Machine };
 
-    ghost view = { λ cpu. machine_in cpu.held.instr cpu.execution };
+    ghost view = { λ cpu. machine_in cpu.held.lowered.instr cpu.execution };
 }
 
 impl Cpu {
@@ -171,11 +176,11 @@ impl Cpu {
         if let Some(wanted) = self.begin(image, slot) {
             return wanted;
         }
-        let instr = self.held.instr();
+        let lowered = self.held.lowered();
         let mut nobody = Nobody {
             bytes: image.bytes().len(),
         };
-        let progress = self.execution.act(instr, image, &mut nobody);
+        let progress = self.execution.act_lowered(lowered, image, &mut nobody);
         self.execution.settle(progress)
     }
 
@@ -222,17 +227,17 @@ impl Cpu {
     /// none.
     #[cold]
     #[inline(never)]
-    pub(crate) fn put_back(&mut self, code: &Code<Kept>) -> Passage
-        requires { (instr : Instr) × (instr_at code.now.program self.old.state.pc ≡ Ok instr) }
+    pub(crate) fn put_back(&mut self, image: &Image) -> Passage
+        requires { (instr : Instr) × (instr_at image.now self.old.state.pc ≡ Ok instr) }
         ensures passage { result ≡ passage_of self.old.replies }
-        ensures machine { (instr : Instr) → instr_at code.now.program self.old.state.pc ≡ Ok instr → self.new ≡ in_hand instr self.old.state self.old.replies }
+        ensures machine { (instr : Instr) → instr_at image.now self.old.state.pc ≡ Ok instr → self.new ≡ in_hand instr self.old.state self.old.replies }
         ensures room { length self.new.replies ≤ 16 }
     {
         if self.execution.count_replies() == 0 {
             self.execution.finish();
             return Passage::AtStart;
         }
-        self.held.keep(code.image(), self.execution.pc());
+        self.held.keep(image, self.execution.pc());
         self.execution.begin();
         Passage::UnderWay
     }

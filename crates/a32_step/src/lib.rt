@@ -11,12 +11,14 @@
 //! of a loop once.
 #![tactic(auto)]
 
+mod amounts;
 mod cores;
 mod cpu;
 mod execution;
 mod kept;
 pub mod laws;
 mod low;
+mod lowered;
 mod phases;
 mod remembering;
 mod replies;

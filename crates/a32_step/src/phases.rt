@@ -31,3 +31,18 @@ pub enum Progress {
     /// It isn't: it waits, or the thread has stopped.
     Held,
 }
+
+/// How far an instruction has come that is kept ready.
+#[derive(Clone, Copy, PartialEq, Eq)]
+pub enum Came {
+    /// It wasn't met, and has done nothing.
+    Unmet,
+    /// It is complete, and the one behind it comes next.
+    Next,
+    /// It is complete, and any may come next.
+    Jumped,
+    /// Its condition has passed, and it has done nothing else.
+    Passed,
+    /// It isn't complete: it waits, or the thread has stopped.
+    Held,
+}

@@ -4,7 +4,7 @@ ghost use Rattle.std.specs.Prelude.{◌≡◌};
 use crate::cpu::Cpu;
 use crate::kept::Kept;
 use crate::slot::Slot;
-use guest_core::{Code, Core, Passage, Port, Wanted};
+use guest_core::{Core, Passage, TryPort, Wanted};
 use llsc_base::{CallAsk, Image};
 use std::marker::Model;
 
@@ -64,8 +64,8 @@ impl Core for Remembering {
     }
 
     #[inline(always)]
-    fn carry<P: Port>(&mut self, code: &mut Code<Kept>, port: &mut P) -> Passage {
-        self.cpu.carry(code, port)
+    fn carry<P: TryPort>(&mut self, kept: &Kept, image: &Image, port: &mut P) -> Passage {
+        self.cpu.carry(kept, image, port)
     }
 
     #[inline(always)]

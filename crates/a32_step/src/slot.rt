@@ -4,7 +4,9 @@ ghost use Rattle.a32_instr.specs.declared.instructions.Instr.{Instr};
 ghost use Rattle.a32_instr.specs.Effect.{condition_of};
 ghost use Rattle.a32_instr.specs.Table.{meaning, table};
 ghost use Rattle.a32_step.specs.Machine.{instr_at};
+ghost use Rattle.a32_step.specs.RowActs.{IsLoweredOf};
 
+use crate::lowered::Lowered;
 use a32_decode::decode;
 use a32_instr::{Cond, Instr};
 use llsc_base::{DecodeFault, Image, Stop};
@@ -18,7 +20,7 @@ const NOP: u32 = 0xe320_f000;
 pub struct Slot {
     word: u32,
     cond: Cond,
-    instr: Instr,
+    lowered: Lowered,
 }
 
 impl Model for Slot {
@@ -26,15 +28,16 @@ impl Model for Slot {
     ghost use Rattle.std.proofs.Common.{ap, sym};
     ghost use Rattle.a32_instr.specs.Effect.{condition_of};
     ghost use Rattle.a32_instr.specs.Table.{meaning, table};
+    ghost use Rattle.a32_step.specs.RowActs.{IsLoweredOf};
     ghost use Rattle.a32_step.specs.inner.Slots.{Met};
 
     ghost Value = { Met };
 
-    ghost view = { λ slot. record { word = slot.word; instr = slot.instr } };
+    ghost view = { λ slot. record { word = slot.word; lowered = slot.lowered } };
 
-    ghost invariant = { λ slot. (meaning table slot.word ≡ Ok slot.instr) × (slot.cond ≡ condition_of slot.instr) };
+    ghost invariant = { λ slot. (meaning table slot.word ≡ Ok slot.lowered.instr) × (slot.cond ≡ condition_of slot.lowered.instr) × IsLoweredOf slot.lowered.instr slot.lowered };
 
-    ghost inverse = { λ met. record { word = met.word; cond = condition_of met.instr; instr = met.instr } };
+    ghost inverse = { λ met. record { word = met.word; cond = condition_of met.lowered.instr; lowered = met.lowered } };
 
     ghost inverse_ok = { λ slot right. ap (λ cond. record slot { cond = cond }) (sym right.1) };
 }
@@ -46,22 +49,23 @@ impl Slot {
         Slot {
             word: NOP,
             cond: Cond::ALWAYS,
-            instr: Instr::Nop { cond: Cond::ALWAYS },
+            lowered: Lowered::other(Instr::Nop { cond: Cond::ALWAYS }),
         }
     }
 
-    /// Its instruction.
+    /// Its instruction, with its operands.
     #[inline(always)]
-    pub fn instr(&self) -> &Instr
-        ensures { result.now ≡ self.now.instr }
+    pub fn lowered(&self) -> &Lowered
+        ensures lowered { result.now ≡ self.now.lowered }
+        ensures right { IsLoweredOf result.now.instr result.now }
     {
-        &self.instr
+        &self.lowered
     }
 
     /// The condition of its instruction.
     #[inline(always)]
     pub fn cond(&self) -> Cond
-        ensures { result ≡ condition_of self.now.instr }
+        ensures { result ≡ condition_of self.now.lowered.instr }
     {
         self.cond
     }
@@ -70,7 +74,7 @@ impl Slot {
     #[inline(always)]
     pub fn fetch(&mut self, image: &Image, addr: u32, near: &mut usize) -> Result<(), Stop>
         requires { addr % 4 ≡ 0 }
-        ensures known { IfOk result (λ done. instr_at image.now addr ≡ Ok self.new.instr) }
+        ensures known { IfOk result (λ done. instr_at image.now addr ≡ Ok self.new.lowered.instr) }
         ensures stops { IfErr result (λ stop. instr_at image.now addr ≡ Err stop) }
     {
         let Some(word) = image.fetch_near(addr, near) else {
@@ -85,7 +89,7 @@ impl Slot {
     /// Sees to it that it has the instruction of this word, or says why the word is none.
     #[inline(always)]
     fn take(&mut self, word: u32) -> Result<(), DecodeFault>
-        ensures known { IfOk result (λ done. meaning table word ≡ Ok self.new.instr) }
+        ensures known { IfOk result (λ done. meaning table word ≡ Ok self.new.lowered.instr) }
         ensures refused { IfErr result (λ fault. meaning table word ≡ Err fault) }
     {
         if self.word == word {
@@ -100,7 +104,7 @@ impl Slot {
     pub fn keep(&mut self, image: &Image, addr: u32)
         requires aligned { addr % 4 ≡ 0 }
         requires one { (instr : Instr) × (instr_at image.now addr ≡ Ok instr) }
-        ensures { instr_at image.now addr ≡ Ok self.new.instr }
+        ensures { instr_at image.now addr ≡ Ok self.new.lowered.instr }
     {
         let Some(word) = image.fetch(addr) else {
             unreachable!()
@@ -112,14 +116,14 @@ impl Slot {
 
     /// The instruction of another word.
     fn decode(&mut self, word: u32) -> Result<(), DecodeFault>
-        ensures known { IfOk result (λ done. meaning table word ≡ Ok self.new.instr) }
+        ensures known { IfOk result (λ done. meaning table word ≡ Ok self.new.lowered.instr) }
         ensures refused { IfErr result (λ fault. meaning table word ≡ Err fault) }
     {
         let instr = decode(word)?;
         *self = Slot {
             word,
             cond: instr.cond(),
-            instr,
+            lowered: Lowered::of(instr),
         };
         Ok(())
     }

@@ -3,10 +3,10 @@ ghost use Rattle.std.specs.Prelude.{◌≡◌, Bool, ◌<◌, ◌≤◌, ◌+◌
 ghost use Rattle.llsc_base.specs.declared.outside.Ask.{Ask};
 ghost use Rattle.guest_core.specs.Ports.{IsAskIn};
 
-use guest_core::Port;
+use guest_core::TryPort;
 use llsc_base::Ask;
 
-/// Who is asked for the accesses to which an instruction has had no reply: a port, which replies at once, or nobody, so that the
+/// Who is asked for the accesses to which an instruction has had no reply: a port, which replies at once or not at all, or nobody, so that the
 /// core says what it wants.
 pub trait Source {
     /// Whether such an answer to an access, a reply or none, leads from a source, the first, to another, the last.
@@ -34,7 +34,7 @@ pub trait Source {
 }
 
 /// A port is asked for each access of an instruction, from its first on.
-impl<P: Port> Source for P {
+impl<P: TryPort> Source for P {
     ghost use Rattle.std.specs.Prelude.{false};
 
     ghost replies = { P.replies };
@@ -49,7 +49,7 @@ impl<P: Port> Source for P {
 
     #[inline(always)]
     fn reply(&mut self, ask: Ask) -> Option<u64> {
-        Port::reply(self, ask)
+        self.try_reply(ask)
     }
 }
 

@@ -1,16 +1,17 @@
 //! A port by hand: a guest of A32 instructions whose loads read a clock, in the place of memory.
 //!
-//! A program with memory or a device of its own gives a thread its replies by [`Port`]: which replies may come is the port's to say
-//! (`replies`), here [`Clock`]'s by `IsTicked` (`specs/inner/Clock`). The loop of the thread is [`Guest::run`], as for every memory,
-//! and its contract says what follows of that: the guest's run is one of these instructions, and what it was replied are the
-//! clock's numbers in order.
+//! A program with memory or a device of its own gives a thread its replies by [`TryPort`] and [`Port`]: which replies may come is the
+//! port's to say (`replies`), here [`Clock`]'s by `IsTicked` (`specs/inner/Clock`). Where a port has to wait for a reply, it is
+//! given a handle by which it may ([`Port::reply`]); a clock replies at once ([`TryPort::try_reply`]), and its handle is `()`. The
+//! loop of the thread is [`Guest::run`], as for every memory, and its contract says what follows of that: the guest's run is one of
+//! these instructions, and what it was replied are the clock's numbers in order.
 ghost use Rattle.std.specs.Prelude.{◌≡◌, ◌⊎◌, ◌+◌, ◌%◌, ◌^◌, ◌<◌, None, Some, IfErr, IfOk};
 ghost use Rattle.llsc_base.specs.Flat.{flat_fault, flat_image};
 ghost use Rattle.llsc_base.specs.Sizes.{numbers};
 ghost use Rattle.by_hand.specs.inner.Clock.{EndsOverClock};
 
 use a32_step::Cpu;
-use guest_core::{Code, Port};
+use guest_core::{Code, Port, TryPort};
 use guest_thread::Guest;
 use llsc_base::{Ask, FlatFault, Image, MachineSize, STATUS_FAILED, Stop};
 use std::alloc::Global;
@@ -40,7 +41,7 @@ impl Clock {
     }
 }
 
-impl Port for Clock {
+impl TryPort for Clock {
     ghost use Rattle.by_hand.specs.inner.Clock.{IsTicked};
 
     ghost replies = { IsTicked };
@@ -49,9 +50,7 @@ impl Port for Clock {
 
     ghost counted = { λ clock. clock.reads };
 
-    ghost refuses = { λ clock addr. ⊥ };
-
-    fn reply(&mut self, ask: Ask) -> Option<u64> {
+    fn try_reply(&mut self, ask: Ask) -> Option<u64> {
         Some(match ask {
             Ask::Load(_) | Ask::LoadEx(_) => self.read(),
             Ask::StoreEx(_, _) => STATUS_FAILED,
@@ -60,6 +59,15 @@ impl Port for Clock {
     }
 
     fn counts_one() {}
+}
+
+impl Port<()> for Clock {
+    ghost refuses = { λ clock addr. ⊥ };
+
+    // It replies to each access at once.
+    fn reply(&mut self, handle: &(), ask: Ask) -> Option<u64> {
+        self.try_reply(ask)
+    }
 }
 
 /// Runs a flat file's one thread over a clock, up to its stop.
@@ -86,7 +94,7 @@ pub(crate) fn run_over_clock(
         return Err(FlatFault::Memory);
     };
     let mut clock = Clock { mem, reads: 0 };
-    Ok(guest.run(&mut code, BUDGET, &mut clock))
+    Ok(guest.run(&(), &mut code, BUDGET, &mut clock))
 }
 
 /// A guest that reads the word at 0x2000 three times, and leaves with the sum of what it read last and the time before.

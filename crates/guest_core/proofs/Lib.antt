@@ -1,6 +1,5 @@
 pub mod Follows
 pub mod Placed
 pub mod Asked
-pub mod Learnt
 pub mod Resting
-pub mod Unmet
+pub mod KeptOn

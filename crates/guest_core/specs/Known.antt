@@ -1,29 +1,25 @@
--- Instructions that were met before, each in the slot of its address.
-use Rattle.std.specs.Prelude.{◌≡◌, ℕ, ◌/◌, ◌%◌, List, Option, Some, None, Result, Ok, Err, slice_get}
+-- Instructions of a program that were met before, from an address on.
+use Rattle.std.specs.Prelude.{◌≡◌, ◌+◌, ℕ, Bool, true, false, List, [], ◌∷◌, Result, Ok}
 use Rattle.llsc_base.specs.Images.{Program}
+use Rattle.llsc_base.specs.Words.{low32}
 use Rattle.llsc_base.specs.declared.outside.Stop.{Stop}
-use Rattle.guest_core.specs.declared.code.Known.{Known}
 
--- a program, and what is known of it
-pub record KnownCode (R : Type 0) : Type 0 where
+-- a program whose instructions are kept where they were met
+pub record KnownCode : Type 0 where
   pub program : Program
-  pub slots : List (Known R)
 
--- what is kept ready of it is the instruction at its address, if that is one of a word
-pub record IsRight {I R : Type 0} (found : Program → ℕ → Result I Stop) (instr_of : R → I) (is_right : R → Type 0) (program : Program) (known : Known R) : Type 0 where
-  pub means : known.addr % 4 ≡ 0 → found program known.addr ≡ Ok (instr_of known.ready)
-  pub right : is_right known.ready
+-- there is a last one, and it wasn't met
+abbrev pub EndsUnmet : {R : Type 0} → (R → Bool) → List R → Type 0
+EndsUnmet is_met [] = ⊥
+EndsUnmet is_met (kept ∷ []) = is_met kept ≡ false
+EndsUnmet is_met (kept ∷ next ∷ rest) = EndsUnmet is_met (next ∷ rest)
 
--- it is known of this address
-abbrev pub IsOf : {R : Type 0} → ℕ → Option (Known R) → Type 0
-IsOf addr None = ⊥
-IsOf addr (Some known) = known.addr ≡ addr
+module _ {I R : Type 0} (is_met : R → Bool) (found : Program → ℕ → Result I Stop) (instr_of : R → I) (is_right : R → Type 0) where
+  -- what is kept for an address is the instruction there, if that was met
+  abbrev pub IsRightAt : Program → ℕ → R → Type 0
+  IsRightAt program addr kept = is_met kept ≡ true → (found program addr ≡ Ok (instr_of kept)) × is_right kept
 
--- the instruction at an address is known
-abbrev pub IsKnown : {R : Type 0} → List (Known R) → ℕ → Type 0
-IsKnown slots addr = IsOf addr (slice_get slots (addr / 4 % 4096))
-
--- there is no instruction: a thread stops there
-abbrev pub HasNone : {I : Type 0} → Result I Stop → Type 0
-HasNone (Ok instr) = ⊥
-HasNone (Err stop) = Unit {0}
+  -- so it is for consecutive addresses
+  abbrev pub AreRightFrom : Program → ℕ → List R → Type 0
+  AreRightFrom program addr [] = Unit {0}
+  AreRightFrom program addr (kept ∷ rest) = IsRightAt program addr kept × AreRightFrom program (low32 (addr + 4)) rest

@@ -6,3 +6,4 @@ pub mod Ports
 pub mod Known
 pub mod Passages
 pub mod inner
+pub mod Paged

@@ -1,16 +1,17 @@
 //! The core of a guest thread, of whatever instruction set.
-ghost use Rattle.std.specs.Prelude.{◌≡◌, ◌≢◌, ◌<◌, ◌≤◌, ◌%◌, ◌+◌, ◌^◌, length, IsTrue};
+ghost use Rattle.std.specs.Prelude.{◌≡◌, ◌<◌, ◌≤◌, ◌%◌, ◌+◌, ◌^◌, length, false, true, IsTrue};
 ghost use Rattle.llsc_base.specs.Images.{Program};
 ghost use Rattle.llsc_base.specs.declared.outside.Ask.{Ask};
 ghost use Rattle.llsc_base.specs.declared.outside.Stop.{Stop};
 ghost use Rattle.llsc_base.specs.Effects.{asks, stops};
+ghost use Rattle.llsc_base.specs.Words.{low32};
 ghost use Rattle.guest_core.specs.Phase as phase;
 ghost use Rattle.guest_core.specs.Machine.{MachineOf, InstructionSet, after_of, between, given, next_of, returned_of, start_in, wanted_of, Follows, GoesOn, GoesOnWith, IsAwaiting, IsCalling, IsHeld, IsOwn, AwaitsNothing, IsTested, PassesTests};
-ghost use Rattle.guest_core.specs.Passages.{IsCarriedOnOf};
+ghost use Rattle.guest_core.specs.Known.{IsRightAt};
+ghost use Rattle.guest_core.specs.Passages.{IsCarriedOnOf, IsHeldBack};
 
-use crate::code::Code;
 use crate::phases::{Passage, Wanted};
-use crate::ports::Port;
+use crate::ports::TryPort;
 use crate::ready::Ready;
 use llsc_base::{CallAsk, Image};
 
@@ -49,18 +50,22 @@ pub trait Core: Send + Drop {
         ensures follows { Follows (machine self.old) result (machine self.new) }
         ensures tested { IsTested image.now (machine self.old).replies result };
 
-    /// Carries the next instruction through, over a port that replies to its accesses at once. The core is between two
-    /// instructions, and the port's memory has as many bytes as the program.
+    /// Carries the next instruction through, as it is kept ready, over a port. The core is between
+    /// two instructions, and the port's memory has as many bytes as the program.
     ///
     /// The instruction is complete; or the core is between two instructions as it was, or under way with the replies that it had,
-    /// and [`Core::next`] goes on from there: what it does next doesn't complete the instruction.
-    fn carry<P: Port>(&mut self, code: &mut Code<Self::Ready>, port: &mut P) -> Passage
+    /// and [`Core::next`] goes on from there: what it does next doesn't complete the instruction. Nothing is done where it wasn't
+    /// met.
+    fn carry<P: TryPort>(&mut self, kept: &Self::Ready, image: &Image, port: &mut P) -> Passage
         requires rest { machine self.old ≡ between (machine self.old).state }
-        requires mem { P.mem port.old ≡ length code.old.program.bytes }
+        requires kept { IsRightAt Self.Ready.is_met Self.Ready.found Self.Ready.instr Self.Ready.is_right image.now (set.pc_of (machine self.old).state) kept.now }
+        requires mem { P.mem port.old ≡ length image.now.bytes }
         requires few { P.counted port.old + 16 ≤ 2 ^ 63 }
-        ensures carried { IsCarriedOnOf set P.replies code.old.program (machine self.old) port.old result (machine self.new) port.new }
-        ensures held { result ≢ Passage.Complete → IsHeld (next_of set code.old.program (machine self.new)) }
-        ensures program { code.new.program ≡ code.old.program }
+        ensures carried { IsCarriedOnOf set P.replies image.now (machine self.old) port.old result (machine self.new) port.new }
+        ensures next { result ≡ Passage.Next → set.pc_of (machine self.new).state ≡ low32 (set.pc_of (machine self.old).state + 4) }
+        ensures met { result ≡ Passage.Next → Self.Ready.is_met kept.now ≡ true }
+        ensures unmet { result ≡ Passage.Unmet → (Self.Ready.is_met kept.now ≡ false) × (machine self.new ≡ machine self.old) }
+        ensures held { IsHeldBack result → IsHeld (next_of set image.now (machine self.new)) }
         ensures room { length (machine self.new).replies ≤ 16 }
         ensures mem { P.mem port.new ≡ P.mem port.old }
         ensures counted { P.counted port.new ≤ P.counted port.old + 16 };

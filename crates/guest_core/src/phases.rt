@@ -17,10 +17,14 @@ pub enum Wanted {
 /// How far an instruction came that was carried on over a port.
 #[derive(Clone, Copy, Debug, PartialEq, Eq)]
 pub enum Passage {
-    /// It is complete.
-    Complete,
+    /// It is complete, and the one behind it comes next.
+    Next,
+    /// It is complete, and any may come next.
+    Jumped,
     /// It is at its start, and has not done anything.
     AtStart,
     /// It is under way: it has had replies, and goes on.
     UnderWay,
+    /// It wasn't met, and nothing was done.
+    Unmet,
 }

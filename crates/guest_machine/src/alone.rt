@@ -5,7 +5,7 @@ ghost use Rattle.guest_machine.specs.Alone.{IsSoloEnd};
 
 use crate::serving::serve;
 use guest_calls::reply_of;
-use guest_core::{Code, Core, Port};
+use guest_core::{Code, Core, Port, TryPort};
 use guest_thread::{Counts, Guest, GuestEnd};
 use history::PlainMemory;
 use llsc_base::{Ask, Image, MachineSize};
@@ -19,7 +19,7 @@ pub(crate) struct Alone {
     ghost one: { length memory.marks ≡ 1 },
 }
 
-impl Port for Alone {
+impl TryPort for Alone {
     ghost use Rattle.guest_thread.specs.Counting.{accesses_counted};
     ghost use Rattle.guest_machine.specs.inner.Served.{RepliesAlone};
 
@@ -29,10 +29,8 @@ impl Port for Alone {
 
     ghost counted = { λ alone. accesses_counted alone.counts };
 
-    ghost refuses = { λ alone addr. ⊥ };
-
     #[inline(always)]
-    fn reply(&mut self, ask: Ask) -> Option<u64> {
+    fn try_reply(&mut self, ask: Ask) -> Option<u64> {
         let access = serve(&mut self.memory, 0, ask);
         self.counts.count(&access);
         Some(reply_of(&access))
@@ -40,6 +38,16 @@ impl Port for Alone {
 
     #[tactic(auto, using(crate::proofs::UnderWay::one_counted))]
     fn counts_one() {}
+}
+
+impl Port<()> for Alone {
+    ghost refuses = { λ alone addr. ⊥ };
+
+    // It makes each access at once.
+    #[inline(always)]
+    fn reply(&mut self, handle: &(), ask: Ask) -> Option<u64> {
+        self.try_reply(ask)
+    }
 }
 
 /// Runs an image's one thread on a memory of its own, which begins as the image's bytes.
@@ -69,7 +77,7 @@ pub fn solo<C: Core>(
         counts: Counts::none(),
     };
     let mut code = Code::new(alloc, image)?;
-    let stop = guest.run(&mut code, budget, &mut alone);
+    let stop = guest.run(&(), &mut code, budget, &mut alone);
     Ok(GuestEnd {
         thread: 0,
         stop,

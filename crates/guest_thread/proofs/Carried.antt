@@ -4,11 +4,11 @@ use Rattle.std.proofs.lemmas.List.{length-append}
 use Rattle.llsc_base.specs.Images.{Program}
 use Rattle.llsc_base.specs.declared.outside.Ask.{Ask}
 use Rattle.guest_core.specs.declared.phases.Passage.{Passage}
-use Rattle.guest_core.specs.declared.phases.Passage.TheVariants.{Complete, AtStart, UnderWay}
+use Rattle.guest_core.specs.declared.phases.Passage.TheVariants.{AtStart, UnderWay}
 use Rattle.guest_core.specs.declared.phases.Wanted.TheVariants as wanted
 use Rattle.guest_core.specs.Machine.{MachineOf, InstructionSet, between, AwaitsNothing, IsAwaiting, after_of, given, given_in, wanted_of}
 use Rattle.guest_core.specs.Phase.{PhaseOf, Between, Inside, Awaiting, Calling, Stopped}
-use Rattle.guest_core.specs.Passages.{ComesOf, starts, replied, EndsAtOf, IsCarriedOnOf}
+use Rattle.guest_core.specs.Passages.{ComesOf, starts, replied, CompletesAtOf, EndsAtOf}
 use Rattle.guest_core.specs.Ports.{Leads, goes, refused, stays}
 use Rattle.guest_core.proofs.Follows.{follows_of}
 use Rattle.guest_calls.specs.Run.{Pair, ReachesBy, accesses, steps_on, PointOf}
@@ -92,7 +92,7 @@ module _ {I S : Type 0} (set : InstructionSet I S) where
   part_ends program machine new way (inr is) ends = subst (λ w. EndsAtOf set program machine w new) is ends
 
   -- a thread at rest, one instruction on
-  pub at_rest_on : (program : Program) (machine : MachineOf I S) (new : ThreadOf I S) → new.printing ≡ None → EndsAtOf set program machine Complete new.cpu → IsAtRest new
+  pub at_rest_on : (program : Program) (machine : MachineOf I S) (new : ThreadOf I S) → new.printing ≡ None → CompletesAtOf set program machine new.cpu → IsAtRest new
   at_rest_on program machine new still ends =
       record { printing = still; between = ends.3 ∙ ap between (sym (ap (λ (m : MachineOf I S). m.state) ends.3)) }
 
@@ -106,16 +106,17 @@ module _ {I S : Type 0} (set : InstructionSet I S) where
   module _ {P : Type 0} (replies : P → Ask → Option ℕ → P → Type 0) (program : Program) (budget : ℕ) (old new : ThreadOf I S) (from to : P)
       (rest : IsAtRest old) (within : old.steps < budget) (same : new.output ≡ old.output) (still : new.printing ≡ None) where
     -- it was complete
-    pub after_one : IsCarriedOnOf set replies program old.cpu from Complete new.cpu to → new.steps ≡ old.steps + 1 → (stocked : Bool) (point : PointOf I S) (before : List Pair)
-        → HasComeFrom set stocked program budget point before old → (pairs : List Pair) × (Leads replies from pairs to × HasComeFrom set stocked program budget point (before ++ pairs) new)
-    after_one carried more stocked point before come =
-        let reached = come_on stocked program budget point old.cpu before old.steps old.output carried.pairs carried.machine (reached_by set stocked program budget point before old rest.printing come) within carried.comes in (
-          carried.pairs,
+    pub after_one : (machine : MachineOf I S) (pairs : List Pair) → Leads replies from pairs to → ComesOf set program old.cpu pairs machine → CompletesAtOf set program machine new.cpu
+        → new.steps ≡ old.steps + 1 → (stocked : Bool) (point : PointOf I S) (before : List Pair) → HasComeFrom set stocked program budget point before old
+        → (pairs : List Pair) × (Leads replies from pairs to × HasComeFrom set stocked program budget point (before ++ pairs) new)
+    after_one machine pairs leads comes ends more stocked point before come =
+        let reached = come_on stocked program budget point old.cpu before old.steps old.output pairs machine (reached_by set stocked program budget point before old rest.printing come) within comes in (
+          pairs,
           (
-            carried.leads,
-            come_by set stocked program budget point (before ++ carried.pairs) new still
-                (reached_at set stocked program budget point new.cpu (after_of set program carried.machine) (before ++ carried.pairs) new.steps (old.steps + 1) new.output old.output
-                carried.ends.2 more same (steps_on (before ++ carried.pairs) carried.machine old.steps old.output carried.ends.0 reached within carried.ends.1)),
+            leads,
+            come_by set stocked program budget point (before ++ pairs) new still
+                (reached_at set stocked program budget point new.cpu (after_of set program machine) (before ++ pairs) new.steps (old.steps + 1) new.output old.output
+                ends.2 more same (steps_on (before ++ pairs) machine old.steps old.output ends.0 reached within ends.1)),
           ),
         )
 

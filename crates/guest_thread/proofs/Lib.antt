@@ -14,6 +14,7 @@ pub mod OneOutcome
 pub mod Finishing
 pub mod Shared
 pub mod Carried
+pub mod Walked
 pub mod StockRun
 pub mod Crewed
 pub mod Prepared
@@ -23,3 +24,4 @@ pub mod Unstarted
 pub mod Unspared
 pub mod Ways
 pub mod OneStanding
+pub mod Served

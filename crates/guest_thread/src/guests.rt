@@ -81,7 +81,7 @@ impl Called {
 /// ```
 /// let mut guest = Guest::<Cpu>::start(alloc, &image, &size, 0)?;
 /// let mut code = Code::new(alloc, &image)?;
-/// let stop = guest.run(&mut code, 1000, &mut port); // at most 1000 steps
+/// let stop = guest.run(&handle, &mut code, 1000, &mut port); // at most 1000 steps; where it has to, the port waits by the handle
 /// ```
 #[derive(Drop)]
 pub struct Guest<C: Core> {

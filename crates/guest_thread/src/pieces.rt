@@ -137,8 +137,8 @@ pub fn go_on<M: SharedMemory, C: Core, R: Wait>(
     let thread = mem.thread(&part.pass);
     let counts = part.counts();
     let (mut guest, pass) = part.into_guest();
-    let mut sharing = InPieces::with(rt, mem, pass, thread, counts);
-    let rest = guest.run_on(code, upto, &mut sharing, starts);
+    let mut sharing = InPieces::with(mem, pass, thread, counts);
+    let rest = guest.run_on(rt, code, upto, &mut sharing, starts);
     let counts = sharing.counts();
     let pass = sharing.into_pass();
     C::is_sound();

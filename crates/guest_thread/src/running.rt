@@ -57,9 +57,9 @@ pub fn run_thread<M: SharedMemory, C: Core, R: Wait>(
     prove!(most <= 16_777_216);
     C::is_sound();
     let thread = mem.thread(&pass);
-    let mut sharing = Sharing::new(rt, mem, pass, thread);
+    let mut sharing = Sharing::new(mem, pass, thread);
     let mut guest = Guest::new(cpu, out);
-    let stop = guest.run(&mut code, budget, &mut sharing);
+    let stop = guest.run(rt, &mut code, budget, &mut sharing);
     let counts = sharing.counts();
     Finished {
         pass: sharing.into_pass(),

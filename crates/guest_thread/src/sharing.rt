@@ -1,29 +1,27 @@
 //! A thread's part in a memory that threads share.
-ghost use Rattle.std.specs.Prelude.{◌≡◌, ◌+◌};
+ghost use Rattle.std.specs.Prelude.{◌≡◌};
 ghost use Rattle.history.specs.Started.{MayAct};
-ghost use Rattle.shared_memory.specs.Seen.{IsSingle};
-ghost use Rattle.guest_thread.specs.Counting.{accesses_counted};
-ghost use Rattle.guest_thread.specs.inner.Sharing.{RepliesSharing};
 ghost use Rattle.llsc_base.specs.declared.outside.Ask.{Ask};
+ghost use Rattle.shared_memory.specs.Seen.{IsSingle};
 
 use crate::counts::Counts;
-use guest_core::Port;
+use guest_core::{Port, TryPort};
 use llsc_base::{Ask, STATUS_FAILED, STATUS_STORED};
 use shared_memory::SharedMemory;
 use std::marker::Model;
 use std::sync::Wait;
 
-/// The memory, a thread's pass of it, and how many accesses of each kind the thread made.
+/// The memory, a thread's pass of it, and how many accesses of each kind the thread made. It holds no handle by which it might wait:
+/// so the loop of a thread is over a type that can't wait, and whoever makes an access that has to brings the handle.
 #[derive(Drop)]
-pub(crate) struct Sharing<'a, M: SharedMemory, R: Wait> {
-    rt: &'a R,
+pub(crate) struct Sharing<'a, M: SharedMemory> {
     mem: &'a M,
     pass: M::Pass,
     thread: u32,
     counts: Counts,
 }
 
-impl<'a, M: SharedMemory, R: Wait> Model for Sharing<'a, M, R> {
+impl<'a, M: SharedMemory> Model for Sharing<'a, M> {
     ghost use Rattle.std.specs.Prelude.{◌≡◌};
     ghost use Rattle.history.specs.Started.{MayAct};
     ghost use Rattle.shared_memory.specs.Seen.{IsSingle};
@@ -36,16 +34,15 @@ impl<'a, M: SharedMemory, R: Wait> Model for Sharing<'a, M, R> {
     ghost invariant = { λ s. (M.home s.pass ≡ M.id s.mem.now) × IsSingle s.thread (M.numbers s.pass) × (MayAct (M.origin s.mem.now).first s.thread (M.seen s.pass)) };
 }
 
-impl<'a, M: SharedMemory, R: Wait> Sharing<'a, M, R> {
+impl<'a, M: SharedMemory> Sharing<'a, M> {
     /// A thread's part before its first access.
-    pub(crate) fn new(rt: &'a R, mem: &'a M, pass: M::Pass, thread: u32) -> Sharing<'a, M, R>
+    pub(crate) fn new(mem: &'a M, pass: M::Pass, thread: u32) -> Sharing<'a, M>
         requires memory { M.home pass ≡ M.id mem.now }
         requires single { IsSingle thread (M.numbers pass) }
         requires may_act { MayAct (M.origin mem.now).first thread (M.seen pass) }
         ensures state { result ≡ record { memory = M.id mem.now; origin = M.origin mem.now; thread = thread; seen = M.seen pass; counts = record { reads = 0; writes = 0; fails = 0 } } }
     {
         Sharing {
-            rt,
             mem,
             pass,
             thread,
@@ -54,20 +51,13 @@ impl<'a, M: SharedMemory, R: Wait> Sharing<'a, M, R> {
     }
 
     /// A thread's part behind so many accesses of each kind.
-    pub(crate) fn with(
-        rt: &'a R,
-        mem: &'a M,
-        pass: M::Pass,
-        thread: u32,
-        counts: Counts,
-    ) -> Sharing<'a, M, R>
+    pub(crate) fn with(mem: &'a M, pass: M::Pass, thread: u32, counts: Counts) -> Sharing<'a, M>
         requires memory { M.home pass ≡ M.id mem.now }
         requires single { IsSingle thread (M.numbers pass) }
         requires may_act { MayAct (M.origin mem.now).first thread (M.seen pass) }
         ensures state { result ≡ record { memory = M.id mem.now; origin = M.origin mem.now; thread = thread; seen = M.seen pass; counts = counts } }
     {
         Sharing {
-            rt,
             mem,
             pass,
             thread,
@@ -92,9 +82,9 @@ impl<'a, M: SharedMemory, R: Wait> Sharing<'a, M, R> {
     }
 }
 
-impl<'a, M: SharedMemory, R: Wait> Port for Sharing<'a, M, R> {
+impl<'a, M: SharedMemory> TryPort for Sharing<'a, M> {
     ghost use Rattle.guest_thread.specs.Counting.{accesses_counted};
-    ghost use Rattle.guest_thread.specs.inner.Sharing.{RepliesSharing, RefusesAt};
+    ghost use Rattle.guest_thread.specs.inner.Sharing.{RepliesSharing};
 
     ghost replies = { RepliesSharing };
 
@@ -102,10 +92,8 @@ impl<'a, M: SharedMemory, R: Wait> Port for Sharing<'a, M, R> {
 
     ghost counted = { λ sharing. accesses_counted sharing.counts };
 
-    ghost refuses = { RefusesAt };
-
     #[inline(always)]
-    fn reply(&mut self, ask: Ask) -> Option<u64> {
+    fn try_reply(&mut self, ask: Ask) -> Option<u64> {
         match ask {
             Ask::Load(place) => {
                 let value = self.mem.load(&mut self.pass, place);
@@ -113,19 +101,63 @@ impl<'a, M: SharedMemory, R: Wait> Port for Sharing<'a, M, R> {
                 Some(value)
             }
             Ask::LoadEx(place) => {
-                let value = self.mem.load_ex(self.rt, &mut self.pass, place);
+                let value = self.mem.try_load_ex(&mut self.pass, place)?;
                 self.counts.reads += 1;
                 Some(value)
             }
             Ask::Store(place, value) => {
-                let Ok(()) = self.mem.store(self.rt, &mut self.pass, place, value) else {
+                if self.mem.try_store(&mut self.pass, place, value) {
+                    self.counts.writes += 1;
+                    return Some(0);
+                }
+                None
+            }
+            Ask::StoreEx(place, value) => {
+                let stored = self.mem.try_store_ex(&mut self.pass, place, value)?;
+                if !stored {
+                    self.counts.fails += 1;
+                    return Some(STATUS_FAILED);
+                }
+                self.counts.writes += 1;
+                Some(STATUS_STORED)
+            }
+            Ask::Clear => {
+                self.mem.clear_ex(&mut self.pass);
+                Some(0)
+            }
+        }
+    }
+
+    fn counts_one() {}
+}
+
+impl<'a, M: SharedMemory, R: Wait> Port<R> for Sharing<'a, M> {
+    ghost use Rattle.guest_thread.specs.inner.Sharing.{RefusesAt};
+
+    ghost refuses = { RefusesAt };
+
+    #[inline(always)]
+    fn reply(&mut self, handle: &R, ask: Ask) -> Option<u64> {
+        match ask {
+            Ask::Load(place) => {
+                let value = self.mem.load(&mut self.pass, place);
+                self.counts.reads += 1;
+                Some(value)
+            }
+            Ask::LoadEx(place) => {
+                let value = self.mem.load_ex(handle, &mut self.pass, place);
+                self.counts.reads += 1;
+                Some(value)
+            }
+            Ask::Store(place, value) => {
+                let Ok(()) = self.mem.store(handle, &mut self.pass, place, value) else {
                     return None;
                 };
                 self.counts.writes += 1;
                 Some(0)
             }
             Ask::StoreEx(place, value) => {
-                if self.mem.store_ex(self.rt, &mut self.pass, place, value) {
+                if self.mem.store_ex(handle, &mut self.pass, place, value) {
                     self.counts.writes += 1;
                     return Some(STATUS_STORED);
                 }
@@ -138,6 +170,4 @@ impl<'a, M: SharedMemory, R: Wait> Port for Sharing<'a, M, R> {
             }
         }
     }
-
-    fn counts_one() {}
 }

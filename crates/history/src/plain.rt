@@ -1,8 +1,7 @@
 //! Memory and Arm's exclusive monitors for one host thread.
-ghost use Rattle.std.specs.Prelude.{◌≡◌, ◌≢◌, ◌+◌, ◌^◌, ◌%◌, ◌<◌, ◌≤◌, ◌↔◌, ℕ, IfOk, IsTrue, false, length, map, take, true, ◌*◌};
+ghost use Rattle.std.specs.Prelude.{◌≡◌, ◌≢◌, ◌+◌, ◌^◌, ◌%◌, ◌<◌, ◌≤◌, ◌↔◌, ◌++◌, IfOk, IsTrue, drop, false, length, map, take, true};
 ghost use Rattle.std.specs.Bool.{OnFalse, OnTrue};
-ghost use Rattle.llsc_base.specs.Memory.{is_aligned, number_of, row_of, size_bytes, stored, value_at};
-ghost use Rattle.row_bytes.specs.Cell.{bytes_of_cells};
+ghost use Rattle.llsc_base.specs.Memory.{bytes_of, is_aligned, row_of, size_bytes, stored, value_at};
 ghost use Rattle.history.specs.Accesses.{entry_of};
 ghost use Rattle.history.specs.ArmLegal.{MayAccess};
 ghost use Rattle.history.specs.Made.{made};
@@ -10,12 +9,11 @@ ghost use Rattle.history.specs.Monitor.{IsAsLarge, accessed, at_rest, at_rest_by
 ghost use Rattle.history.specs.declared.entry.Cause.{Cause};
 
 use crate::entry::{Access, Deed, Entry};
-use llsc_base::{MachineSize, Place};
-use row_bytes::{first_cell, put, take};
+use llsc_base::{MachineSize, Place, Size};
 use std::alloc::{AllocError, Global};
 use std::marker::Model;
 
-/// Memory as cells, and for each thread the row on which it is marked (DDI 0406C A3.4.1, A3.4.2), a row of `8 * 2^granule`
+/// Memory as bytes, and for each thread the row on which it is marked (DDI 0406C A3.4.1, A3.4.2), a row of `8 * 2^granule`
 /// bytes.
 ///
 /// Each call is one access. It has no classes and no limit, and a store-exclusive fails only where its thread
@@ -31,7 +29,7 @@ use std::marker::Model;
 /// ```
 #[derive(Drop)]
 pub struct PlainMemory {
-    cells: Vec<u64>,
+    bytes: Vec<u8>,
     marks: Vec<Option<u32>>,
     granule: u32,
     /// Whether some thread may be marked: none is where this isn't set.
@@ -40,12 +38,11 @@ pub struct PlainMemory {
 
 impl Model for PlainMemory {
     ghost use Rattle.std.specs.Prelude.{◌≡◌, ◌≤◌, false};
-    ghost use Rattle.row_bytes.specs.Cell.{bytes_of_cells};
     ghost use Rattle.history.specs.Monitor.{Monitor, is_some_marked};
 
     ghost Value = { Monitor };
 
-    ghost view = { λ m. record { memory = bytes_of_cells m.cells.items; marks = m.marks.items; granule = m.granule } };
+    ghost view = { λ m. record { memory = m.bytes.items; marks = m.marks.items; granule = m.granule } };
 
     ghost invariant = { λ m. (m.granule ≤ 8) × (m.may_be_marked ≡ false → is_some_marked m.marks.items ≡ false) };
 }
@@ -64,7 +61,7 @@ impl PlainMemory {
         ensures { IfOk result (λ memory. memory ≡ at_rest bytes.now threads) }
     {
         Ok(PlainMemory {
-            cells: cells_of(alloc, bytes)?,
+            bytes: bytes.to_vec(alloc)?,
             marks: vec![in alloc; None; threads as usize]?,
             granule: 0,
             may_be_marked: false,
@@ -96,7 +93,7 @@ impl PlainMemory {
         ensures value { result ≡ value_at self.now.memory place }
         ensures fits { result < 256 ^ size_bytes place.size }
     {
-        value_of(&self.cells, place)
+        llsc_base::load(&self.bytes, place)
     }
 
     /// A store of a thread, of a value below 2 to the 8, 16, 32 or 64 by the place's size. It ends each mark on the row of
@@ -110,7 +107,7 @@ impl PlainMemory {
         ensures stored { self.new ≡ accessed self.old (Entry.Write t place value false) }
         ensures size { IsAsLarge self.old self.new }
     {
-        set(&mut self.cells, place, value);
+        set(&mut self.bytes, place, value);
         if self.may_be_marked {
             self.may_be_marked = end_marks(&mut self.marks, place.row(self.granule));
         }
@@ -129,7 +126,7 @@ impl PlainMemory {
     {
         self.may_be_marked = true;
         self.marks[t as usize] = Some(place.row(self.granule));
-        value_of(&self.cells, place)
+        self.load(place)
     }
 
     /// A store-exclusive of a thread, and whether it succeeded: exactly where the thread is marked on the row of the
@@ -151,7 +148,7 @@ impl PlainMemory {
         if !is_marked_on(mark, row) {
             return false;
         }
-        set(&mut self.cells, place, value);
+        set(&mut self.bytes, place, value);
         self.may_be_marked = end_marks(&mut self.marks, row);
         true
     }
@@ -219,40 +216,63 @@ impl PlainMemory {
     }
 }
 
-/// The cells that spell these bytes.
-fn cells_of(alloc: Global, bytes: &[u8]) -> Result<Vec<u64>, AllocError>
-    requires { length bytes.now % 8 ≡ 0 }
-    ensures { IfOk result (λ cells. bytes_of_cells cells.items ≡ bytes.now) }
-{
-    let count = bytes.len() / 8;
-    let mut cells = Vec::with_capacity(alloc, count)?;
-    for i in 0..count {
-        cells.push(first_cell(&bytes[8 * i..]))?;
-    }
-    Ok(cells)
-}
-
-/// The value of a place in the memory that cells make.
-#[inline]
-fn value_of(cells: &[u64], place: Place) -> u64
-    requires aligned { IsTrue (is_aligned place) }
-    requires inside { place.addr + size_bytes place.size ≤ length (bytes_of_cells cells.now) }
-    ensures value { result ≡ value_at (bytes_of_cells cells.now) place }
-    ensures fits { result < 256 ^ size_bytes place.size }
-{
-    take(cells[place.cell() as usize], place)
-}
-
-/// Sets a place in the memory that cells make.
-#[inline]
-fn set(cells: &mut [u64], place: Place, value: u64)
-    requires aligned { IsTrue (is_aligned place) }
-    requires inside { place.addr + size_bytes place.size ≤ length (bytes_of_cells cells.old) }
+/// Sets a place of memory to a value, its least significant byte first.
+///
+/// Of bytes that are set one by one the compiler makes one store. A copy of a slice would test first whether the two overlap.
+#[inline(always)]
+fn set(bytes: &mut [u8], place: Place, value: u64)
+    requires inside { place.addr + size_bytes place.size ≤ length bytes.old }
     requires fits { value < 256 ^ size_bytes place.size }
-    ensures { bytes_of_cells cells.new ≡ stored (bytes_of_cells cells.old) place value }
+    ensures { bytes.new ≡ stored bytes.old place value }
 {
-    let at = place.cell() as usize;
-    cells[at] = put(cells[at], place, value);
+    let at = place.addr as usize;
+    match place.size {
+        Size::B1 => bytes[at] = value as u8,
+        Size::B2 => set_2(bytes, at, value as u16),
+        Size::B4 => set_4(bytes, at, value as u32),
+        Size::B8 => set_8(bytes, at, value),
+    }
+}
+
+/// Sets two bytes.
+#[inline(always)]
+fn set_2(bytes: &mut [u8], at: usize, value: u16)
+    requires { at + 2 ≤ length bytes.old }
+    ensures { bytes.new ≡ take at bytes.old ++ bytes_of 2 value ++ drop (at + 2) bytes.old }
+{
+    let from = value.to_le_bytes();
+    bytes[at] = from[0];
+    bytes[at + 1] = from[1];
+}
+
+/// Sets four bytes.
+#[inline(always)]
+fn set_4(bytes: &mut [u8], at: usize, value: u32)
+    requires { at + 4 ≤ length bytes.old }
+    ensures { bytes.new ≡ take at bytes.old ++ bytes_of 4 value ++ drop (at + 4) bytes.old }
+{
+    let from = value.to_le_bytes();
+    bytes[at] = from[0];
+    bytes[at + 1] = from[1];
+    bytes[at + 2] = from[2];
+    bytes[at + 3] = from[3];
+}
+
+/// Sets eight bytes.
+#[inline(always)]
+fn set_8(bytes: &mut [u8], at: usize, value: u64)
+    requires { at + 8 ≤ length bytes.old }
+    ensures { bytes.new ≡ take at bytes.old ++ bytes_of 8 value ++ drop (at + 8) bytes.old }
+{
+    let from = value.to_le_bytes();
+    bytes[at] = from[0];
+    bytes[at + 1] = from[1];
+    bytes[at + 2] = from[2];
+    bytes[at + 3] = from[3];
+    bytes[at + 4] = from[4];
+    bytes[at + 5] = from[5];
+    bytes[at + 6] = from[6];
+    bytes[at + 7] = from[7];
 }
 
 /// Ends the marks on a row, and gives whether some mark is left.

@@ -1,8 +1,8 @@
 -- What holds of a pass when its memory is made, and after it was split or joined.
-use Rattle.std.proofs.Common.{◌≡◌, ◌≢◌, ◌==◌, ◌&&◌, ◌||◌, not, ℕ, Bool, true, false, if◌then◌else◌, Option, None, List, [], set, refl, ap, sym, ◌∙◌, subst, inl, inr, ◌≤◌, nat_lt, arith}
+use Rattle.std.proofs.Common.{◌≡◌, ◌≢◌, ◌==◌, ◌&&◌, ◌||◌, not, ℕ, Bool, true, false, if◌then◌else◌, Option, None, List, [], set, refl, ap, sym, ◌∙◌, subst, inl, inr, ◌≤◌, nat_lt, append-nil, arith}
 use Rattle.std.proofs.lemmas.Bool.{cases_Bool, eqb-false, lt-ltb}
 use Rattle.history.specs.declared.entry.Entry.{Entry}
-use Rattle.shared_memory.specs.Origin.{Origin}
+use Rattle.shared_memory.specs.Origin.{IsLegalFrom, Origin}
 use Rattle.shared_memory.specs.declared.views.View.{View}
 use Rattle.shared_memory.specs.Passes.{first_view, marked, one_mark}
 use Rattle.shared_memory.specs.inner.Passes.{alone_mark, joined_view, merged, without_mark}
@@ -84,6 +84,10 @@ pub sees-goes : (origin : Origin) (me new : Mine) (has : List Bool) (number : �
     → IsSingle t (marked me.0.numbers) → Goes origin me (es me.0.lead) h new → Sees origin t me.0.seen (es t) new.0.seen
 sees-goes origin me new has number reserved t es h b single goes =
     subst (λ (u : ℕ). Sees origin u me.0.seen (es u) new.0.seen) (single.only me.0.lead (lead-held me has number reserved b)) goes.sees
+
+-- a pass that has seen what it had seen has done nothing
+pub sees-none : (origin : Origin) (t : ℕ) (old new : List Entry) → new ≡ old → IsLegalFrom origin new → Sees origin t old [] new
+sees-none origin t old new same legal = record { added = []; longer = same ∙ sym (append-nil old); mine = refl; legal = legal }
 
 -- a pass that has taken in another
 pub between-joined : (me other new : Mine) (has has_other has_both : List Bool) (number number_other : ℕ) (reserved reserved_other : Option ℕ)

@@ -113,6 +113,12 @@ impl SharedMemory for HstMemory {
         Ok(())
     }
 
+    // It might have to wait for a thread that is alone in the memory: so it isn't done.
+    fn try_store(&self, pass: &mut HstPass, place: Place, value: u64) -> bool {
+        self.vouch(pass);
+        false
+    }
+
     // It has a reservation in any case.
     fn load_ex<R: Wait>(&self, rt: &R, pass: &mut HstPass, place: Place) -> u64
         requires memory { pass_home pass.old ≡ memory_id self.now }
@@ -132,6 +138,12 @@ impl SharedMemory for HstMemory {
         let cell = load_ex_cell::<R, Brand>(rt, &self.table.shared, &mut pass.seat, target, name);
         pass.reserved = Some(place.row(self.size.granule()));
         take(cell, place)
+    }
+
+    // It would have to be alone in the memory, for which it might have to wait.
+    fn try_load_ex(&self, pass: &mut HstPass, place: Place) -> Option<u64> {
+        self.vouch(pass);
+        None
     }
 
     // It succeeds exactly where its thread is undisturbed, and fails for want of a reservation or because that was lost.
@@ -161,6 +173,12 @@ impl SharedMemory for HstMemory {
             return false;
         }
         store_ex_cell::<R, Brand>(rt, &self.table.shared, &mut pass.seat, target, name)
+    }
+
+    // As `try_load_ex`.
+    fn try_store_ex(&self, pass: &mut HstPass, place: Place, value: u64) -> Option<bool> {
+        self.vouch(pass);
+        None
     }
 
     fn clear_ex(&self, pass: &mut HstPass) {

@@ -8,7 +8,6 @@ pub mod RecordedMerges
 pub mod Taking
 pub mod Firsts
 pub mod Grown
-pub mod Served
 pub mod Led
 pub mod Later
 pub mod Tables

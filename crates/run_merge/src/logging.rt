@@ -12,7 +12,7 @@ ghost use Rattle.run_merge.specs.inner.Logging.{IsLogged, RepliesLogging};
 ghost use Rattle.run_record.specs.Limits.{most_accesses};
 
 use crate::logs::{Log, Stamped};
-use guest_core::Port;
+use guest_core::{Port, TryPort};
 use guest_thread::Counts;
 use history::{Access, Deed};
 use llsc_base::{Ask, Place, STATUS_FAILED, STATUS_STORED};
@@ -211,8 +211,8 @@ impl<'a, R: Wait> Logging<'a, R> {
     }
 }
 
-impl<'a, R: Wait> Port for Logging<'a, R> {
-    ghost use Rattle.run_merge.specs.inner.Logging.{RepliesLogging, RefusesLogged};
+impl<'a, R: Wait> TryPort for Logging<'a, R> {
+    ghost use Rattle.run_merge.specs.inner.Logging.{RepliesLogging};
 
     ghost replies = { RepliesLogging };
 
@@ -220,10 +220,22 @@ impl<'a, R: Wait> Port for Logging<'a, R> {
 
     ghost counted = { λ logging. logging.count };
 
+    // It makes each access, and waits for that itself.
+    #[inline(always)]
+    fn try_reply(&mut self, ask: Ask) -> Option<u64> {
+        self.reply(&(), ask)
+    }
+
+    fn counts_one() {}
+}
+
+impl<'a, R: Wait> Port<()> for Logging<'a, R> {
+    ghost use Rattle.run_merge.specs.inner.Logging.{RefusesLogged};
+
     ghost refuses = { RefusesLogged };
 
     #[inline(always)]
-    fn reply(&mut self, ask: Ask) -> Option<u64> {
+    fn reply(&mut self, handle: &(), ask: Ask) -> Option<u64> {
         match ask {
             Ask::Load(place) => Some(self.load(place)),
             Ask::LoadEx(place) => Some(self.load_ex(place)),
@@ -235,6 +247,4 @@ impl<'a, R: Wait> Port for Logging<'a, R> {
             }
         }
     }
-
-    fn counts_one() {}
 }

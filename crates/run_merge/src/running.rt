@@ -63,7 +63,7 @@ pub(crate) fn log_thread<C: Core, R: Wait>(
     let thread = mem.thread(&pass);
     let mut logging = Logging::new(rt, mem, pass, thread, log);
     let mut guest = Guest::new(cpu, out);
-    let stop = guest.run(&mut code, budget, &mut logging);
+    let stop = guest.run(&(), &mut code, budget, &mut logging);
     let counts = logging.counts();
     let (pass, log) = logging.into_parts();
     let end = GuestEnd {

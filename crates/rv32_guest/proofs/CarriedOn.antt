@@ -1,25 +1,25 @@
--- A machine whose instruction was carried on over a port.
-use Rattle.std.proofs.Common.{◌≡◌, ℕ, Option, Some, None, List, [], ◌∷◌, Ok, refl, sym, ap, subst, ◌∙◌}
+-- A machine whose instruction was carried through over a port.
+use Rattle.std.proofs.Common.{◌≡◌, ℕ, Option, Some, None, List, [], ◌∷◌, Ok, IfNone, refl, sym, ap, subst, ◌∙◌}
 use Rattle.llsc_base.specs.Images.{Program}
 use Rattle.llsc_base.specs.declared.outside.Ask.{Ask}
 use Rattle.llsc_base.specs.Effects.{asks, completes}
-use Rattle.guest_core.specs.declared.phases.Passage.TheVariants.{Complete, AtStart}
+use Rattle.guest_core.specs.declared.phases.Passage.{Passage}
+use Rattle.guest_core.specs.declared.phases.Passage.TheVariants.{Next, Jumped, AtStart, UnderWay, Unmet}
 use Rattle.guest_core.specs.Phase as phase
-use Rattle.guest_core.specs.Machine.{IsHeld}
-use Rattle.guest_core.specs.Machine.{after_found_of, after_of, begins_of, between, given, moved_on, next_of, AwaitsNothing}
-use Rattle.guest_core.specs.Passages.{ComesOf, EndsAtOf, IsCarriedOnOf, starts, replied}
-use Rattle.guest_core.specs.Ports.{goes, refused, stays}
+use Rattle.guest_core.specs.Machine.{after_found_of, after_of, begins_of, between, given, moved_on, next_of, AwaitsNothing, PassesTests}
+use Rattle.guest_core.specs.Passages.{ComesOf, CompletesAtOf, EndsAtOf, IsCarriedOnOf, starts, replied}
+use Rattle.guest_core.specs.Ports.{Leads, goes, refused, stays}
+use Rattle.guest_core.specs.inner.Asking.{asked_first}
+use Rattle.guest_core.proofs.Asked.{asked_passed}
 use Rattle.rv32_guest.specs.declared.cpu.Stage.TheVariants as stage
 use Rattle.rv32_guest.specs.declared.cpu.RvCpu.TheInside as fields
 use Rattle.rv32_guest.specs.declared.instructions.RvInstr.{RvInstr}
 use Rattle.rv32_guest.specs.Effect.{acts}
+use Rattle.rv32_guest.specs.inner.Carrying.{IsCarriedAlone, IsCarriedBy, IsDone, IsHeldAt, at_once, by_reply}
 use Rattle.rv32_guest.specs.inner.Inside.{machine_of}
 use Rattle.rv32_guest.specs.Machine.{Machine, instr_at, rv32}
-use Rattle.rv32_guest.specs.inner.Outcome.{effect_by, replies_of, Keeps}
-use Rattle.rv32_guest.specs.declared.outcomes.Outcome.{Outcome}
-use Rattle.rv32_guest.specs.declared.outcomes.Outcome.TheVariants as comes
+use Rattle.rv32_guest.specs.inner.Outcome.{replies_of}
 use Rattle.rv32_guest.specs.State.{RvState, Effect}
-use Rattle.guest_core.proofs.Resting.{not_on}
 use Rattle.rv32_guest.proofs.Resting.{is_resting}
 
 -- ---- between two instructions
@@ -43,100 +43,116 @@ pub record IsFound (program : Program) (old : Machine) (state : RvState) (instr 
   pub begins_at : old ≡ between state
   pub known : instr_at program state.pc ≡ Ok instr
 
-pub found : {program before : Program} {old : Machine} {instr : RvInstr} (inside : fields.Inside) (pc : ℕ) → machine_of inside ≡ old → old ≡ between old.state
-    → pc ≡ inside.registers.pc → before ≡ program → instr_at before pc ≡ Ok instr → IsFound program old inside.registers instr
-found {program} inside pc is rest at same known = record {
+pub found : {program : Program} {old : Machine} {instr : RvInstr} (inside : fields.Inside) → machine_of inside ≡ old → old ≡ between old.state
+    → instr_at program old.state.pc ≡ Ok instr → IsFound program old inside.registers instr
+found {program} inside is rest known = record {
   begins_at = rest ∙ ap between (sym (ap (λ (m : Machine). m.state) is));
-  known = ap (instr_at program) (sym at) ∙ ap (λ p. instr_at p pc) (sym same) ∙ known;
+  known = ap (λ (m : Machine). instr_at program m.state.pc) is ∙ known;
 }
 
--- ---- how it was carried on
+-- ---- what the registers were carried through
 
-held_keeps : (outcome : Outcome) (old now : RvState) → (outcome ≡ comes.Completes → ⊥) → Keeps outcome old now → now ≡ old
-held_keeps comes.Completes old now held kept = absurd (held refl)
-held_keeps (comes.Calls call) old now held kept = kept
-held_keeps (comes.Stops stop) old now held kept = kept
+-- where no reply comes
+pub leads_none : {P : Type 0} (replies : P → Ask → Option ℕ → P → Type 0) {from to : P} (ask : Ask) (reply : Option ℕ) → replies from ask reply to → IfNone reply (Leads replies from [] to)
+leads_none replies {from = from} {to = to} ask None served = refused [] from to ask stays served
+leads_none replies ask (Some reply) served = tt
 
--- it calls or stops
-pub held_on : {P : Type 0} {replies : P → Ask → Option ℕ → P → Type 0} {program : Program} {old : Machine} {from : P} (inside : fields.Inside) (outcome : Outcome) (now : RvState)
-    → machine_of inside ≡ old → old ≡ between old.state → (outcome ≡ comes.Completes → ⊥) → Keeps outcome inside.registers now
-    → IsCarriedOnOf rv32 replies program old from AtStart (machine_of (record inside { registers = now })) from
-held_on {P} {replies} {program} {old} {from} inside outcome now is rest held kept =
-    subst (λ r. IsCarriedOnOf rv32 replies program old from AtStart (machine_of (record inside { registers = r })) from) (sym (held_keeps outcome inside.registers now held kept))
-    (subst (λ m. IsCarriedOnOf rv32 replies program old from AtStart m from) (sym is) (not_on rest))
+module _ {P : Type 0} {replies : P → Ask → Option ℕ → P → Type 0} {does : List ℕ → Effect} {from to : P} where
+  -- an access that nothing barred was made, and the instruction is complete with the reply
+  pub served_on : {now : RvState} (program : Program) (ask : Ask) (reply : ℕ) → does [] ≡ asked_first program ask → PassesTests program ask → replies from ask (Some reply) to
+      → does (reply ∷ []) ≡ completes now → IsDone replies does from now to
+  served_on program ask reply first passes served is = by_reply to ask reply (first ∙ asked_passed program ask passes) served is
 
--- the store that it asks for was refused
-pub refused_on : {P : Type 0} {replies : P → Ask → Option ℕ → P → Type 0} {program : Program} {old : Machine} {from to : P} (ask : Ask) → old ≡ between old.state
-    → replies from ask None to → IsCarriedOnOf rv32 replies program old from AtStart old to
-refused_on {old = old} {from = from} {to = to} ask rest served = record {
+-- an instruction that made no access
+pub carried_alone : {P : Type 0} (replies : P → Ask → Option ℕ → P → Type 0) (from : P) (old now : RvState) (instr : RvInstr) (program : Program) (passage : Passage)
+    → IsCarriedAlone (λ p. acts instr p [] old) old passage now → IsCarriedBy replies (λ had. acts instr program had old) old from passage now from
+carried_alone replies from old now instr program Next is = at_once (is program)
+carried_alone replies from old now instr program Jumped is = at_once (is program)
+carried_alone replies from old now instr program AtStart is = record { state = is.0; held = is.1 program; leads = stays }
+carried_alone replies from old now instr program UnderWay is = is
+carried_alone replies from old now instr program Unmet is = is
+
+-- one that is another
+pub carried_as : {P : Type 0} (replies : P → Ask → Option ℕ → P → Type 0) (from to : P) (program : Program) (old now : RvState) {instr other : RvInstr} (passage : Passage) → instr ≡ other
+    → IsCarriedBy replies (λ had. acts other program had old) old from passage now to → IsCarriedBy replies (λ had. acts instr program had old) old from passage now to
+carried_as replies from to program old now passage same is =
+    subst (λ i. IsCarriedBy replies (λ had. acts i program had old) old from passage now to) (sym same) is
+
+-- one of another number, as of an address
+pub carried_at : {P : Type 0} (replies : P → Ask → Option ℕ → P → Type 0) (from to : P) (old now : RvState) (passage : Passage) (does : ℕ → List ℕ → Effect) {x y : ℕ} → x ≡ y
+    → IsCarriedBy replies (does x) old from passage now to → IsCarriedBy replies (does y) old from passage now to
+carried_at replies from to old now passage does same is = subst (λ n. IsCarriedBy replies (does n) old from passage now to) same is
+
+-- ---- what the machine was carried through
+
+-- an instruction that wasn't met does nothing
+pub unmet_on : {P : Type 0} {replies : P → Ask → Option ℕ → P → Type 0} {program : Program} {old : Machine} {from : P} → old ≡ between old.state
+    → IsCarriedOnOf rv32 replies program old from Unmet old from
+unmet_on {old = old} rest = record {
   pairs = [];
   machine = old;
-  leads = refused [] from to ask stays served;
+  leads = stays;
   comes = starts;
   ends = (refl, subst (λ (m : Machine). AwaitsNothing m.phase) (sym rest) tt);
 }
 
 module _ {program : Program} {old : Machine} {state : RvState} {instr : RvInstr} (it : IsFound program old state instr) where
-  abbrev does : List ℕ → Effect
-  does had = acts instr program had state
+  abbrev does_with : List ℕ → Effect
+  does_with had = acts instr program had state
 
-  first_effect : next_of rv32 program (between state) ≡ does []
+  first_effect : next_of rv32 program (between state) ≡ does_with []
   first_effect = ap (begins_of rv32 program state) it.known
 
-  first_after : after_of rv32 program (between state) ≡ moved_on instr (between state) (does [])
+  first_after : after_of rv32 program (between state) ≡ moved_on instr (between state) (does_with [])
   first_after = ap (after_found_of rv32 program (between state)) it.known
 
   -- with the reply to its access
   with_reply : ℕ → Machine
   with_reply reply = record { state = state; phase = phase.Inside instr; replies = reply ∷ [] }
 
-  given_on : (ask : Ask) (reply : ℕ) → does [] ≡ asks ask → given (after_of rv32 program (between state)) reply ≡ with_reply reply
+  given_on : (ask : Ask) (reply : ℕ) → does_with [] ≡ asks ask → given (after_of rv32 program (between state)) reply ≡ with_reply reply
   unfolding with_reply
   given_on ask reply asked = ap (λ m. given m reply) (first_after ∙ ap (moved_on instr (between state)) asked)
 
-  ends_with : (reply : ℕ) (done : RvState) (new : Machine) → does (reply ∷ []) ≡ completes done → new ≡ between done → EndsAtOf rv32 program (with_reply reply) Complete new
+  completes_with : (reply : ℕ) (done : RvState) (new : Machine) → does_with (reply ∷ []) ≡ completes done → new ≡ between done → CompletesAtOf rv32 program (with_reply reply) new
   unfolding with_reply
-  ends_with reply done new is now_is = (done, is, now_is ∙ sym (ap (moved_on instr (with_reply reply)) is), now_is)
+  completes_with reply done new is now_is = (done, is, now_is ∙ sym (ap (moved_on instr (with_reply reply)) is), now_is)
 
-  -- what it does next is what the instruction does first
-  pub held_next : (effect : Effect) → does [] ≡ effect → IsHeld effect → IsHeld (next_of rv32 program old)
-  held_next effect is held = subst (λ m. IsHeld (next_of rv32 program m)) (sym it.begins_at) (subst IsHeld (sym (first_effect ∙ is)) held)
-
-  module _ {P : Type 0} {replies : P → Ask → Option ℕ → P → Type 0} {from : P} where
-    -- it was complete at once
-    pub carried_at_once : {new : Machine} (done : RvState) → acts instr program [] state ≡ completes done → new ≡ between done → IsCarriedOnOf rv32 replies program old from Complete new from
-    carried_at_once {new} done is now_is =
-        subst (λ m. IsCarriedOnOf rv32 replies program m from Complete new from) (sym it.begins_at) (record {
+  module _ {P : Type 0} {replies : P → Ask → Option ℕ → P → Type 0} {from : P} {new : Machine} {now : RvState} (now_is : new ≡ between now) where
+    -- it was complete at once, or with the reply
+    done_on : {to : P} (passage : Passage) → ((machine : Machine) → CompletesAtOf rv32 program machine new → EndsAtOf rv32 program machine passage new)
+        → IsDone replies (λ had. acts instr program had state) from now to → IsCarriedOnOf rv32 replies program old from passage new to
+    done_on passage ends (at_once is) =
+        subst (λ m. IsCarriedOnOf rv32 replies program m from passage new from) (sym it.begins_at) (record {
           pairs = [];
           machine = between state;
           leads = stays;
           comes = starts;
-          ends = (done, first_effect ∙ is, now_is ∙ sym (first_after ∙ ap (moved_on instr (between state)) is), now_is);
+          ends = ends (between state) (now, first_effect ∙ is, now_is ∙ sym (first_after ∙ ap (moved_on instr (between state)) is), now_is);
         })
-
-    -- it was complete with the reply
-    pub carried_by_reply : {new : Machine} {to : P} (ask : Ask) (reply : ℕ) (done : RvState) → acts instr program [] state ≡ asks ask → replies from ask (Some reply) to
-        → acts instr program (reply ∷ []) state ≡ completes done → new ≡ between done → IsCarriedOnOf rv32 replies program old from Complete new to
-    carried_by_reply {new} {to} ask reply done asked served is now_is =
-        subst (λ m. IsCarriedOnOf rv32 replies program m from Complete new to) (sym it.begins_at) (record {
+    done_on passage ends (by_reply to ask reply asked served is) =
+        subst (λ m. IsCarriedOnOf rv32 replies program m from passage new to) (sym it.begins_at) (record {
           pairs = (ask, reply) ∷ [];
           machine = with_reply reply;
           leads = goes [] from to ask reply stays served;
           comes = subst (λ m. ComesOf rv32 program (between state) ((ask, reply) ∷ []) m) (given_on ask reply asked) (replied [] (between state) ask reply starts (first_effect ∙ asked));
-          ends = ends_with reply done new is now_is;
+          ends = ends (with_reply reply) (completes_with reply now new is now_is);
         })
 
--- ---- what holds it
+    -- it was held at its start
+    held_on : {to : P} → IsHeldAt replies (λ had. acts instr program had state) state from now to → IsCarriedOnOf rv32 replies program old from AtStart new to
+    held_on held = record {
+      pairs = [];
+      machine = old;
+      leads = held.leads;
+      comes = starts;
+      ends = (now_is ∙ ap between held.state ∙ sym it.begins_at, subst (λ (m : Machine). AwaitsNothing m.phase) (sym it.begins_at) tt);
+    }
 
-outcome_held : (state : RvState) (outcome : Outcome) → (outcome ≡ comes.Completes → ⊥) → IsHeld (effect_by state outcome)
-outcome_held state comes.Completes held = absurd (held refl)
-outcome_held state (comes.Calls call) held = tt
-outcome_held state (comes.Stops stop) held = tt
-
--- a call or a stop does
-pub held_still : {program : Program} {old : Machine} {instr : RvInstr} (inside : fields.Inside) (outcome : Outcome) (now : RvState) → IsFound program old inside.registers instr
-    → machine_of inside ≡ old → (outcome ≡ comes.Completes → ⊥) → Keeps outcome inside.registers now → effect_by now outcome ≡ acts instr program [] inside.registers
-    → IsHeld (next_of rv32 program (machine_of (record inside { registers = now })))
-held_still {program} {old} inside outcome now it is held kept does_so =
-    subst (λ r. IsHeld (next_of rv32 program (machine_of (record inside { registers = r })))) (sym (held_keeps outcome inside.registers now held kept))
-    (subst (λ m. IsHeld (next_of rv32 program m)) (sym is) (held_next it (effect_by now outcome) (sym does_so) (outcome_held now outcome held)))
+    -- the machine was carried through what the registers were
+    pub carried_on : {to : P} (passage : Passage) → IsCarriedBy replies (λ had. acts instr program had state) state from passage now to → IsCarriedOnOf rv32 replies program old from passage new to
+    carried_on Next done = done_on Next (λ machine ends. ends) done
+    carried_on Jumped done = done_on Jumped (λ machine ends. ends) done
+    carried_on AtStart held = held_on held
+    carried_on UnderWay none = absurd none
+    carried_on Unmet none = absurd none

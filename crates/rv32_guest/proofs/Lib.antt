@@ -4,7 +4,6 @@ pub mod Apart
 pub mod Meanings
 pub mod Zero
 pub mod Sound
-pub mod OthersCompute
 pub mod OthersAskNothing
 pub mod CarriedOn
 pub mod Ending

@@ -2,7 +2,7 @@
 use Rattle.std.proofs.Common.{◌≡◌, ℕ, ℤ, refl}
 use Rattle.rv32_guest.specs.declared.instructions.RvInstr.{RvInstr}
 use Rattle.rv32_guest.specs.declared.instructions.RvInstr.TheVariants.{Lui, Auipc, Jal, Jalr, Beq, Bne, Blt, Bge, Bltu, Bgeu, Lb, Lh, Lw, Lbu, Lhu, Sb, Sh, Sw, Addi, Slti, Sltiu, Xori, Ori, Andi, Slli, Srli, Srai, Add, Sub, Sll, Slt, Sltu, Xor, Srl, Sra, Or, And, Fence, LrW, ScW, Ecall}
-use Rattle.rv32_guest.specs.inner.Classes.{instr_class, MakesNoAccess}
+use Rattle.rv32_guest.specs.Kept.{MakesNoAccess}
 
 pub record IsNoneOfThem (instr : RvInstr) : Type 0 where
   pub not_lb : (rd : ℕ) (rs1 : ℕ) (imm : ℤ) → instr ≡ Lb rd rs1 imm → ⊥
@@ -16,7 +16,7 @@ pub record IsNoneOfThem (instr : RvInstr) : Type 0 where
   pub not_lr_w : (rd : ℕ) (rs1 : ℕ) → instr ≡ LrW rd rs1 → ⊥
   pub not_sc_w : (rd : ℕ) (rs1 : ℕ) (rs2 : ℕ) → instr ≡ ScW rd rs1 rs2 → ⊥
 
-pub others_ask_nothing : (instr : RvInstr) → IsNoneOfThem instr → MakesNoAccess (instr_class instr)
+pub others_ask_nothing : (instr : RvInstr) → IsNoneOfThem instr → MakesNoAccess instr
 others_ask_nothing (Lui rd imm) none = tt
 others_ask_nothing (Auipc rd imm) none = tt
 others_ask_nothing (Jal rd imm) none = tt

@@ -1,5 +1,5 @@
 -- The register x0.
-use Rattle.std.proofs.Common.{◌≡◌, ℕ, zero, suc, ◌==◌, if◌then◌else◌, List, [], ◌∷◌, slice_index, slice_set, arith, refl}
+use Rattle.std.proofs.Common.{◌≡◌, ℕ, zero, suc, ◌==◌, if◌then◌else◌, List, [], ◌∷◌, slice_index, slice_set, arith, refl, sym, ap}
 use Rattle.std.proofs.lemmas.Bool.{ne_eqb}
 
 -- it reads 0 where it is 0
@@ -7,8 +7,10 @@ pub zero_reads : (regs : List ℕ) (r : ℕ) → slice_index regs 0 ≡ 0 → sl
 zero_reads regs zero none = none
 zero_reads regs (suc r) none = rw (ne_eqb (suc r) 0 (λ e. omega (arith, e))) refl
 
--- another register that is set leaves it
-pub zero_kept : (regs : List ℕ) (r value : ℕ) → slice_index regs 0 ≡ 0 → (r ≡ 0 → ⊥) → slice_index (slice_set regs r value) 0 ≡ 0
-zero_kept [] r value none other = none
-zero_kept (x ∷ regs) zero value none other = absurd (other refl)
-zero_kept (x ∷ regs) (suc r) value none other = none
+-- set to 0 behind any register, it stays, and of the others that one is set
+pub zero_set : (regs : List ℕ) (r value : ℕ) → slice_index regs 0 ≡ 0
+    → slice_set (slice_set regs r value) 0 0 ≡ (if r == 0 then regs else slice_set regs r value)
+zero_set [] zero value none = refl
+zero_set [] (suc r) value none = rw (ne_eqb (suc r) 0 (λ e. omega (arith, e))) refl
+zero_set (x ∷ regs) zero value none = ap (λ first. first ∷ regs) (sym none)
+zero_set (x ∷ regs) (suc r) value none = rw (ne_eqb (suc r) 0 (λ e. omega (arith, e))) (ap (λ first. first ∷ slice_set regs r value) (sym none))

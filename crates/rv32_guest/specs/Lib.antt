@@ -4,6 +4,7 @@ pub mod State
 pub mod Computing
 pub mod Accesses
 pub mod Effect
+pub mod Kept
 pub mod Calls
 pub mod Machine
 pub mod Inside

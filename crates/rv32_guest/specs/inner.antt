@@ -1,5 +1,5 @@
 -- What only proofs and inner contracts need.
-pub mod Classes
+pub mod Carrying
 pub mod Inside
 pub mod Outcome
 pub mod Registers

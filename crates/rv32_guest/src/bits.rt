@@ -3,27 +3,36 @@ ghost use Rattle.std.specs.Prelude.{◌≡◌, ◌<◌, ◌^◌, ◌*◌, ◌+�
 ghost use Rattle.llsc_base.specs.Bits.{bits_of};
 ghost use Rattle.rv32_guest.specs.Immediates.{signed_field, branch_distance, jump_distance};
 
+use crate::reg::RvReg;
 use llsc_base::bits;
 
 /// The destination register.
 #[inline(always)]
-pub fn rd(word: u32) -> u8
+pub fn rd(word: u32) -> RvReg
     ensures { result ≡ bits_of word 7 5 }
 {
-    bits(word, 7, 5) as u8
+    RvReg::new(bits(word, 7, 5) as u8)
 }
 
 /// The first source register.
 #[inline(always)]
-pub fn rs1(word: u32) -> u8
+pub fn rs1(word: u32) -> RvReg
     ensures { result ≡ bits_of word 15 5 }
 {
-    bits(word, 15, 5) as u8
+    RvReg::new(bits(word, 15, 5) as u8)
 }
 
-/// The second source register, or a shift's amount.
+/// The second source register.
 #[inline(always)]
-pub fn rs2(word: u32) -> u8
+pub fn rs2(word: u32) -> RvReg
+    ensures { result ≡ bits_of word 20 5 }
+{
+    RvReg::new(bits(word, 20, 5) as u8)
+}
+
+/// The amount of a shift.
+#[inline(always)]
+pub fn amount(word: u32) -> u8
     ensures { result ≡ bits_of word 20 5 }
 {
     bits(word, 20, 5) as u8

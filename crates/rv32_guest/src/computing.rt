@@ -4,7 +4,7 @@ ghost use Rattle.llsc_base.specs.Bits.{bits_of};
 ghost use Rattle.rv32_guest.specs.Table.{addi, slti, sltiu, xori, ori, andi, slli, srli, srai, add, sub, sll, slt, sltu, xor, srl, sra, or, and};
 ghost use Rattle.rv32_guest.specs.inner.Rows.{Decides};
 
-use crate::bits::{funct3, immediate, rd, rs1, rs2};
+use crate::bits::{amount, funct3, immediate, rd, rs1, rs2};
 use crate::instructions::RvInstr;
 use llsc_base::{DecodeFault, bits};
 
@@ -42,7 +42,7 @@ fn shift_left(word: u32) -> Result<RvInstr, DecodeFault>
     Ok(RvInstr::Slli {
         rd: rd(word),
         rs1: rs1(word),
-        amount: rs2(word),
+        amount: amount(word),
     })
 }
 
@@ -55,7 +55,7 @@ fn shift_right(word: u32) -> Result<RvInstr, DecodeFault>
 {
     let rd = rd(word);
     let rs1 = rs1(word);
-    let amount = rs2(word);
+    let amount = amount(word);
     match bits(word, 25, 7) {
         0 => Ok(RvInstr::Srli { rd, rs1, amount }),
         0x20 => Ok(RvInstr::Srai { rd, rs1, amount }),

@@ -1,13 +1,12 @@
 //! The core of a RISC-V guest as one of the cores that run guests.
 use crate::calls::call_of;
 use crate::cpu::RvCpu;
-use crate::instructions::RvInstr;
-use crate::outcomes::Outcome;
-use guest_core::{Code, Core, Passage, Port, Wanted, stop_at};
+use crate::ready::{Kind, RvKept};
+use guest_core::{Core, Passage, TryPort, Wanted};
 use llsc_base::{CallAsk, Image};
 
 impl Core for RvCpu {
-    type Ready = RvInstr;
+    type Ready = RvKept;
 
     ghost use Rattle.rv32_guest.specs.declared.instructions.RvInstr.{RvInstr as RvInstruction};
     ghost use Rattle.rv32_guest.specs.Machine.{rv32};
@@ -25,29 +24,14 @@ impl Core for RvCpu {
         RvCpu::start(entry, t, n, sp)
     }
 
-    /// It is complete, or at its start: where it calls, stops, or stores and memory has no write left.
+    /// It is complete, or at its start: where it calls, stops, or makes an access that the port doesn't.
     #[inline(always)]
-    fn carry<P: Port>(&mut self, code: &mut Code<RvInstr>, port: &mut P) -> Passage {
-        let pc = self.registers.pc();
-        let found = code.find(pc);
-        if !found {
-            return Passage::AtStart;
+    fn carry<P: TryPort>(&mut self, kept: &RvKept, image: &Image, port: &mut P) -> Passage {
+        match kept.kind {
+            Kind::Unmet => Passage::Unmet,
+            Kind::Alone => self.registers.carry_alone(kept.instr),
+            Kind::Accesses => self.registers.carry_access(kept.instr, image, port),
         }
-        let instr = *code.at(pc);
-        let Some(ask) = self.registers.access(instr) else {
-            match self.registers.act(instr) {
-                Outcome::Completes => return Passage::Complete,
-                _ => return Passage::AtStart,
-            }
-        };
-        if stop_at(code.image(), ask).is_some() {
-            return Passage::AtStart;
-        }
-        let Some(reply) = port.reply(ask) else {
-            return Passage::AtStart;
-        };
-        self.registers.take(instr, reply);
-        Passage::Complete
     }
 
     #[inline(always)]

@@ -4,7 +4,7 @@ ghost use Rattle.llsc_base.specs.Images.{Program};
 ghost use Rattle.llsc_base.specs.Effects.{stops};
 ghost use Rattle.guest_core.specs.Phase as phase;
 ghost use Rattle.guest_core.specs.Machine.{after_found_of, after_of, begins_of, between, given, moved_on, next_of, wanted_of, Follows, IsAwaiting, IsCalling, AwaitsNothing, IsTested};
-ghost use Rattle.rv32_guest.specs.inner.Classes.{instr_class, MakesNoAccess};
+ghost use Rattle.rv32_guest.specs.Kept.{MakesNoAccess};
 ghost use Rattle.rv32_guest.specs.Effect.{acts};
 ghost use Rattle.rv32_guest.specs.Machine.{instr_at, rv32, start_of};
 ghost use Rattle.rv32_guest.specs.State.{RvState, answered, register};
@@ -12,6 +12,7 @@ ghost use Rattle.rv32_guest.specs.State.{RvState, answered, register};
 use crate::decoder::rv_decode;
 use crate::instructions::RvInstr;
 use crate::outcomes::Outcome;
+use crate::reg::RvReg;
 use crate::registers::Registers;
 use guest_core::{Wanted, stop_at};
 use llsc_base::{Ask, CallAsk, Image, Stop};
@@ -80,7 +81,7 @@ impl RvCpu {
         requires { i < 32 }
         ensures { result ≡ register self.now.state i }
     {
-        self.registers.x(i as u8)
+        self.registers.x(RvReg::new(i as u8))
     }
 
     /// The address of the instruction in hand, or of the next one.
@@ -123,7 +124,7 @@ impl RvCpu {
         ensures { self.new ≡ between (answered self.old.state x10) }
     {
         let next_pc = self.registers.next_pc();
-        self.registers.complete(10, x10, next_pc);
+        self.registers.complete(RvReg::new(10), x10, next_pc);
         self.stage = Stage::Between;
         self.reply = None;
     }
@@ -203,30 +204,30 @@ impl RvCpu {
         ensures state { self.new ≡ moved_on instr self.old (acts instr image.now self.old.replies self.old.state) }
         ensures tested { IsTested image.now self.old.replies result }
     {
-        self.instr = instr;
-        let Some(ask) = self.registers.access(instr) else {
+        let Some(ask) = self.registers.access(&instr) else {
             return self.act_alone(instr);
         };
         if let Some(reply) = self.reply {
-            self.registers.take(instr, reply);
+            self.registers.take(&instr, reply);
             return self.finish();
         }
         if let Some(stop) = stop_at(image, ask) {
             return self.stop(stop);
         }
+        self.instr = instr;
         self.stage = Stage::Awaiting(ask);
         Wanted::Access(ask)
     }
 
     /// An instruction that makes no access does what it does.
     fn act_alone(&mut self, instr: RvInstr) -> Wanted
-        requires { MakesNoAccess (instr_class instr) }
+        requires { MakesNoAccess instr }
         ensures wanted { (program : Program) → result ≡ wanted_of (acts instr program self.old.replies self.old.state) }
         ensures state { (program : Program) → self.new ≡ moved_on instr self.old (acts instr program self.old.replies self.old.state) }
         ensures no_access { (program : Program) (replies : List ℕ) → IsTested program replies result }
     {
         match self.registers.act(instr) {
-            Outcome::Completes => self.finish(),
+            Outcome::Next | Outcome::Jumps => self.finish(),
             Outcome::Calls(call) => {
                 self.stage = Stage::Calling(call);
                 Wanted::Call(call)

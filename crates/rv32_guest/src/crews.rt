@@ -11,7 +11,7 @@ ghost use Rattle.guest_thread.specs.declared.ends.GuestEnd.{GuestEnd};
 ghost use Rattle.rv32_guest.specs.Machine.{rv32};
 
 use crate::cpu::RvCpu;
-use crate::instructions::RvInstr;
+use crate::ready::RvKept;
 use guest_thread::{Crew, Job, Ran, prepare, run_all};
 use llsc_base::{Image, Stop};
 use shared_memory::SharedMemory;
@@ -20,10 +20,10 @@ use std::sync::Wait;
 use std::thread::Threads;
 
 /// What a thread runs with.
-pub type RvJob<'i, P> = Job<'i, P, RvCpu, RvInstr>;
+pub type RvJob<'i, P> = Job<'i, P, RvCpu, RvKept>;
 
 /// The jobs of all threads in order of number, with room for their ends.
-pub type RvCrew<'i, P> = Crew<'i, P, RvCpu, RvInstr>;
+pub type RvCrew<'i, P> = Crew<'i, P, RvCpu, RvKept>;
 
 /// The pass of all threads, and how each ended, in order of number.
 pub type RvRan<P> = Ran<P>;

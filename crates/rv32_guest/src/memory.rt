@@ -57,7 +57,7 @@ pub fn atomic(word: u32) -> Result<RvInstr, DecodeFault>
     let rs1 = rs1(word);
     let rs2 = rs2(word);
     match bits(word, 27, 5) {
-        2 if rs2 == 0 => Ok(RvInstr::LrW { rd, rs1 }),
+        2 if rs2.num() == 0 => Ok(RvInstr::LrW { rd, rs1 }),
         3 => Ok(RvInstr::ScW { rd, rs1, rs2 }),
         _ => Err(DecodeFault::Undefined),
     }

@@ -2,6 +2,7 @@
 ghost use Rattle.std.specs.Prelude.{◌≡◌, ◌%◌, [], ◌∷◌};
 ghost use Rattle.rv32_guest.specs.State.{register, with_register, next_pc};
 
+use crate::reg::RvReg;
 use std::marker::Model;
 
 /// The registers x0 to x31, of which x0 is always 0, and the PC, a multiple of 4.
@@ -39,13 +40,10 @@ impl Registers {
     /// A register's value.
     #[inline]
     #[tactic(auto, using(crate::proofs::Zero::zero_reads))]
-    pub fn x(&self, r: u8) -> u32
+    pub fn x(&self, r: RvReg) -> u32
         ensures { result ≡ register self.now r }
     {
-        match self.values.get(usize::from(r)) {
-            Some(value) => *value,
-            None => 0,
-        }
+        self.values[usize::from(r.num())]
     }
 
     /// The address of the instruction.
@@ -66,17 +64,24 @@ impl Registers {
         self.pc.wrapping_add(4)
     }
 
+    /// The next instruction stands at `pc`.
+    #[inline]
+    pub fn go_to(&mut self, pc: u32)
+        requires { pc % 4 ≡ 0 }
+        ensures { self.new ≡ record self.old { pc = pc } }
+    {
+        self.pc = pc;
+    }
+
     /// A register gets a value, and the next instruction stands at `pc`.
     #[inline]
-    #[tactic(auto, using(llsc_base::proofs::Words::words_set, llsc_base::proofs::Words::set_past, crate::proofs::Zero::zero_kept))]
-    pub fn complete(&mut self, rd: u8, value: u32, pc: u32)
+    #[tactic(auto, using(llsc_base::proofs::Words::words_set, crate::proofs::Zero::zero_set))]
+    pub fn complete(&mut self, rd: RvReg, value: u32, pc: u32)
         requires { pc % 4 ≡ 0 }
         ensures { self.new ≡ record (with_register self.old rd value) { pc = pc } }
     {
-        let num = usize::from(rd);
-        if num != 0 && num < self.values.len() {
-            self.values[num] = value;
-        }
+        self.values[usize::from(rd.num())] = value;
+        self.values[0] = 0;
         self.pc = pc;
     }
 }

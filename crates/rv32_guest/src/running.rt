@@ -10,7 +10,7 @@ ghost use Rattle.guest_thread.specs.Outcome.{IsEndOn};
 ghost use Rattle.rv32_guest.specs.Machine.{rv32};
 
 use crate::cpu::RvCpu;
-use crate::instructions::RvInstr;
+use crate::ready::RvKept;
 use guest_calls::Output;
 use guest_core::Code;
 use guest_thread::{Finished, run_thread};
@@ -27,7 +27,7 @@ use std::sync::Wait;
 pub fn run_rv_thread<M: SharedMemory, R: Wait>(
     rt: &R,
     mem: &M,
-    code: Code<RvInstr>,
+    code: Code<RvKept>,
     cpu: RvCpu,
     pass: M::Pass,
     out: Output,

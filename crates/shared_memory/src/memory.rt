@@ -1,5 +1,5 @@
 //! The contract of a memory that guest threads share.
-ghost use Rattle.std.specs.Prelude.{◌≡◌, ◌≢◌, ◌+◌, ◌*◌, ◌^◌, ◌<◌, ◌≤◌, ℕ, Bool, List, [], ◌∷◌, IsTrue, IfErr, codes, false, true, length, slice_index};
+ghost use Rattle.std.specs.Prelude.{◌≡◌, ◌≢◌, ◌+◌, ◌*◌, ◌^◌, ◌<◌, ◌≤◌, ℕ, Bool, List, [], ◌∷◌, IsTrue, IfErr, IfNone, IfSome, codes, false, true, length, slice_index};
 ghost use Rattle.std.specs.Bool.{OnFalse, OnTrue};
 ghost use Rattle.std.specs.Result.{OnOk};
 ghost use Rattle.llsc_base.specs.Memory.{is_aligned, size_bytes};
@@ -130,6 +130,20 @@ pub trait SharedMemory: Sync + Drop {
         ensures memory { home pass.new ≡ home pass.old }
         ensures numbers { numbers pass.new ≡ numbers pass.old };
 
+    /// A store that is tried once and waits for nobody, and whether it is done. It isn't where it would have to wait, or where the
+    /// memory counts the writes of a class, and that of the place has had all that it takes. Then nothing is stored.
+    fn try_store(&self, pass: &mut Self::Pass, place: Place, value: u64) -> bool
+        requires memory { home pass.old ≡ id self.now }
+        requires single { MayUse (origin self.now) (numbers pass.old) (seen pass.old) }
+        requires aligned { IsTrue (is_aligned place) }
+        requires inside { place.addr + size_bytes place.size ≤ (origin self.now).size.mem }
+        requires fits { value < 256 ^ size_bytes place.size }
+        ensures done { OnTrue result
+            (Performs (origin self.now) (numbers pass.old) (seen pass.old) (store place value false) (seen pass.new)) }
+        ensures nothing { OnFalse result (DoesNothing (origin self.now) (numbers pass.old) (seen pass.old) (seen pass.new)) }
+        ensures memory { home pass.new ≡ home pass.old }
+        ensures numbers { numbers pass.new ≡ numbers pass.old };
+
     /// A load-exclusive: the value of the place, on whose row the thread holds a reservation from now on, unless a write of
     /// another thread in the class of the row is in flight. It may wait for other threads.
     fn load_ex<R: Wait>(&self, rt: &R, pass: &mut Self::Pass, place: Place) -> u64
@@ -140,6 +154,20 @@ pub trait SharedMemory: Sync + Drop {
         ensures seen { PerformsEither (origin self.now) (numbers pass.old) (seen pass.old)
             (load_watched place result) (load_missed place result) (seen pass.new) }
         ensures fits { result < 256 ^ size_bytes place.size }
+        ensures memory { home pass.new ≡ home pass.old }
+        ensures numbers { numbers pass.new ≡ numbers pass.old };
+
+    /// A load-exclusive as [`load_ex`](SharedMemory::load_ex) makes it, which waits for nobody. `None` where it would have to wait:
+    /// then nothing is loaded.
+    fn try_load_ex(&self, pass: &mut Self::Pass, place: Place) -> Option<u64>
+        requires memory { home pass.old ≡ id self.now }
+        requires single { MayUse (origin self.now) (numbers pass.old) (seen pass.old) }
+        requires aligned { IsTrue (is_aligned place) }
+        requires inside { place.addr + size_bytes place.size ≤ (origin self.now).size.mem }
+        ensures seen { IfSome result (λ value. PerformsEither (origin self.now) (numbers pass.old) (seen pass.old)
+            (load_watched place value) (load_missed place value) (seen pass.new)) }
+        ensures fits { IfSome result (λ value. value < 256 ^ size_bytes place.size) }
+        ensures nothing { IfNone result (DoesNothing (origin self.now) (numbers pass.old) (seen pass.old) (seen pass.new)) }
         ensures memory { home pass.new ≡ home pass.old }
         ensures numbers { numbers pass.new ≡ numbers pass.old };
 
@@ -155,6 +183,22 @@ pub trait SharedMemory: Sync + Drop {
             (Performs (origin self.now) (numbers pass.old) (seen pass.old) (store place value true) (seen pass.new)) }
         ensures failed { OnFalse result
             (FailsToStore (origin self.now) (numbers pass.old) (seen pass.old) place value (seen pass.new)) }
+        ensures memory { home pass.new ≡ home pass.old }
+        ensures numbers { numbers pass.new ≡ numbers pass.old };
+
+    /// A store-exclusive as [`store_ex`](SharedMemory::store_ex) makes it, which waits for nobody, and whether it succeeded. `None`
+    /// where it would have to wait: then it neither succeeds nor fails, and the thread keeps the reservation that it holds.
+    fn try_store_ex(&self, pass: &mut Self::Pass, place: Place, value: u64) -> Option<bool>
+        requires memory { home pass.old ≡ id self.now }
+        requires single { MayUse (origin self.now) (numbers pass.old) (seen pass.old) }
+        requires aligned { IsTrue (is_aligned place) }
+        requires inside { place.addr + size_bytes place.size ≤ (origin self.now).size.mem }
+        requires fits { value < 256 ^ size_bytes place.size }
+        ensures done { IfSome result (λ done. OnTrue done
+            (Performs (origin self.now) (numbers pass.old) (seen pass.old) (store place value true) (seen pass.new))) }
+        ensures failed { IfSome result (λ done. OnFalse done
+            (FailsToStore (origin self.now) (numbers pass.old) (seen pass.old) place value (seen pass.new))) }
+        ensures nothing { IfNone result (DoesNothing (origin self.now) (numbers pass.old) (seen pass.old) (seen pass.new)) }
         ensures memory { home pass.new ≡ home pass.old }
         ensures numbers { numbers pass.new ≡ numbers pass.old };
 

@@ -17,8 +17,7 @@ ghost use Rattle.shared_memory.specs.Calls.{DoesNothing, FailsToStore, MayUse, P
 use crate::exclusive::clear_reservation;
 use crate::memory::VersionMemory;
 use crate::passes::{Reserved, VersionPass, VersionStory};
-use crate::pauses::{pause, pauses_after};
-use crate::plain::load_cell;
+use crate::plain::{Tried, load_cell, try_store};
 use crate::seats::{join_numbers, split_number, vouch_for};
 use history::Entry;
 use llsc_base::{MachineSize, Place};
@@ -29,9 +28,6 @@ use shared_memory::{
 use std::marker::Brand;
 use std::snapshot::Snapshot;
 use std::sync::Wait;
-
-/// How often a load-exclusive looks at its class before the look at which it begins in any case.
-const LOOKS: u32 = 64;
 
 impl VersionMemory {
     /// The class of a place.
@@ -138,14 +134,32 @@ impl SharedMemory for VersionMemory {
         Ok(())
     }
 
-    // It pauses where store-exclusives of its thread failed of late, waits a while for its class, and then goes on, without a
-    // reservation where a write of the class is in flight still.
-    fn load_ex<R: Wait>(&self, rt: &R, pass: &mut VersionPass, place: Place) -> u64 {
-        pause(pass.pauses);
-        self.load_ex_within(pass, place, LOOKS).0
+    // Where it isn't done, a write of the class was in flight or came first, or the class has had all of its writes.
+    #[inline]
+    fn try_store(&self, pass: &mut VersionPass, place: Place, value: u64) -> bool {
+        let target = self.target(place, value);
+        let limit = self.size.limit();
+        match try_store::<Brand>(&self.table.shared, &mut pass.seat, target, limit) {
+            Tried::Waits => false,
+            Tried::Spent => false,
+            Tried::Done(_) => {
+                pass.reserved = self.reserved_after(pass.reserved, place);
+                true
+            }
+        }
     }
 
-    // It succeeds exactly where its thread is undisturbed.
+    // It waits for nobody, so that the handle isn't used.
+    fn load_ex<R: Wait>(&self, rt: &R, pass: &mut VersionPass, place: Place) -> u64 {
+        self.load_ex_paused(pass, place)
+    }
+
+    #[inline]
+    fn try_load_ex(&self, pass: &mut VersionPass, place: Place) -> Option<u64> {
+        Some(self.load_ex_paused(pass, place))
+    }
+
+    // It succeeds exactly where its thread is undisturbed, and waits for nobody.
     fn store_ex<R: Wait>(&self, rt: &R, pass: &mut VersionPass, place: Place, value: u64) -> bool
         requires memory { pass_home pass.old ≡ memory_id self.now }
         requires single { MayUse (memory_origin self.now) (pass_numbers pass.old) (pass_seen pass.old) }
@@ -164,9 +178,12 @@ impl SharedMemory for VersionMemory {
         ensures exact_failed { OnFalse result ((t : ℕ) → IsSingle t (pass_numbers pass.old)
             → HasFailedAt (memory_origin self.now).size t place value (pass_seen pass.old) (pass_seen pass.new)) }
     {
-        let done = self.store_ex_now(pass, place, value);
-        pass.pauses = pauses_after(pass.pauses, done);
-        done
+        self.store_ex_paused(pass, place, value)
+    }
+
+    #[inline]
+    fn try_store_ex(&self, pass: &mut VersionPass, place: Place, value: u64) -> Option<bool> {
+        Some(self.store_ex_paused(pass, place, value))
     }
 
     fn clear_ex(&self, pass: &mut VersionPass) {

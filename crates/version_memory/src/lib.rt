@@ -11,9 +11,10 @@
 //!
 //! Its calls as a shared memory are in `calls`, those by which threads start others in `starting`, those that wait for nobody
 //! in `now`, and those of accesses that give their stamps in `stamps`. A store-exclusive is made in `store_ex_stamped`:
-//! `store_ex_now` drops its stamp, and `store_ex` besides keeps count of the pauses of its thread. `specs/Stands` says where an
-//! entry stands in what a pass has seen, and what was so before it; `specs/Exact` says when a store-exclusive has failed, and
-//! when a store that is tried once is not done; [`worked`] has small cases, what holds and what doesn't.
+//! `store_ex_now` drops its stamp, and `store_ex_paused` besides keeps count of the pauses of its thread; `store_ex` and
+//! `try_store_ex` are that, as `load_ex` and `try_load_ex` are `load_ex_paused`. `specs/Stands` says where an entry stands in
+//! what a pass has seen, and what was so before it; `specs/Exact` says when a store-exclusive has failed, and when a store that
+//! is tried once is not done; [`worked`] has small cases, what holds and what doesn't.
 #![tactic(auto)]
 
 mod calls;

@@ -1,5 +1,5 @@
 //! The access of an instruction that makes one.
-ghost use Rattle.std.specs.Prelude.{◌≡◌, ◌≢◌, ◌<◌, ◌≤◌, ◌+◌, ◌^◌, [], length, IsFalse};
+ghost use Rattle.std.specs.Prelude.{◌≡◌, ◌≢◌, ◌<◌, ◌≤◌, ◌+◌, ◌^◌, [], length, IfSome, IsFalse};
 ghost use Rattle.a32_step.specs.inner.ExecutionState.{Between};
 ghost use Rattle.guest_core.specs.Machine.{ValueFits};
 ghost use Rattle.a32_step.specs.inner.Acting.{IsReplied, with_reply};
@@ -26,6 +26,7 @@ impl Execution {
         requires mem { S.mem source.old ≡ length image.now.bytes }
         requires few { S.counted source.old < 2 ^ 63 }
         ensures replied { IsReplied S.replies image.now ask self.old source.old result self.new source.new }
+        ensures same { IfSome result (λ _. self.new ≡ self.old) }
         ensures mem { S.mem source.new ≡ S.mem source.old }
         ensures counted { S.counted source.new ≤ S.counted source.old + 1 }
     {

@@ -1,11 +1,15 @@
 //! Multiplications (DDI 0406C A5.2.5).
-ghost use Rattle.std.specs.Prelude.{◌≡◌, if◌then◌else◌};
-ghost use Rattle.a32_instr.specs.Multiply.{joined, multiplied, multiplies, multiplies_and_adds, multiplies_and_subtracts, after_long};
+ghost use Rattle.std.specs.Prelude.{◌≡◌, ◌+◌, if◌then◌else◌, false};
+ghost use Rattle.a32_instr.specs.Multiply.{joined, multiplied, multiplies, multiplies_and_adds, multiplies_and_subtracts, multiplies_long, after_long};
+ghost use Rattle.a32_instr.specs.State.{register, with_register};
+ghost use Rattle.llsc_base.specs.Words.{low32};
 ghost use Rattle.a32_step.specs.inner.Progress.{progress_of};
 ghost use Rattle.a32_step.specs.inner.ExecutionState.{moves};
 
 use super::Execution;
-use crate::phases::Progress;
+use crate::low::Low;
+use crate::lowered::Lowered;
+use crate::phases::{Came, Progress};
 use a32_compute::parts::low_word;
 use a32_compute::products::{minus_product, product, product_plus, wide};
 use a32_compute::shifts::is_negative;
@@ -105,5 +109,61 @@ impl Execution {
         self.set(lo, low_word(value));
         self.set(hi, (value >> 32) as u32);
         self.advance()
+    }
+
+    /// One of r0 to r14 as an operand.
+    #[inline(always)]
+    fn low(&self, r: Low) -> u32
+        ensures { result ≡ register self.now.state r }
+    {
+        self.regs[r.num() as usize]
+    }
+
+    /// One of r0 to r14 set to a value.
+    #[inline(always)]
+    #[tactic(auto, using(llsc_base::proofs::Words::words_set))]
+    fn set_low(&mut self, r: Low, value: u32)
+        ensures { self.new ≡ record self.old { state = with_register self.old.state r value } }
+    {
+        self.regs[r.num() as usize] = value;
+    }
+
+    /// MUL that sets no flags, of r0 to r14.
+    #[inline(always)]
+    pub(super) fn product_kept(&mut self, kept: &Lowered) -> Came
+        ensures came { result ≡ Came.Next }
+        ensures full { progress_of (multiplies false kept.now.d kept.now.n kept.now.m self.old.state) ≡ Progress.Complete }
+        ensures state { self.new ≡ moves self.old (multiplies false kept.now.d kept.now.n kept.now.m self.old.state) }
+        ensures next { self.new.state.pc ≡ low32 (self.old.state.pc + 4) }
+    {
+        let value = product(self.low(kept.n), self.low(kept.m));
+        self.put(kept.d, value)
+    }
+
+    /// MLA that sets no flags, of r0 to r14.
+    #[inline(always)]
+    pub(super) fn sum_kept(&mut self, kept: &Lowered) -> Came
+        ensures came { result ≡ Came.Next }
+        ensures full { progress_of (multiplies_and_adds false kept.now.d kept.now.n kept.now.m kept.now.a self.old.state) ≡ Progress.Complete }
+        ensures state { self.new ≡ moves self.old (multiplies_and_adds false kept.now.d kept.now.n kept.now.m kept.now.a self.old.state) }
+        ensures next { self.new.state.pc ≡ low32 (self.old.state.pc + 4) }
+    {
+        let value = product_plus(self.low(kept.n), self.low(kept.m), self.low(kept.a));
+        self.put(kept.d, value)
+    }
+
+    /// UMULL, UMLAL, SMULL and SMLAL that set no flags, of r0 to r14.
+    #[inline(always)]
+    pub(super) fn long_kept(&mut self, kind: LongKind, kept: &Lowered) -> Came
+        ensures came { result ≡ Came.Next }
+        ensures full { progress_of (multiplies_long kind false kept.now.d kept.now.a kept.now.n kept.now.m self.old.state) ≡ Progress.Complete }
+        ensures state { self.new ≡ moves self.old (multiplies_long kind false kept.now.d kept.now.a kept.now.n kept.now.m self.old.state) }
+        ensures next { self.new.state.pc ≡ low32 (self.old.state.pc + 4) }
+    {
+        let old = u64::from(self.low(kept.a)) * 0x1_0000_0000 + u64::from(self.low(kept.d));
+        let value = wide(kind, self.low(kept.n), self.low(kept.m), old);
+        self.set_low(kept.d, low_word(value));
+        self.set_low(kept.a, (value >> 32) as u32);
+        self.go_next()
     }
 }

@@ -4,7 +4,7 @@ ghost use Rattle.llsc_base.specs.Memory.{size_bytes};
 ghost use Rattle.llsc_base.specs.Images.{Program};
 ghost use Rattle.llsc_base.specs.Effects.{completes};
 ghost use Rattle.guest_core.specs.Machine.{ValueFits};
-ghost use Rattle.rv32_guest.specs.inner.Classes.{instr_class, MakesAccess, MakesNoAccess};
+ghost use Rattle.rv32_guest.specs.Kept.{MakesAccess, MakesNoAccess};
 ghost use Rattle.rv32_guest.specs.Accesses.{place_of};
 ghost use Rattle.guest_core.specs.inner.Asking.{asked_first};
 ghost use Rattle.rv32_guest.specs.Computing.{moved};
@@ -13,12 +13,13 @@ ghost use Rattle.rv32_guest.specs.State.{register};
 
 use crate::arithmetic::{loaded_byte, loaded_half, low_word};
 use crate::instructions::RvInstr;
+use crate::reg::RvReg;
 use crate::registers::Registers;
 use llsc_base::{Ask, Place, Size};
 
 /// The place of a size at an address.
 #[inline(always)]
-fn place(size: Size, addr: u32) -> Place
+pub(super) fn place(size: Size, addr: u32) -> Place
     ensures { result ≡ place_of size addr }
 {
     Place { addr, size }
@@ -26,7 +27,7 @@ fn place(size: Size, addr: u32) -> Place
 
 /// The low part of a value that a store has.
 #[inline(always)]
-fn stored_part(size: Size, value: u32) -> u64
+pub(super) fn stored_part(size: Size, value: u32) -> u64
     ensures { result ≡ value % 256 ^ size_bytes size }
 {
     match size {
@@ -39,7 +40,7 @@ fn stored_part(size: Size, value: u32) -> u64
 impl Registers {
     /// The access of a load.
     #[inline(always)]
-    fn load(&self, size: Size, rs1: u8, imm: i32) -> Ask
+    fn load(&self, size: Size, rs1: RvReg, imm: i32) -> Ask
         ensures { result ≡ Ask.Load (place_of size (moved (register self.now rs1) imm)) }
     {
         Ask::Load(place(size, self.address(rs1, imm)))
@@ -47,7 +48,7 @@ impl Registers {
 
     /// The access of a store.
     #[inline(always)]
-    fn store(&self, size: Size, rs1: u8, imm: i32, rs2: u8) -> Ask
+    fn store(&self, size: Size, rs1: RvReg, imm: i32, rs2: RvReg) -> Ask
         ensures ask { result ≡ Ask.Store (place_of size (moved (register self.now rs1) imm)) (register self.now rs2 % 256 ^ size_bytes size) }
         ensures fits { ValueFits result }
     {
@@ -59,13 +60,13 @@ impl Registers {
 
     /// The access of an instruction, if it makes one.
     #[inline(always)]
-    pub fn access(&self, instr: RvInstr) -> Option<Ask>
-        ensures asks { IfSome result (λ ask. (program : Program) → acts instr program [] self.now ≡ asked_first program ask) }
+    pub fn access(&self, instr: &RvInstr) -> Option<Ask>
+        ensures asks { IfSome result (λ ask. (program : Program) → acts instr.now program [] self.now ≡ asked_first program ask) }
         ensures fits { IfSome result ValueFits }
-        ensures makes_one { IfSome result (λ ask. MakesAccess (instr_class instr)) }
-        ensures makes_none { IfNone result (MakesNoAccess (instr_class instr)) }
+        ensures makes_one { IfSome result (λ ask. MakesAccess instr.now) }
+        ensures makes_none { IfNone result (MakesNoAccess instr.now) }
     {
-        match instr {
+        match *instr {
             RvInstr::Lb { rs1, imm, .. } => Some(self.load(Size::B1, rs1, imm)),
             RvInstr::Lh { rs1, imm, .. } => Some(self.load(Size::B2, rs1, imm)),
             RvInstr::Lw { rs1, imm, .. } => Some(self.load(Size::B4, rs1, imm)),
@@ -85,11 +86,11 @@ impl Registers {
 
     /// An instruction is complete with the reply to its access.
     #[inline(always)]
-    pub fn take(&mut self, instr: RvInstr, reply: u64)
-        requires { MakesAccess (instr_class instr) }
-        ensures { (program : Program) → acts instr program (reply ∷ []) self.old ≡ completes self.new }
+    pub fn take(&mut self, instr: &RvInstr, reply: u64)
+        requires { MakesAccess instr.now }
+        ensures { (program : Program) → acts instr.now program (reply ∷ []) self.old ≡ completes self.new }
     {
-        match instr {
+        match *instr {
             RvInstr::Lb { rd, .. } => self.advance_with(rd, loaded_byte(true, reply)),
             RvInstr::Lh { rd, .. } => self.advance_with(rd, loaded_half(true, reply)),
             RvInstr::Lbu { rd, .. } => self.advance_with(rd, loaded_byte(false, reply)),
@@ -102,7 +103,7 @@ impl Registers {
                 self.advance_with(rd, status);
             }
             RvInstr::Sb { .. } | RvInstr::Sh { .. } | RvInstr::Sw { .. } => {
-                self.advance_with(0, 0);
+                self.advance();
             }
             _ => unreachable!(),
         }

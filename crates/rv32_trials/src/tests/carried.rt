@@ -1,12 +1,12 @@
-//! Instructions that are carried through at once, over memory of one word that replies to each access.
+//! Instructions that are carried through at once, over memory of one word that replies to each access at once.
 ghost use Rattle.std.specs.Prelude.{◌≡◌, ◌<◌, ◌^◌, IfSome, length};
 ghost use Rattle.llsc_base.specs.Memory.{size_bytes};
 ghost use Rattle.guest_core.specs.Ports.{ReplyFits};
 
 use super::programs::image;
-use guest_core::{Code, Core, Passage, Port};
+use guest_core::{Code, Core, Passage, Ready, TryPort};
 use llsc_base::{Ask, CallAsk, Place, Size, Stop};
-use rv32_guest::{RvCpu, RvInstr, Wanted};
+use rv32_guest::{RvCpu, RvKept, Wanted};
 use std::alloc::Global;
 use std::test::Fail;
 
@@ -55,16 +55,14 @@ impl OneWord {
     }
 }
 
-impl Port for OneWord {
+impl TryPort for OneWord {
     ghost replies = { λ old ask reply new. IfSome reply (ReplyFits ask) };
 
     ghost mem = { λ memory. 65536 };
 
     ghost counted = { λ memory. 0 };
 
-    ghost refuses = { λ memory addr. Unit {0} };
-
-    fn reply(&mut self, ask: Ask) -> Option<u64> {
+    fn try_reply(&mut self, ask: Ask) -> Option<u64> {
         self.asked = Some(ask);
         match ask {
             Ask::Load(place) => Some(self.low(place.size)),
@@ -104,7 +102,8 @@ const SECOND: Place = Place {
 };
 
 /// The thread's words: lw x12, 0(x10); add x12, x12, x11; sw x12, 4(x10); lr.w x12, (x10); sc.w x12, x11, (x10), twice;
-/// lhu x12, 2(x10); ecall. x10 is 0x2000, x11 is 7, and the word of memory is 0x10005.
+/// lhu x12, 2(x10); bne x12, x12 to the ecall, beq x12, x12 to the ecall, no instruction, and ecall. x10 is 0x2000, x11 is 7, and the
+/// word of memory is 0x10005.
 const CARRIED: &[u32] = &[
     0x0005_2603,
     0x00b6_0633,
@@ -113,6 +112,9 @@ const CARRIED: &[u32] = &[
     0x18b5_262f,
     0x18b5_262f,
     0x0025_5603,
+    0x00c6_1663,
+    0x00c6_0463,
+    0x0000_0000,
     0x0000_0073,
 ];
 
@@ -122,48 +124,58 @@ type State = (Passage, u32, u32, Option<Ask>, u32);
 /// The states of that thread.
 const STATES: &[State] = &[
     (
-        Passage::Complete,
+        Passage::Next,
         0x1004,
         0x10005,
         Some(Ask::Load(WORD)),
         0x10005,
     ),
     (
-        Passage::Complete,
+        Passage::Next,
         0x1008,
         0x1000c,
         Some(Ask::Load(WORD)),
         0x10005,
     ),
     (
-        Passage::Complete,
+        Passage::Next,
         0x100c,
         0x1000c,
         Some(Ask::Store(SECOND, 0x1000c)),
         0x1000c,
     ),
     (
-        Passage::Complete,
+        Passage::Next,
         0x1010,
         0x1000c,
         Some(Ask::LoadEx(WORD)),
         0x1000c,
     ),
-    (Passage::Complete, 0x1014, 0, Some(Ask::StoreEx(WORD, 7)), 7),
-    (Passage::Complete, 0x1018, 1, Some(Ask::StoreEx(WORD, 7)), 7),
-    (Passage::Complete, 0x101c, 7, Some(Ask::Load(HALF)), 7),
-    (Passage::AtStart, 0x101c, 7, Some(Ask::Load(HALF)), 7),
+    (Passage::Next, 0x1014, 0, Some(Ask::StoreEx(WORD, 7)), 7),
+    (Passage::Next, 0x1018, 1, Some(Ask::StoreEx(WORD, 7)), 7),
+    (Passage::Next, 0x101c, 7, Some(Ask::Load(HALF)), 7),
+    (Passage::Next, 0x1020, 7, Some(Ask::Load(HALF)), 7),
+    (Passage::Jumped, 0x1028, 7, Some(Ask::Load(HALF)), 7),
+    (Passage::AtStart, 0x1028, 7, Some(Ask::Load(HALF)), 7),
 ];
 
-/// Carries an instruction through.
-fn carried(cpu: &mut RvCpu, code: &mut Code<RvInstr>, memory: &mut OneWord) -> Result<State, Fail>
+/// Carries the next instruction through, which is met first, if there is one.
+fn carried(cpu: &mut RvCpu, code: &mut Code<RvKept>, memory: &mut OneWord) -> Result<State, Fail>
     requires { length code.old.program.bytes ≡ 65536 }
     ensures { code.new.program ≡ code.old.program }
 {
     if !cpu.is_between() {
         return Err("it is in an instruction")?;
     }
-    let passage = cpu.carry(code, memory);
+    let pc = cpu.pc();
+    let _met = code.meet(pc);
+    let mut kept = RvKept::unmet();
+    if let Some(known) = code.from(pc) {
+        if let Some(first) = known.first() {
+            kept = *first;
+        }
+    }
+    let passage = cpu.carry(&kept, code.image(), memory);
     Ok((passage, cpu.pc(), cpu.reg(12), memory.asked, memory.word))
 }
 
@@ -203,23 +215,35 @@ const CALL: CallAsk = CallAsk {
     c: 0,
 };
 
-/// A word, the access that was asked for, and what is wanted then: sw x11, 0(x10), ecall, lw x12, 1(x10), and no instruction.
-const HELD: &[(u32, Option<Ask>, Wanted)] = &[
+/// A word, how far it comes, the access that was asked for, and what is wanted then: sw x11, 0(x10), ecall, lw x12, 1(x10), and no
+/// instruction.
+const HELD: &[(u32, Passage, Option<Ask>, Wanted)] = &[
     (
         0x00b5_2023,
+        Passage::AtStart,
         Some(Ask::Store(WORD, 7)),
         Wanted::Access(Ask::Store(WORD, 7)),
     ),
-    (0x0000_0073, None, Wanted::Call(CALL)),
-    (0x0015_2603, None, Wanted::Stopped(Stop::Alignment(0x2001))),
-    (0x0010_0073, None, Wanted::Stopped(Stop::Undefined(0x1000))),
+    (0x0000_0073, Passage::AtStart, None, Wanted::Call(CALL)),
+    (
+        0x0015_2603,
+        Passage::AtStart,
+        None,
+        Wanted::Stopped(Stop::Alignment(0x2001)),
+    ),
+    (
+        0x0010_0073,
+        Passage::Unmet,
+        None,
+        Wanted::Stopped(Stop::Undefined(0x1000)),
+    ),
 ];
 
 #[test]
 fn instructions_are_held_at_their_start(rt: HostRuntime) -> Result<(), Fail> {
-    for (word, asked, wanted) in HELD {
+    for (word, passage, asked, wanted) in HELD {
         let (state, next) = held(rt.alloc(), *word)?;
-        assert_eq!(rt; state, (Passage::AtStart, 0x1000, 0, *asked, 5));
+        assert_eq!(rt; state, (*passage, 0x1000, 0, *asked, 5));
         assert_eq!(rt; next, *wanted);
     }
     Ok(())

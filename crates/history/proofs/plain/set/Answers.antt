@@ -1,20 +1,13 @@
--- The store is a put into the cell of the place.
-use Rattle.std.proofs.Common.{arith, sym}
-use Rattle.llsc_base.proofs.Cells.{cell_of-lt}
-use Rattle.row_bytes.proofs.Memories.{length-bytes_of_cells, stored-bytes_of_cells}
+-- One byte that is set is its value, which is below 256.
+use Rattle.std.proofs.Common.{◌≡◌, ◌+◌, ◌%◌, ◌^◌, ◌<◌, ◌≤◌, [], ◌∷◌, arith, length}
+use Rattle.std.proofs.lemmas.List.Edits.{sets-eq}
+use Rattle.llsc_base.proofs.Bytes.{bytes_of-1}
 use Rattle.history.proofs.plain.set.Goals as goal
 
-pub bounds-cells-at : goal.bounds-cells-at
-bounds-cells-at c =
-    let long = length-bytes_of_cells c.args.cells.now in
-    rw c.cell-at.ensures (cell_of-lt c.args.place _ (omega (arith, c.requires.inside)))
-
-pub bounds-cells-at-2 : goal.bounds-cells-at-2
-bounds-cells-at-2 c =
-    let long = length-bytes_of_cells c.args.cells.now in
-    rw c.cell-at.ensures (cell_of-lt c.args.place _ (omega (arith, c.requires.inside)))
-
-pub returns : goal.returns
-returns c =
-    rw (c.put.ensures, c.cell-at.ensures)
-    (sym (stored-bytes_of_cells c.args.cells.now c.args.place c.args.value c.requires.aligned c.requires.inside))
+pub returns-in-B1 : goal.returns-in-B1
+returns-in-B1 c =
+    let value = c.args.value in
+    let small : value < 256 ^ 1 = rw c.in-B1.is at c.requires.fits in
+    let inside : c.args.place.addr + 1 ≤ length c.args.bytes.now = rw c.in-B1.is at c.requires.inside in
+    let byte : value % 256 ≡ value = omega (arith, small) in
+    rw (c.in-B1.is, bytes_of-1 value, byte) (sets-eq (value ∷ []) c.args.bytes.now c.args.place.addr inside)

@@ -7,11 +7,11 @@ use Rattle.a32_step.specs.inner.ExecutionState.{moves}
 use Rattle.a32_step.proofs.RowDone.{data_done}
 use Rattle.a32_step.proofs.execution.Execution.data.Goals as goal
 
-pub returns-clause-progress : goal.returns-clause-progress
-returns-clause-progress c =
+pub returns-clause-full : goal.returns-clause-full
+returns-clause-full c =
     let all : Computed = computed c.args.op (x_in c.args.kept.now c.args.self.now.state) c.args.y c.args.self.now.state.flags in
     let is : c.value_of-value.result ≡ all.value = search rules in
-    c.put.ensures.progress ∙ ap progress_of (sym (data_done c.args.op c.args.kept.now.d all c.args.self.now.state c.value_of-value.result c.requires c.put.ensures.low is))
+    ap progress_of (data_done c.args.op c.args.kept.now.d all c.args.self.now.state c.value_of-value.result c.requires c.put.ensures.low is)
 
 pub returns-clause-state : goal.returns-clause-state
 returns-clause-state c =

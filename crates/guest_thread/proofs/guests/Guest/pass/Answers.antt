@@ -39,7 +39,7 @@ returns-in-Some-reply-clause-comes g c = λ point before come. (
   (c.in-Asks.ask, c.in-Some-reply.reply) ∷ [],
   (
     goes [] c.args.port.now c.reply.new.self c.in-Asks.ask c.in-Some-reply.reply stays
-        (subst (λ r. g.P.Port.replies c.args.port.now c.in-Asks.ask r c.reply.new.self) c.in-Some-reply.is c.reply.ensures.replied),
+        (subst (λ r. g.P.TryPort.replies c.args.port.now c.in-Asks.ask r c.reply.new.self) c.in-Some-reply.is c.reply.ensures.replied),
     c.give.ensures.on _ _ _ _ _ _ (subst (λ e. ComesToEvent g.C.Core.set c.args.starts c.args.code.now.program c.args.budget point before e (thread_in g.C.Core.machine c.one_turn.new.self)) (c.in-Turns.is ∙ ap event.Turns c.in-Asks.is)
         (comes_to g.C.Core.set c.args.starts c.args.budget c.in-Some.event (thread_in g.C.Core.machine c.args.self.now) (thread_in g.C.Core.machine c.one_turn.new.self) c.image-image.ensures c.in-Some.ensures.comes point before come)).1,
   ),
@@ -74,7 +74,7 @@ returns-in-Ended-clause-comes g c = λ point before come.
 pub returns-clause-comes : goal.returns-clause-comes
 returns-clause-comes g c = λ point before come. (
   refused [] c.args.port.now c.reply.new.self c.in-Asks.ask stays
-      (subst (λ r. g.P.Port.replies c.args.port.now c.in-Asks.ask r c.reply.new.self) c.in_default-reply.is c.reply.ensures.replied),
+      (subst (λ r. g.P.TryPort.replies c.args.port.now c.in-Asks.ask r c.reply.new.self) c.in_default-reply.is c.reply.ensures.replied),
   inr (
     c.in-Store.place.addr,
     (

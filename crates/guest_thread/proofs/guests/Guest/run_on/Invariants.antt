@@ -11,9 +11,9 @@ abbrev pub invariant-loop-rest : goal.invariant-loop-rest
 invariant-loop-rest g l = record {
   running : IsRunning (length l.fn.code.program.bytes) l.fn.budget (thread_in g.C.Core.machine l.self);
   program : l.code.program ≡ l.fn.code.program;
-  mem : g.P.Port.mem l.port ≡ length l.fn.code.program.bytes;
-  counted : g.P.Port.counted l.port ≤ headway_of (thread_in g.C.Core.machine l.self);
-  way : Ways g.C.Core.set g.P.Port.replies l.fn.starts l.fn.code.program l.fn.budget (thread_in g.C.Core.machine l.fn.self) l.fn.port (thread_in g.C.Core.machine l.self) l.port;
+  mem : g.P.TryPort.mem l.port ≡ length l.fn.code.program.bytes;
+  counted : g.P.TryPort.counted l.port ≤ headway_of (thread_in g.C.Core.machine l.self);
+  way : Ways g.C.Core.set g.P.TryPort.replies l.fn.starts l.fn.code.program l.fn.budget (thread_in g.C.Core.machine l.fn.self) l.fn.port (thread_in g.C.Core.machine l.self) l.port;
 }
 
 abbrev pub decreases-loop-rest : goal.decreases-loop-rest

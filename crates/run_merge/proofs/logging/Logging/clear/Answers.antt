@@ -7,7 +7,7 @@ use Rattle.guest_thread.specs.inner.Sharing.{IsServedSharing}
 use Rattle.run_merge.specs.inner.Logging.{IsLogged, LoggingState}
 use Rattle.run_merge.specs.Logs.{access_of}
 use Rattle.run_merge.proofs.Grown.{grown_by_plain, logged_on, made}
-use Rattle.run_merge.proofs.Served.{clear_served, part}
+use Rattle.guest_thread.proofs.Served.{clear_served, part}
 use Rattle.run_merge.proofs.logging.Logging.clear.Goals as goal
 
 pub returns-clause-served : goal.returns-clause-served

@@ -7,7 +7,7 @@ use Rattle.guest_thread.specs.inner.Sharing.{IsServedSharing}
 use Rattle.run_merge.specs.inner.Logging.{IsLogged, LoggingState}
 use Rattle.run_merge.specs.Logs.{access_of}
 use Rattle.run_merge.proofs.Grown.{grown_by_stamped, logged_on, made}
-use Rattle.run_merge.proofs.Served.{load_ex_served, one_read, part}
+use Rattle.guest_thread.proofs.Served.{load_ex_served, one_read, part}
 use Rattle.run_merge.proofs.logging.Logging.load_ex.Goals as goal
 
 pub returns-clause-served : goal.returns-clause-served

@@ -8,7 +8,7 @@ use Rattle.guest_thread.proofs.Shared.{is_spent}
 use Rattle.run_merge.specs.inner.Logging.{IsLogged, LoggingState}
 use Rattle.run_merge.specs.Logs.{access_of}
 use Rattle.run_merge.proofs.Grown.{grown_by_none, grown_by_stamped, logged_on, made}
-use Rattle.run_merge.proofs.Served.{none_served, one_write, part, store_served}
+use Rattle.guest_thread.proofs.Served.{none_served, one_write, part, store_served}
 use Rattle.run_merge.proofs.logging.Logging.store.Goals as goal
 
 pub returns-in_default-clause-unserved : goal.returns-in_default-clause-unserved

@@ -7,7 +7,7 @@ use Rattle.guest_thread.specs.inner.Sharing.{IsServedSharing}
 use Rattle.run_merge.specs.inner.Logging.{IsLogged, LoggingState}
 use Rattle.run_merge.specs.Logs.{access_of}
 use Rattle.run_merge.proofs.Grown.{grown_by_plain, grown_by_stamped, logged_on, made}
-use Rattle.run_merge.proofs.Served.{fail_served, one_fail, one_write, part, store_ex_served}
+use Rattle.guest_thread.proofs.Served.{fail_served, one_fail, one_write, part, store_ex_served}
 use Rattle.run_merge.proofs.logging.Logging.store_ex.Goals as goal
 
 pub returns-in_default-clause-legal : goal.returns-in_default-clause-legal

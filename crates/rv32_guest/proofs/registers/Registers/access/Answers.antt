@@ -4,7 +4,7 @@ use Rattle.rv32_guest.proofs.registers.Registers.access.Goals as goal
 pub returns-in_default-clause-makes_none : goal.returns-in_default-clause-makes_none
 returns-in_default-clause-makes_none c =
     let none = c.in_default in
-    others_ask_nothing c.args.instr (record {
+    others_ask_nothing c.args.instr.now (record {
       not_lb = none.not-Lb;
       not_lh = none.not-Lh;
       not_lw = none.not-Lw;
